@@ -1,0 +1,59 @@
+-- Laws of little-endian numbers: a number's bytes are read back as the number, the bytes of a number that was read
+-- are the bytes that were read, and a number does not see the bytes before its place.
+-- Assumes nothing.
+use mathlib.Core.Path.{_≡_, refl, ap}
+use mathlib.Core.List.{List, _∷_, _++_}
+use Prim.Native.Nat.{ℕ, zero, suc, _+_, _*_, _^_, _/_, _%_, _<_, _≤_}
+use native.Mathlib.Nat.{pow-suc}
+use native.Mathlib.Numerals.{add-one}
+use native.Mathlib.Omega.{arith}
+use lib.ListN.{length, getD, take, drop}
+use lib.Seq.{drop-cons, getD-drop, drop-append-seam}
+use Rattle.model.specs.Bytes.{IsBytes, numberAt, bytesOf}
+
+pub length-bytesOf : (width n : ℕ) → length (bytesOf width n) ≡ width
+unfolding bytesOf
+length-bytesOf zero n = refl
+length-bytesOf (suc width) n = ap suc (length-bytesOf width (n / 256))
+
+pub numberAt-small : (width : ℕ) (bytes : List ℕ) (place : ℕ) → IsBytes bytes → numberAt width bytes place < 256 ^ width
+unfolding numberAt
+numberAt-small zero bytes place h = omega arith
+numberAt-small (suc width) bytes place h =
+    omega (arith, h place, numberAt-small width bytes (place + 1) h, pow-suc 256 width)
+
+-- a place p + o is the place o of what is left when p bytes are dropped
+pub numberAt-drop : (width : ℕ) (bytes : List ℕ) (p o : ℕ) → numberAt width bytes (p + o) ≡ numberAt width (drop p bytes) o
+unfolding numberAt
+numberAt-drop zero bytes p o = refl
+numberAt-drop (suc width) bytes p o =
+    let next : p + o + 1 ≡ p + (o + 1) = omega arith in
+    rw (getD-drop, next, numberAt-drop width bytes p (o + 1))
+
+pub numberAt-append : (width : ℕ) (before rest : List ℕ) (o : ℕ)
+    → numberAt width (before ++ rest) (length before + o) ≡ numberAt width rest o
+numberAt-append width before rest o = rw (numberAt-drop, drop-append-seam)
+
+pub numberAt-bytesOf : (width n : ℕ) (rest : List ℕ) → n < 256 ^ width → numberAt width (bytesOf width n ++ rest) 0 ≡ n
+unfolding numberAt bytesOf
+numberAt-bytesOf zero n rest h = omega arith
+numberAt-bytesOf (suc width) n rest h =
+    let below : n / 256 < 256 ^ width = omega (arith, pow-suc 256 width) in
+    rw (numberAt-drop width (n % 256 ∷ (bytesOf width (n / 256) ++ rest)) 1 0, numberAt-bytesOf width (n / 256) rest below) (omega arith)
+
+pub bytesOf-numberAt : (width : ℕ) (bytes : List ℕ) (place : ℕ) → IsBytes bytes → place + width ≤ length bytes
+    → bytesOf width (numberAt width bytes place) ≡ take width (drop place bytes)
+unfolding numberAt bytesOf
+bytesOf-numberAt zero bytes place h inside = refl
+bytesOf-numberAt (suc width) bytes place h inside =
+    let small = h place in
+    let low : (getD bytes place 0 + 256 * numberAt width bytes (place + 1)) % 256 ≡ getD bytes place 0 = omega arith in
+    let high : (getD bytes place 0 + 256 * numberAt width bytes (place + 1)) / 256 ≡ numberAt width bytes (place + 1) = omega arith in
+    rw (low, high, drop-cons bytes place 0 (omega arith), bytesOf-numberAt width bytes (place + 1) h (omega arith), add-one)
+
+-- a number is read where its bytes stand
+pub numberAt-found : (width n : ℕ) (bytes more : List ℕ) (place : ℕ) → drop place bytes ≡ bytesOf width n ++ more → n < 256 ^ width
+    → numberAt width bytes place ≡ n
+numberAt-found width n bytes more place e small =
+    let start : place ≡ place + 0 = omega arith in
+    rw (start, numberAt-drop, e, numberAt-bytesOf)

@@ -1,0 +1,80 @@
+-- Laws of the refusals: what is refused, and what an answer says of the refusals before it.
+-- Assumes nothing.
+use mathlib.Core.Path.{_≡_, refl, sym, _∙_, ap, subst}
+use mathlib.Core.Bool.{Bool, true, false}
+use Prim.Native.Nat.{ℕ, zero, suc, _+_, _<_, _≤_}
+use native.Mathlib.Numerals.{add-one}
+use native.Mathlib.Nat.{add-zero, zero-add, add-suc, suc-add}
+use native.Mathlib.Omega.{arith}
+use Rattle.model.specs.Outcome.{Outcome, refused, answer, refuseWhen, refuseAt, byEntryFrom, byEntry}
+
+pub refuseAt-bad : {A : Type 0} (number place : ℕ) (next : Outcome A) → 0 < number → refuseAt number place next ≡ refused number place
+refuseAt-bad zero place next bad = absurd (omega arith)
+refuseAt-bad (suc n) place next bad = refl
+
+-- a refusal and an answer are never equal
+pub refused≢answer : {A : Type 0} {number place : ℕ} {a : A} → refused number place ≡ answer a → ⊥
+refused≢answer e = let z : _≡_ {A = ℕ} 0 1 = cc e in omega arith
+
+pub answer-injective : {A : Type 0} {a b : A} → answer a ≡ answer b → a ≡ b
+answer-injective e = cc e
+
+-- an answer says that the condition before it was false
+pub answered-past : {A : Type 0} {a : A} (condition : Bool) (number : ℕ) (next : Outcome A) → refuseWhen condition number next ≡ answer a
+    → (condition ≡ false) × (next ≡ answer a)
+answered-past true number next e = absurd (refused≢answer e)
+answered-past false number next e = (refl, e)
+
+refuseAt-answered : {A : Type 0} {a : A} (number place : ℕ) (next : Outcome A) → refuseAt number place next ≡ answer a
+    → (number ≡ 0) × (next ≡ answer a)
+refuseAt-answered zero place next e = (refl, e)
+refuseAt-answered (suc n) place next e = absurd (refused≢answer e)
+
+module _ {A : Type 0} (fault : ℕ → ℕ) (next : Outcome A) where
+  passes-from : (first count : ℕ) → ((i : ℕ) → first ≤ i → i < first + count → fault i ≡ 0) → byEntryFrom first count fault next ≡ next
+  unfolding byEntryFrom
+  passes-from first zero sound = refl
+  passes-from first (suc count) sound =
+      rw (sound first (omega arith) (omega arith))
+      (passes-from (suc first) count (λ i low high. sound i (omega arith) (omega arith)))
+
+  -- with no fault at any entry, what comes next decides
+  pub byEntry-passes : (count : ℕ) → ((i : ℕ) → i < count → fault i ≡ 0) → byEntry count fault next ≡ next
+  byEntry-passes count sound = passes-from 0 count (λ i low high. sound i (omega arith))
+
+  stops-from : (first count d : ℕ) → ((i : ℕ) → first ≤ i → i < first + d → fault i ≡ 0) → d < count → 0 < fault (first + d)
+      → byEntryFrom first count fault next ≡ refused (fault (first + d)) (first + d)
+  unfolding byEntryFrom
+  stops-from first zero d sound below bad = absurd (omega arith)
+  stops-from first (suc count) zero sound below bad =
+      rw add-zero (refuseAt-bad (fault first) first (byEntryFrom (suc first) count fault next) (rw add-zero at bad))
+  stops-from first (suc count) (suc d) sound below bad =
+      let e : suc first + d ≡ first + suc d = omega arith in
+      rw (sound first (omega arith) (omega arith), ← e)
+      (stops-from (suc first) count d (λ i low high. sound i (omega arith) (omega arith)) (omega arith) (rw (← e) at bad))
+
+  -- the first entry with a fault refuses
+  pub byEntry-stops : (count i : ℕ) → ((k : ℕ) → k < i → fault k ≡ 0) → i < count → 0 < fault i → byEntry count fault next ≡ refused (fault i) i
+  byEntry-stops count i sound below bad =
+      rw zero-add at (stops-from 0 count i (λ k low high. sound k (omega arith)) below (rw zero-add bad))
+
+  sound-from : {a : A} (first count : ℕ) → byEntryFrom first count fault next ≡ answer a
+      → ((d : ℕ) → d < count → fault (first + d) ≡ 0) × (next ≡ answer a)
+  unfolding byEntryFrom
+  sound-from first zero e = ((λ d h. absurd (omega arith)), e)
+  sound-from first (suc count) e =
+      let here = refuseAt-answered (fault first) first (byEntryFrom (suc first) count fault next) e in
+      let later = sound-from (suc first) count (here .1) in
+      (each here.0 (later .0), later .1)
+    where
+      each : fault first ≡ 0 → ((d : ℕ) → d < count → fault (suc first + d) ≡ 0) → (d : ℕ) → d < suc count → fault (first + d) ≡ 0
+      each now later zero below = rw add-zero now
+      each now later (suc d) below =
+          let e : first + suc d ≡ suc first + d = omega arith in
+          rw e (later d (omega arith))
+
+  -- an answer says that no entry has a fault
+  pub byEntry-answered : {a : A} (count : ℕ) → byEntry count fault next ≡ answer a → ((i : ℕ) → i < count → fault i ≡ 0) × (next ≡ answer a)
+  byEntry-answered count e =
+      let all = sound-from 0 count e in
+      ((λ i below. rw zero-add at (all .0 i below)), all .1)

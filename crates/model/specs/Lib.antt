@@ -1,0 +1,26 @@
+-- The definitions that a reader must believe, in the order in which they build on each other.
+pub mod Limits
+pub mod Outcome
+pub mod Bytes
+pub mod Entries
+pub mod Levels
+pub mod Jobs
+pub mod BuiltIn
+pub mod Sum
+pub mod Search
+pub mod Points
+pub mod Bands
+pub mod Setting
+pub mod Intervals
+pub mod Windows
+pub mod Plans
+pub mod Energy
+pub mod Prices
+pub mod Schedules
+pub mod CarriedOut
+pub mod LeastEnergy
+pub mod Steps
+pub mod PriceBytes
+pub mod Checking
+pub mod Accepted
+pub mod SiteLines

@@ -1,0 +1,22 @@
+-- The limits of document 01: 0 to 64 jobs, 1 to 8 levels, deadlines up to 1,000,000, cycles 1 to 1,000,000,000,
+-- frequencies 1 to 1,000 and voltages 1 to 500. Each is the largest number allowed.
+-- The code has the same names in src/lib.rt.
+use Prim.Native.Nat.{ℕ}
+
+abbrev pub maxLevels : ℕ
+maxLevels = 8
+
+abbrev pub maxFrequency : ℕ
+maxFrequency = 1_000
+
+abbrev pub maxVoltage : ℕ
+maxVoltage = 500
+
+abbrev pub maxJobs : ℕ
+maxJobs = 64
+
+abbrev pub maxDeadline : ℕ
+maxDeadline = 1_000_000
+
+abbrev pub maxCycles : ℕ
+maxCycles = 1_000_000_000

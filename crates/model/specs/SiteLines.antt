@@ -1,0 +1,121 @@
+-- The lines of document 01's "Sites to try" that are marked P, as one table. That every line holds is one statement,
+-- proved in proofs/SiteLines.antt by computing the definitions. Lines on checking and planning join with these operations.
+use Prim.Native.Nat.{ℕ, suc, _*_}
+use mathlib.Core.Bool.{Bool, true, false, _&&_}
+use mathlib.Core.List.{List, [], _∷_, map}
+use mathlib.Core.Option.{Option, none, some}
+use lib.IntN.{ℤ, pos, negsuc}
+use lib.Dec.{eqb}
+use Rattle.model.specs.declared.Level.{Level}
+use Rattle.model.specs.declared.Job.{Job}
+use Rattle.model.specs.Outcome.{Outcome, refused, answer}
+use Rattle.model.specs.Levels.{encodeLevels}
+use Rattle.model.specs.Jobs.{encodeJobs}
+use Rattle.model.specs.BuiltIn.{level}
+use Rattle.model.specs.Points.{Point, topFrequency}
+use Rattle.model.specs.Setting.{Setting, setting, workingOf}
+use Rattle.model.specs.Intervals.{boundsOf, intervalCount}
+use Rattle.model.specs.Windows.{Window, spare, earliestOverfull}
+use Rattle.model.specs.Energy.{exactEnergy, energyFigure}
+
+abbrev pub job : (release deadline cycles : ℕ) → Job
+job release deadline cycles = record { release = release; deadline = deadline; cycles = cycles }
+
+-- Level pair T: 2 at 10, 4 at 20.
+abbrev pub T : List Level
+T = level 2 10 ∷ level 4 20 ∷ []
+
+-- What a line says of some tables.
+pub data SiteLine : Type 0 where
+  -- the setting of an interval answers band, extra and gap, or is refused
+  sets : List Level → (length load : ℕ) → (band extra gap : ℕ) → SiteLine
+  refusesSetting : List Level → (length load : ℕ) → (number : ℕ) → SiteLine
+  -- the spare of a window
+  spares : List Level → List Job → (start end : ℕ) → ℤ → SiteLine
+  -- these frequencies work, and no others
+  works : List Level → (frequencies : List ℕ) → SiteLine
+  -- the earliest overfull window, or that the jobs fit
+  overfull : List Level → List Job → (start end : ℕ) → SiteLine
+  fits : List Level → List Job → SiteLine
+  -- the number of intervals, and the energy without any share, exact and reported
+  intervals : List Job → (count : ℕ) → SiteLine
+  idleEnergy : List Level → List Job → (energy : ℕ) → SiteLine
+
+unfoldable pub pLines : List SiteLine
+pLines =
+    -- T, length 3, load 7: band 2, extra 1, gap 2
+    sets T 3 7 2 1 2
+    -- T, load 12 in 3: band 2, extra 6; load 13: refusal 26; load 0: zeros
+    ∷ sets T 3 12 2 6 2
+    ∷ refusesSetting T 3 13 26
+    ∷ sets T 3 0 0 0 0
+    -- T, one job 0 1 with 4 cycles: spare 0; 5 cycles: spare −1, overfull
+    ∷ spares T (job 0 1 4 ∷ []) 0 1 (pos 0)
+    ∷ spares T (job 0 1 5 ∷ []) 0 1 (negsuc 0)
+    ∷ overfull T (job 0 1 5 ∷ []) 0 1
+    -- levels 100 10 and 200 10: only 200 works
+    ∷ works (level 100 10 ∷ level 200 10 ∷ []) (200 ∷ [])
+    -- 100 10, 110 20, 300 21: the middle one is dropped
+    ∷ works (level 100 10 ∷ level 110 20 ∷ level 300 21 ∷ []) (100 ∷ 300 ∷ [])
+    -- no jobs: N = 0, energy 0
+    ∷ intervals [] 0
+    ∷ idleEnergy T [] 0
+    -- T, two equal jobs 0 2 of 4 cycles fit; three have spare −4
+    ∷ fits T (job 0 2 4 ∷ job 0 2 4 ∷ [])
+    ∷ spares T (job 0 2 4 ∷ job 0 2 4 ∷ job 0 2 4 ∷ []) 0 2 (negsuc 3)
+    ∷ []
+
+sameSetting : Outcome Setting → (band extra gap : ℕ) → Bool
+sameSetting (refused number place) band extra gap = false
+sameSetting (answer setting) band extra gap = eqb (setting .band) band && eqb (setting .extra) extra && eqb (setting .gap) gap
+
+sameRefusal : {A : Type 0} → Outcome A → (number : ℕ) → Bool
+sameRefusal (refused number place) wanted = eqb number wanted && eqb place 0
+sameRefusal (answer a) wanted = false
+
+sameInteger : ℤ → ℤ → Bool
+sameInteger (pos m) (pos n) = eqb m n
+sameInteger (pos m) (negsuc n) = false
+sameInteger (negsuc m) (pos n) = false
+sameInteger (negsuc m) (negsuc n) = eqb m n
+
+sameSpare : Outcome ℤ → ℤ → Bool
+sameSpare (refused number place) z = false
+sameSpare (answer found) z = sameInteger found z
+
+sameNumbers : List ℕ → List ℕ → Bool
+sameNumbers [] [] = true
+sameNumbers [] (n ∷ ns) = false
+sameNumbers (m ∷ ms) [] = false
+sameNumbers (m ∷ ms) (n ∷ ns) = eqb m n && sameNumbers ms ns
+
+-- the working points are idling and these
+sameWorking : List Point → List ℕ → Bool
+sameWorking ws frequencies = sameNumbers (map (λ point. point .frequency) ws) (0 ∷ frequencies)
+
+sameWindow : Option Window → (start end : ℕ) → Bool
+sameWindow none start end = false
+sameWindow (some window) start end = eqb (window .start) start && eqb (window .end) end
+
+isNone : Option Window → Bool
+isNone none = true
+isNone (some window) = false
+
+-- The line holds, as the definitions compute.
+unfoldable pub holds : SiteLine → Bool
+unfolding sameSetting sameRefusal sameInteger sameSpare sameNumbers sameWorking sameWindow isNone
+holds (sets levels length load band extra gap) = sameSetting (setting (encodeLevels levels) length load) band extra gap
+holds (refusesSetting levels length load number) = sameRefusal (setting (encodeLevels levels) length load) number
+holds (spares levels jobs start end z) = sameSpare (spare (encodeLevels levels) (encodeJobs jobs) start end) z
+holds (works levels frequencies) = sameWorking (workingOf levels) frequencies
+holds (overfull levels jobs start end) = sameWindow (earliestOverfull (topFrequency levels) jobs) start end
+holds (fits levels jobs) = isNone (earliestOverfull (topFrequency levels) jobs)
+holds (intervals jobs count) = eqb (intervalCount (boundsOf jobs)) count
+holds (idleEnergy levels jobs energy) =
+    eqb (exactEnergy (workingOf levels) jobs (boundsOf jobs) (λ i j. 0)) energy
+    && eqb (energyFigure (workingOf levels) jobs (boundsOf jobs) (λ i j. 0)) energy
+
+-- All lines hold.
+unfoldable pub allHold : List SiteLine → Bool
+allHold [] = true
+allHold (line ∷ lines) = holds line && allHold lines

@@ -1,0 +1,27 @@
+// The vocabulary of the code: a level, a job, and the limits of document 01 by name.
+// What the words mean is defined in specs/, and the laws on the definitions are proved in proofs/.
+
+// A frequency level of the processor: cycles per tick, and hundredths of a volt.
+pub struct Level {
+    pub frequency: u64,
+    pub voltage: u64,
+}
+
+// A job may run from its release up to, not including, its deadline, for its number of cycles.
+pub struct Job {
+    pub release: u64,
+    pub deadline: u64,
+    pub cycles: u64,
+}
+
+pub const MAX_LEVELS: usize = 8;
+
+pub const MAX_FREQUENCY: u64 = 1_000;
+
+pub const MAX_VOLTAGE: u64 = 500;
+
+pub const MAX_JOBS: usize = 64;
+
+pub const MAX_DEADLINE: u64 = 1_000_000;
+
+pub const MAX_CYCLES: u64 = 1_000_000_000;

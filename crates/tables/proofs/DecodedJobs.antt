@@ -1,0 +1,97 @@
+-- Reading jobs, one law for each way out: the refusals without a place; the refusal at an entry; and the answer, where
+-- the arrays that reading fills hold the entries of the bytes.
+-- Assumes nothing.
+use mathlib.Core.Path.{_≡_, refl, sym, _∙_}
+use mathlib.Core.List.{List}
+use Prim.Native.Nat.{ℕ, _+_, _*_, _<_, _≤_}
+use native.Mathlib.Omega.{arith}
+use lib.ListN.{length}
+use borrow.Author.Tests.{lt-ltb, le-ltb, eq-eqb, ne-eqb}
+use Rattle.model.specs.declared.Job.{Job}
+use Rattle.model.specs.Limits.{maxJobs}
+use Rattle.model.specs.Bytes.{number32}
+use Rattle.model.specs.Outcome.{Outcome, refused, answer, byEntry}
+use Rattle.model.specs.Jobs.{noJob, jobCount, jobAt, jobEntries, jobFault, readJobs}
+use Rattle.model.proofs.Entries.{listOf-cong}
+use Rattle.tables.specs.declared.Reading.{Reading}
+use Rattle.tables.specs.declared.Reading.the-variants.{Entries, Refused}
+use Rattle.tables.specs.Column.{columnOf}
+use Rattle.tables.specs.Tables.{jobsIn, jobTable, readingOf, checkedJobs}
+use Rattle.tables.proofs.Column.{column-at, column-of-entries}
+use Rattle.tables.proofs.ByEntry.{reading-refused, reading-answered}
+
+module _ (bytes : List ℕ) where
+  abbrev releaseColumn : List ℕ
+  releaseColumn = columnOf maxJobs (jobCount bytes) (λ j. number32 bytes (2 + 8 * j))
+
+  -- the deadline stands four bytes after the release
+  abbrev deadlineColumn : List ℕ
+  deadlineColumn = columnOf maxJobs (jobCount bytes) (λ j. number32 bytes (6 + 8 * j))
+
+  abbrev cyclesColumn : List ℕ
+  cyclesColumn = columnOf maxJobs (jobCount bytes) (λ j. number32 bytes (2 + 8 * jobCount bytes + 4 * j))
+
+  -- the outcome of going through the entries
+  abbrev pub checked : Outcome (List Job)
+  checked = byEntry (jobCount bytes) (jobFault (jobEntries bytes)) (answer (jobEntries bytes))
+
+  deadline-at : (j : ℕ) → number32 bytes (6 + 8 * j) ≡ number32 bytes (2 + 8 * j + 4)
+  deadline-at j = let place : 6 + 8 * j ≡ 2 + 8 * j + 4 = omega arith in rw place
+
+  -- the jobs in the arrays are the entries of the bytes
+  jobs-decoded : jobCount bytes ≤ maxJobs → jobsIn (jobCount bytes) releaseColumn deadlineColumn cyclesColumn ≡ jobEntries bytes
+  unfolding jobsIn jobAt
+  jobs-decoded few =
+      listOf-cong (jobCount bytes) _ _
+      (λ j below. let inside : j < maxJobs = omega arith in rw (column-at, column-at, column-at, deadline-at))
+
+  -- where the entries are answered, the arrays stand beside the answer as they were filled
+  jobs-answered : (n : ℕ) → readingOf checked ≡ Entries n
+      → record { reading = Entries n; releases = releaseColumn; deadlines = deadlineColumn; cycles = cyclesColumn } ≡ jobTable checked
+  unfolding jobAt
+  jobs-answered n e =
+      let whole : checked ≡ answer (jobEntries bytes) = reading-answered _ _ _ n e in
+      rw (
+        ← e,
+        whole,
+        column-of-entries maxJobs (jobCount bytes) (jobAt bytes) noJob (λ job. job .release) _ (λ j. refl),
+        column-of-entries maxJobs (jobCount bytes) (jobAt bytes) noJob (λ job. job .deadline) _ deadline-at,
+        column-of-entries maxJobs (jobCount bytes) (jobAt bytes) noJob (λ job. job .cycles) _ (λ j. refl),
+      )
+
+  -- the ways out before the entries, and past them
+  pub jobs-short : length bytes < 2 → refused 6 0 ≡ readJobs bytes
+  unfolding readJobs
+  jobs-short short = rw (lt-ltb _ _ short)
+
+  module _ (long : 2 ≤ length bytes) where
+    pub jobs-many : maxJobs < jobCount bytes → refused 7 0 ≡ readJobs bytes
+    unfolding readJobs
+    jobs-many many = rw (le-ltb _ _ long, lt-ltb _ _ many)
+
+    module _ (few : jobCount bytes ≤ maxJobs) where
+      pub jobs-cut : (length bytes ≡ 2 + 12 * jobCount bytes → ⊥) → refused 8 0 ≡ readJobs bytes
+      unfolding readJobs
+      jobs-cut cut = rw (le-ltb _ _ long, le-ltb _ _ few, ne-eqb _ _ cut)
+
+      pub jobs-whole : length bytes ≡ 2 + 12 * jobCount bytes → checked ≡ readJobs bytes
+      unfolding readJobs
+      jobs-whole whole = rw (le-ltb _ _ long, le-ltb _ _ few, eq-eqb _ _ whole)
+
+  -- what was filled and found, as the code has it
+  module _ (count : ℕ) (releases deadlines cycles : List ℕ) (reading : Reading)
+      (counted : count ≡ jobCount bytes)
+      (few : count ≤ maxJobs)
+      (first : releases ≡ columnOf maxJobs count (λ j. number32 bytes (2 + 8 * j)))
+      (second : deadlines ≡ columnOf maxJobs count (λ j. number32 bytes (6 + 8 * j)))
+      (third : cycles ≡ columnOf maxJobs count (λ j. number32 bytes (2 + 8 * count + 4 * j)))
+      (found : reading ≡ readingOf (checkedJobs count releases deadlines cycles)) where
+    found-checked : reading ≡ readingOf checked
+    found-checked = found ∙ rw (first, second, third, counted, jobs-decoded (rw counted at few))
+
+    pub jobs-refused : (number place : ℕ) → reading ≡ Refused number place → refused number place ≡ checked
+    jobs-refused number place e = sym (reading-refused checked number place (sym found-checked ∙ e))
+
+    pub jobs-filled : (n : ℕ) → reading ≡ Entries n
+        → record { reading = reading; releases = releases; deadlines = deadlines; cycles = cycles } ≡ jobTable checked
+    jobs-filled n e = rw (e, first, second, third, counted) (jobs-answered n (sym found-checked ∙ e))

@@ -1,0 +1,19 @@
+// Reading level tables and job tables from bytes, and the built-in level tables.
+// Entries are decoded once, into plain arrays of numbers, and worked on in that form.
+mod built_in;
+mod jobs;
+mod levels;
+mod numbers;
+
+pub use built_in::first_built_in;
+pub use built_in::second_built_in;
+pub use jobs::JobTable;
+pub use jobs::read_jobs;
+pub use levels::LevelTable;
+pub use levels::read_levels;
+
+// What reading a table answers: how many entries it has, or the refusal's number and place.
+pub enum Reading {
+    Entries(usize),
+    Refused { number: u32, place: u32 },
+}
