@@ -1,23 +1,18 @@
 -- T7: the reported figure of a plan's energy is at most the exact energy and less than the number of bands below it.
 -- Assumes nothing.
-use mathlib.Core.Path.{_≡_, refl, sym, ap}
-use mathlib.Core.Bool.{true, false, cond}
-use mathlib.Core.Logic.{_⊎_, inl, inr}
+use mathlib.Core.Path.{_≡_, ap}
 use mathlib.Core.List.{List}
-use Prim.Native.Nat.{ℕ, zero, suc, _+_, _*_, _/_, _<_, _≤_}
-use native.Mathlib.Nat.{eq-or-lt-of-le, le-of-suc-le-suc, div-mul-le-self, lt-div-mul-add}
+use Prim.Native.Nat.{ℕ, _+_, _*_, _/_, _<_, _≤_}
+use native.Mathlib.Nat.{div-mul-le-self, lt-div-mul-add}
 use native.Mathlib.Nat.{mul-le-mul-left, mul-lt-mul-of-pos-left, le-of-mul-le-mul-right, lt-of-mul-lt-mul-right}
 use native.Mathlib.Omega.{arith}
-use lib.Dec.{eqb}
-use borrow.Author.Tests.{eq-eqb, ne-eqb}
 use Rattle.model.specs.declared.Job.{Job}
-use Rattle.model.specs.Sum.{sum, product}
+use Rattle.model.specs.Sum.{sum}
 use Rattle.model.specs.Points.{Point}
 use Rattle.model.specs.Bands.{bandCount, powerAt, gap, rise, scale, price, Curve}
 use Rattle.model.specs.Intervals.{intervalCount, lengthOf}
 use Rattle.model.specs.Plans.{Shares, load}
 use Rattle.model.specs.Energy.{bandCycles, intervalEnergy, exactEnergy, bandTotal, energyFigure}
-use Rattle.model.specs.LeastEnergy.{FigureBelowExact}
 use Rattle.model.proofs.Sum.{sum-cong, sum-mono, sum-strict, sum-add, sum-mul-left, sum-mul-right, sum-const, sum-swap}
 use Rattle.model.proofs.Bands.{price-gap, gap-positive, scale-positive}
 
@@ -51,9 +46,11 @@ exact-by-bands ws jobs bounds shares =
     let scaled : sum n idling ≡ sum n (λ i. scale ws * drawn i) = sum-cong n (λ i h. omega arith) in
     omega (arith, sum-add n (λ i. sum m (cost i)) idling, sum-swap n m cost, sum-mul-left n (scale ws) drawn)
 
-pub figure-below-exact : FigureBelowExact
+pub figure-near-exact : {ws : List Point} → Curve ws → (jobs : List Job) (bounds : List ℕ) (shares : Shares)
+    → (scale ws * energyFigure ws jobs bounds shares ≤ exactEnergy ws jobs bounds shares)
+    × (exactEnergy ws jobs bounds shares < scale ws * (energyFigure ws jobs bounds shares + bandCount ws))
 unfolding energyFigure
-figure-below-exact ws curve jobs bounds shares =
+figure-near-exact {ws} curve jobs bounds shares =
     let m : ℕ = bandCount ws in
     let s : ℕ = scale ws in
     let total : ℕ → ℕ = bandTotal ws jobs bounds shares in

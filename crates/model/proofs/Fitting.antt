@@ -7,7 +7,6 @@ use mathlib.Core.Logic.{_⊎_, inl, inr}
 use mathlib.Core.List.{List}
 use Prim.Native.Nat.{ℕ, zero, suc, _-_, _*_, _<_, _≤_}
 use native.Mathlib.Nat.{eq-or-lt-of-le, mul-sub, mul-le-mul-left, mul-lt-mul-of-pos-left}
-use native.Mathlib.Decide.{le-ind}
 use native.Mathlib.Omega.{arith}
 use lib.Dec.{ltb, leb, eqb}
 use borrow.Author.Tests.{lt-ltb, leb-true, le-leb, lt-leb, leb-false, eqb-true, eq-eqb}
@@ -15,7 +14,6 @@ use Rattle.model.specs.Points.{Point}
 use Rattle.model.specs.Bands.{bandCount, frequencyOf, gap, Curve}
 use Rattle.model.specs.Setting.{bandOf, settingOf}
 use Rattle.model.specs.Prices.{isBandNumber, fitsLoad}
-use Rattle.model.specs.LeastEnergy.{FittingIsBetween}
 use Rattle.model.proofs.Numbers.{lt-or-le, both-true, either-true}
 use Rattle.model.proofs.Bands.{curve-frequencies-never-fall}
 use Rattle.model.proofs.Search.{firstBelow-is, FirstBelow, firstBelow-law}
@@ -25,6 +23,12 @@ pub record InBand (ws : List Point) (length load k : ℕ) : Type 0 where
   pub band : k < bandCount ws
   pub above : length * frequencyOf ws k < load
   pub upto : load ≤ length * frequencyOf ws (suc k)
+
+-- the load lies between the ends of band k
+pub record Between (ws : List Point) (length load k : ℕ) : Type 0 where
+  pub band : k < bandCount ws
+  pub low : length * frequencyOf ws k ≤ load
+  pub high : load ≤ length * frequencyOf ws (suc k)
 
 module _ {ws : List Point} (curve : Curve ws) where
   pub bandOf-law : (length load : ℕ) → 0 < load → load ≤ length * frequencyOf ws (bandCount ws) → InBand ws length load (bandOf ws length load)
@@ -75,13 +79,13 @@ module _ {ws : List Point} (curve : Curve ws) where
       let k : ℕ = bandOf ws length (suc cycles) in
       omega (arith, inside .upto, mul-sub length (frequencyOf ws (suc k)) (frequencyOf ws k))
 
-  fits-between : (length load : ℕ) → load ≤ length * frequencyOf ws (bandCount ws) → (k : ℕ) → k < bandCount ws
+  fits-ends : (length load : ℕ) → load ≤ length * frequencyOf ws (bandCount ws) → (k : ℕ) → k < bandCount ws
       → fitsLoad ws length load (suc k) ≡ true → (length * frequencyOf ws k ≤ load) × (load ≤ length * frequencyOf ws (suc k))
   unfolding fitsLoad
-  fits-between length zero fits k below e =
+  fits-ends length zero fits k below e =
       let first : k ≡ 0 = omega (arith, eqb-true (suc k) 1 e) in
       (rw (first, curve .start) (omega arith), omega arith)
-  fits-between length (suc cycles) fits k below e = go (either-true _ _ e)
+  fits-ends length (suc cycles) fits k below e = go (either-true _ _ e)
     where
       own : ℕ
       own = bandOf ws length (suc cycles)
@@ -117,13 +121,13 @@ module _ {ws : List Point} (curve : Curve ws) where
       let next = lt-ltb (suc k) (bandCount ws) more in
       rw (bandOf-is length (suc cycles) k inside, full, next, eq-eqb (suc (suc k)) (suc (suc k)) refl, or-true)
 
-  between-fits : (length load : ℕ) → 1 ≤ length → (k : ℕ) → k < bandCount ws → length * frequencyOf ws k ≤ load
+  ends-fit : (length load : ℕ) → 1 ≤ length → (k : ℕ) → k < bandCount ws → length * frequencyOf ws k ≤ load
       → load ≤ length * frequencyOf ws (suc k) → fitsLoad ws length load (suc k) ≡ true
   unfolding fitsLoad
-  between-fits length zero some zero below low high = refl
-  between-fits length (suc cycles) some zero below low high =
+  ends-fit length zero some zero below low high = refl
+  ends-fit length (suc cycles) some zero below low high =
       own-fits length (suc cycles) 0 (record { band = below; above = rw (curve .start) (omega arith); upto = high })
-  between-fits length load some (suc k) below low high = go (eq-or-lt-of-le low)
+  ends-fit length load some (suc k) below low high = go (eq-or-lt-of-le low)
     where
       go : (length * frequencyOf ws (suc k) ≡ load) ⊎ (length * frequencyOf ws (suc k) < load) → fitsLoad ws length load (suc (suc k)) ≡ true
       go (inl end) =
@@ -136,15 +140,19 @@ module _ {ws : List Point} (curve : Curve ws) where
           below (sym end)
       go (inr more) = own-fits length load (suc k) (record { band = below; above = more; upto = high })
 
-pub fitting-is-between : FittingIsBetween
-fitting-is-between ws curve length load some fits k = (
-  λ e.
+  -- rule 23, one way
+  pub fits-between : (length load : ℕ) → load ≤ length * frequencyOf ws (bandCount ws) → (k : ℕ)
+      → (isBandNumber ws (suc k) && fitsLoad ws length load (suc k)) ≡ true → Between ws length load k
+  fits-between length load fits k e =
       let tests = both-true (isBandNumber ws (suc k)) (fitsLoad ws length load (suc k)) e in
       let numbers = both-true (leb 1 (suc k)) (leb (suc k) (bandCount ws)) (tests .0) in
       let below : k < bandCount ws = leb-true (suc k) (bandCount ws) (numbers .1) in
-      let ends = fits-between curve length load fits k below (tests .1) in
-      (below, ends .0, ends .1),
-  λ between.
-      rw (le-leb 1 (suc k) (omega arith), le-leb (suc k) (bandCount ws) (between .0))
-      (between-fits curve length load some k (between .0) (between .1) (between .2)),
-)
+      let ends = fits-ends length load fits k below (tests .1) in
+      record { band = below; low = ends .0; high = ends .1 }
+
+  -- and the other
+  pub between-fits : (length load : ℕ) → 1 ≤ length → (k : ℕ) → Between ws length load k
+      → (isBandNumber ws (suc k) && fitsLoad ws length load (suc k)) ≡ true
+  between-fits length load some k between =
+      rw (le-leb 1 (suc k) (omega arith), le-leb (suc k) (bandCount ws) (between .band))
+      (ends-fit length load some k (between .band) (between .low) (between .high))

@@ -2,7 +2,7 @@
 -- consecutive intervals add up, a job is open in the one stretch of intervals between its release and its deadline,
 -- and each tick lies in exactly one interval, in a job's window exactly when the job is open there.
 -- Assumes nothing.
-use mathlib.Core.Path.{_≡_, refl}
+use mathlib.Core.Path.{_≡_}
 use mathlib.Core.Bool.{true, false}
 use mathlib.Core.Logic.{_⊎_, inl, inr, _↔_}
 use mathlib.Core.List.{List}
@@ -16,7 +16,7 @@ use Rattle.model.specs.declared.Job.{Job}
 use Rattle.model.specs.Sum.{sum, onlyIf}
 use Rattle.model.specs.Jobs.{jobOf}
 use Rattle.model.specs.Intervals.{intervalCount, boundAt, lengthOf, isOpen, earliestRelease, latestDeadline, Bounds}
-use Rattle.model.proofs.Numbers.{lt-or-le, true-or-false, both-true}
+use Rattle.model.proofs.Numbers.{lt-or-le, true-or-false, both-true, rises-between}
 use Rattle.model.proofs.Sum.{sum-cong, sum-zero, sum-split}
 
 -- A job is open in an interval that does not start before its release nor end after its deadline.
@@ -36,8 +36,8 @@ pub record OpenRange (jobs : List Job) (bounds : List ℕ) (j lo hi : ℕ) : Typ
   pub ends : boundAt bounds hi ≡ jobOf jobs j .deadline
   pub exactly : (i : ℕ) → i < intervalCount bounds → (isOpen bounds (jobOf jobs j) i ≡ true) ↔ ((lo ≤ i) × (i < hi))
 
--- the first step at which a sequence passes t
-stretch-of : (n : ℕ) (f : ℕ → ℕ) (t : ℕ) → f 0 ≤ t → t < f n → (i : ℕ) × (i < n) × (f i ≤ t) × (t < f (suc i))
+-- a step at which a sequence passes t
+pub stretch-of : (n : ℕ) (f : ℕ → ℕ) (t : ℕ) → f 0 ≤ t → t < f n → (i : ℕ) × (i < n) × (f i ≤ t) × (t < f (suc i))
 stretch-of zero f t low high = absurd (omega arith)
 stretch-of (suc n) f t low high = go (lt-or-le t (f n)) (stretch-of n f t low)
   where
@@ -77,12 +77,7 @@ module _ {jobs : List Job} {bounds : List ℕ} {j lo hi : ℕ} (range : OpenRang
 
 module _ {jobs : List Job} {bounds : List ℕ} (B : Bounds jobs bounds) where
   pub bounds-rise : (i k : ℕ) → i < k → k < length bounds → boundAt bounds i < boundAt bounds k
-  bounds-rise i zero less below = absurd (omega arith)
-  bounds-rise i (suc k) less below = go (eq-or-lt-of-le (le-of-suc-le-suc less)) (λ h. bounds-rise i k h (omega arith))
-    where
-      go : (i ≡ k) ⊎ (i < k) → (i < k → boundAt bounds i < boundAt bounds k) → boundAt bounds i < boundAt bounds (suc k)
-      go (inl same) step = rw same (B .rises k below)
-      go (inr further) step = omega (arith, step further, B .rises k below)
+  bounds-rise = rises-between (boundAt bounds) (length bounds) (B .rises)
 
   pub bounds-mono : (i k : ℕ) → i ≤ k → k < length bounds → boundAt bounds i ≤ boundAt bounds k
   bounds-mono i k least below = go (eq-or-lt-of-le least)

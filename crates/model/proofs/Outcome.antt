@@ -6,7 +6,7 @@ use Prim.Native.Nat.{ℕ, zero, suc, _+_, _<_, _≤_}
 use native.Mathlib.Numerals.{add-one}
 use native.Mathlib.Nat.{add-zero, zero-add, add-suc, suc-add}
 use native.Mathlib.Omega.{arith}
-use Rattle.model.specs.Outcome.{Outcome, refused, answer, refuseWhen, refuseAt, byEntryFrom, byEntry}
+use Rattle.model.specs.Outcome.{Outcome, refused, answer, andThen, refuseWhen, refuseAt, byEntryFrom, byEntry}
 
 pub refuseAt-bad : {A : Type 0} (number place : ℕ) (next : Outcome A) → 0 < number → refuseAt number place next ≡ refused number place
 refuseAt-bad zero place next bad = absurd (omega arith)
@@ -24,6 +24,12 @@ pub answered-past : {A : Type 0} {a : A} (condition : Bool) (number : ℕ) (next
     → (condition ≡ false) × (next ≡ answer a)
 answered-past true number next e = absurd (refused≢answer e)
 answered-past false number next e = (refl, e)
+
+-- an answer after another operation says that the other answered
+pub andThen-answered : {A B : Type 0} {b : B} (first : Outcome A) (next : A → Outcome B) → andThen first next ≡ answer b
+    → (a : A) × (first ≡ answer a) × (next a ≡ answer b)
+andThen-answered (refused number place) next e = absurd (refused≢answer e)
+andThen-answered (answer a) next e = (a, refl, e)
 
 refuseAt-answered : {A : Type 0} {a : A} (number place : ℕ) (next : Outcome A) → refuseAt number place next ≡ answer a
     → (number ≡ 0) × (next ≡ answer a)

@@ -1,10 +1,10 @@
--- T4: where a window is overfull, no schedule meets all deadlines. A slot that runs one of the window's own jobs between that
+-- T4: where a schedule meets all deadlines, each window has room for its own jobs. A slot that runs one of them between that
 -- job's release and deadline lies inside the window and supplies at most the top frequency.
 -- Assumes nothing.
 use mathlib.Core.Path.{_≡_, sym, _∙_}
 use mathlib.Core.List.{List}
 use Prim.Native.Nat.{ℕ, _+_, _-_, _*_, _/_, _<_, _≤_, min}
-use native.Mathlib.Nat.{le-trans, div-lt-iff-lt-mul, le-div-iff-mul-le, mul-le-mul-right, mul-lt-mul-of-pos-left}
+use native.Mathlib.Nat.{le-trans, div-lt-iff-lt-mul, le-div-iff-mul-le, mul-le-mul-right, le-of-mul-le-mul-left}
 use native.Mathlib.Omega.{arith}
 use lib.ListN.{length}
 use borrow.Author.Tests.{ltb-true, leb-true}
@@ -14,14 +14,14 @@ use Rattle.model.specs.Sum.{sum, onlyIf}
 use Rattle.model.specs.Jobs.{jobOf}
 use Rattle.model.specs.Points.{points, topFrequency, RisingPoints}
 use Rattle.model.specs.Intervals.{earliestRelease}
-use Rattle.model.specs.Windows.{isInside, cyclesInside, isOverfull}
+use Rattle.model.specs.Windows.{isInside, cyclesInside}
 use Rattle.model.specs.Schedules.{Slot, idles, runs, IsGiven, frequencyFor, Schedule, slotCount, served, Serves}
-use Rattle.model.specs.LeastEnergy.{OverfullNeverServed}
 use Rattle.model.proofs.Sum.{sum-cong, sum-mono, sum-swap, sum-mul-left, sum-pos}
 use Rattle.model.proofs.Numbers.{both-true}
 use Rattle.model.proofs.SumMore.{onlyIf-le, onlyIf-pos, onlyIf-scaled, sum-onlyIf, sum-within}
-use Rattle.model.proofs.LevelPoints.{level-below-top}
-use Rattle.model.proofs.SlotSums.{isInTime, slotFrequency, frequency-by-job}
+use Rattle.model.proofs.Windows.{inside-iff}
+use Rattle.model.proofs.Points.{level-below-top}
+use Rattle.model.proofs.Supply.{isInTime, slotFrequency, frequency-by-job}
 
 -- slots whose ticks lie in a window have numbers in a stretch that is not longer than the window
 window-slots : (q first start end s : ℕ) → 0 < q → start ≤ first + s / q → first + s / q < end
@@ -66,11 +66,11 @@ module _ (idlePower : ℕ) (levels : List Level) (jobs : List Job) (R : RisingPo
   part-inside s below more =
       let found = sum-pos (length jobs) (part s) more in
       let own = onlyIf-pos _ _ (found .2) in
-      let inside = both-true _ _ (own .0) in
+      let inside = inside-iff start end (jobOf jobs (found .0)) .0 (own .0) in
       let window = both-true _ _ (onlyIf-pos _ _ (own .1) .0) in
       window-slots (schedule .q) (earliestRelease jobs) start end s (schedule .q-low)
-      (le-trans (leb-true _ _ (inside .0)) (leb-true _ _ (window .0)))
-      (le-trans (ltb-true _ _ (window .1)) (leb-true _ _ (inside .1)))
+      (le-trans (inside .0) (leb-true _ _ (window .0)))
+      (le-trans (ltb-true _ _ (window .1)) (inside .1))
 
   -- what the window's own jobs are served, by slot
   parts : sum (length jobs) (λ j. onlyIf (isInside start end (jobOf jobs j)) (served schedule j))
@@ -81,9 +81,9 @@ module _ (idlePower : ℕ) (levels : List Level) (jobs : List Job) (R : RisingPo
       ∙ sum-swap (length jobs) (slotCount schedule) (λ j s. part s j)
 
   -- so the window has room for its own jobs
-  own-cycles : Serves schedule → schedule .q * cyclesInside jobs start end ≤ schedule .q * ((end - start) * topFrequency levels)
+  pub own-cycles-fit : Serves schedule → cyclesInside jobs start end ≤ (end - start) * topFrequency levels
   unfolding cyclesInside
-  own-cycles serves =
+  own-cycles-fit serves =
       let q : ℕ = schedule .q in
       let first : ℕ = earliestRelease jobs in
       let top : ℕ = topFrequency levels in
@@ -93,14 +93,4 @@ module _ (idlePower : ℕ) (levels : List Level) (jobs : List Job) (R : RisingPo
       let supply : sum (slotCount schedule) (λ s. sum (length jobs) (part s)) ≤ (min (slotCount schedule) ((end - first) * q) - (start - first) * q) * top =
       sum-within (slotCount schedule) ((start - first) * q) ((end - first) * q) top (λ s. sum (length jobs) (part s)) part-high part-inside in
       let room : min (slotCount schedule) ((end - first) * q) - (start - first) * q ≤ (end - start) * q = omega (arith, stretch-length q first start end) in
-      omega (arith, parts, mul-le-mul-right top room)
-
--- T4
-pub overfull-never-served : OverfullNeverServed
-unfolding isOverfull
-overfull-never-served idlePower levels jobs site start end full schedule serves =
-    omega (
-      arith,
-      own-cycles idlePower levels jobs (site .rising) start end schedule serves,
-      mul-lt-mul-of-pos-left (ltb-true ((end - start) * topFrequency levels) (cyclesInside jobs start end) full) (schedule .q-low),
-    )
+      le-of-mul-le-mul-left {k = q} (omega (arith, parts, mul-le-mul-right top room)) (schedule .q-low)

@@ -1,8 +1,9 @@
 -- Laws of points: the points of a valid level table rise; three points in a row compared without subtraction; what it
--- says that a point is dropped and that it is not. Idling and the last point are never dropped.
+-- says that a point is dropped and that it is not. Idling and the last point are never dropped. No level runs faster than
+-- the last.
 -- Assumes nothing.
 use mathlib.Core.Path.{_≡_, refl, sym, _∙_}
-use mathlib.Core.Bool.{Bool, true, false, _&&_}
+use mathlib.Core.Bool.{true, false}
 use mathlib.Core.Logic.{_⊎_, inl, inr}
 use mathlib.Core.List.{List}
 use Prim.Native.Nat.{ℕ, zero, suc, _+_, _-_, _*_, _<_, _≤_}
@@ -13,9 +14,9 @@ use lib.ListN.{length, length-map, List·getD-map}
 use borrow.Author.Tests.{leb-true, leb-false, le-leb, lt-leb, ltb-true, lt-ltb, le-ltb}
 use Rattle.model.specs.declared.Level.{Level}
 use Rattle.model.specs.Levels.{idling, levelOf, ValidLevels}
-use Rattle.model.specs.Points.{Point, powerOf, pointOfLevel, points, pointAt, drops, dropped, RisingPoints}
+use Rattle.model.specs.Points.{Point, powerOf, pointOfLevel, points, pointAt, drops, dropped, topFrequency, RisingPoints}
 use Rattle.model.specs.Search.{someBelow}
-use Rattle.model.proofs.Numbers.{true-or-false, rises-between}
+use Rattle.model.proofs.Numbers.{lt-or-le, true-or-false, both-true, rises-between}
 use Rattle.model.proofs.Search.{someBelow-found, someBelow-none, someBelow-fails}
 
 power-rises : (a b : Level) → a .frequency < b .frequency → 1 ≤ a .voltage → a .voltage ≤ b .voltage → powerOf a < powerOf b
@@ -101,10 +102,6 @@ drops-shoelace a b c up-b up-c along-b along-c =
       cross (a .power) (b .power) (a .frequency) (c .frequency) up-b along-c,
     ))
 
-both-hold : (s t : Bool) → (s && t) ≡ true → (s ≡ true) × (t ≡ true)
-both-hold true t e = (refl, e)
-both-hold false t e = (e, cc e)
-
 module _ (ps : List Point) where
   -- no point is below idling
   pub idling-works : dropped ps 0 ≡ false
@@ -120,6 +117,14 @@ module _ (ps : List Point) where
     pub frequencies-rise : (i j : ℕ) → i < j → j < length ps → pointAt ps i .frequency < pointAt ps j .frequency
     frequencies-rise = rises-between (λ i. pointAt ps i .frequency) (length ps) (rising .frequency-rises)
 
+    -- no point's frequency is above that of the last
+    pub frequency-below-top : (i : ℕ) → i < length ps → pointAt ps i .frequency ≤ pointAt ps (length ps - 1) .frequency
+    frequency-below-top i inside = go (lt-or-le i (length ps - 1))
+      where
+        go : (i < length ps - 1) ⊎ (length ps - 1 ≤ i) → pointAt ps i .frequency ≤ pointAt ps (length ps - 1) .frequency
+        go (inl below) = omega (arith, frequencies-rise i (length ps - 1) below (omega arith))
+        go (inr top) = let e : i ≡ length ps - 1 = omega arith in rw e (omega arith)
+
     pub powers-rise : (i j : ℕ) → i < j → j < length ps → pointAt ps i .power < pointAt ps j .power
     powers-rise = rises-between (λ i. pointAt ps i .power) (length ps) (rising .power-rises)
 
@@ -133,6 +138,14 @@ module _ (ps : List Point) where
         (omega (arith, frequencies-rise a b lower (omega arith)))
         (omega (arith, frequencies-rise a c (omega arith) inside))
 
+    -- a point that is not dropped lies below the line from any lower to any higher point
+    pub kept-below : (a b c : ℕ) → a < b → b < c → c < length ps → dropped ps b ≡ false
+        → shoelace (pointAt ps a) (pointAt ps b) (pointAt ps c) < shoelace (pointAt ps a) (pointAt ps c) (pointAt ps b)
+    unfolding dropped
+    kept-below a b c lower higher inside e =
+        let kept = someBelow-none _ _ (someBelow-none _ _ e a lower) c inside in
+        leb-false _ _ (sym (drops-additive a b c lower higher inside) ∙ (rw (lt-ltb b c higher) at kept))
+
     -- a dropped point lies on or above the line from some lower to some higher point
     pub dropped-above : (b : ℕ) → dropped ps b ≡ true
         → (a : ℕ) × (c : ℕ) × (a < b) × (b < c) × (c < length ps)
@@ -141,14 +154,15 @@ module _ (ps : List Point) where
     dropped-above b e =
         let low = someBelow-found _ _ e in
         let high = someBelow-found _ _ (low .2) in
-        let both = both-hold (ltb b (high .0)) _ (high .2) in
+        let both = both-true (ltb b (high .0)) _ (high .2) in
         let higher = ltb-true _ _ (both .0) in
         (low .0, high .0, low .1, higher, high .1, leb-true _ _ (sym (drops-additive _ _ _ (low .1) higher (high .1)) ∙ both .1))
 
-    -- a point that is not dropped lies below the line from any lower to any higher point
-    pub kept-below : (a b c : ℕ) → a < b → b < c → c < length ps → dropped ps b ≡ false
-        → shoelace (pointAt ps a) (pointAt ps b) (pointAt ps c) < shoelace (pointAt ps a) (pointAt ps c) (pointAt ps b)
-    unfolding dropped
-    kept-below a b c lower higher inside e =
-        let kept = someBelow-none _ _ (someBelow-none _ _ e a lower) c inside in
-        leb-false _ _ (sym (drops-additive a b c lower higher inside) ∙ (rw (lt-ltb b c higher) at kept))
+-- no level's frequency is above the top frequency
+pub level-below-top : (idlePower : ℕ) (levels : List Level) → RisingPoints (points idlePower levels)
+    → (i : ℕ) → i < length levels → levelOf levels i .frequency ≤ topFrequency levels
+level-below-top idlePower levels rising i below =
+    let many = points-length idlePower levels in
+    let top : length (points idlePower levels) - 1 ≡ suc (length levels - 1) = omega arith in
+    rw (points-level idlePower levels i, top, points-level idlePower levels (length levels - 1)) at
+    (frequency-below-top (points idlePower levels) rising (suc i) (omega arith))

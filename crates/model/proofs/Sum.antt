@@ -3,7 +3,7 @@
 use mathlib.Core.Path.{_≡_, refl, sym, _∙_, ap}
 use mathlib.Core.Bool.{Bool, cond}
 use mathlib.Core.Logic.{_⊎_, inl, inr}
-use Prim.Native.Nat.{ℕ, zero, suc, _+_, _*_, _<_, _≤_}
+use Prim.Native.Nat.{ℕ, zero, suc, _+_, _-_, _*_, _<_, _≤_}
 use native.Mathlib.Nat.{eq-zero-or-pos, eq-or-lt-of-le, le-of-suc-le-suc, mul-pos}
 use native.Mathlib.Numerals.{add-one}
 use native.Mathlib.Omega.{arith}
@@ -68,6 +68,31 @@ pub sum-split : (n m : ℕ) (f : ℕ → ℕ) → sum (n + m) f ≡ sum n f + su
 unfolding sum
 sum-split n zero f = let e : n + 0 ≡ n = omega arith in rw e (omega arith)
 sum-split n (suc m) f = let e : n + suc m ≡ suc (n + m) = omega arith in rw e (omega (arith, sum-split n m f))
+
+-- more terms add up to more
+pub sum-longer : {k n : ℕ} (f : ℕ → ℕ) → k ≤ n → sum k f ≤ sum n f
+sum-longer {k} {n} f h =
+    let e : n ≡ k + (n - k) = omega arith in
+    rw e (omega (arith, sum-split k (n - k) f))
+
+-- up to a positive term a sum is smaller than past it
+pub sum-before : (k n : ℕ) (f : ℕ → ℕ) → k < n → 0 < f k → sum k f < sum n f
+unfolding sum
+sum-before k n f below positive = omega (arith, sum-longer f below)
+
+-- terms of 0 at the end
+pub sum-shorter : (k n : ℕ) (f : ℕ → ℕ) → k ≤ n → ((i : ℕ) → k ≤ i → i < n → f i ≡ 0) → sum n f ≡ sum k f
+sum-shorter k n f h none =
+    let e : n ≡ k + (n - k) = omega arith in
+    let rest : sum (n - k) (λ i. f (k + i)) ≡ 0 = sum-zero (n - k) (λ i below. none (k + i) (omega arith) (omega arith)) in
+    rw e (omega (arith, sum-split k (n - k) f))
+
+-- a sum of differences is the difference of its ends
+pub sum-telescopes : (n : ℕ) (level step : ℕ → ℕ) → ((i : ℕ) → i < n → level i + step i ≡ level (suc i)) → level 0 + sum n step ≡ level n
+unfolding sum
+sum-telescopes zero level step next = omega arith
+sum-telescopes (suc n) level step next =
+    omega (arith, sum-telescopes n level step (λ i below. next i (omega arith)), next n (omega arith))
 
 -- a term is at most the sum
 pub sum-term : (n : ℕ) (f : ℕ → ℕ) (k : ℕ) → k < n → f k ≤ sum n f

@@ -1,4 +1,4 @@
--- Further laws of finite sums: terms under a test, and sums of which only a stretch counts.
+-- Further laws of finite sums: terms under a test, and stretches of terms.
 -- Assumes nothing.
 use mathlib.Core.Path.{_≡_, refl}
 use mathlib.Core.Bool.{Bool, true, false}
@@ -7,7 +7,7 @@ use Prim.Native.Nat.{ℕ, zero, suc, _+_, _-_, _*_, _<_, _≤_, min}
 use native.Mathlib.Nat.{eq-zero-or-pos, mul-le-mul-right}
 use native.Mathlib.Omega.{arith}
 use Rattle.model.specs.Sum.{sum, onlyIf}
-use Rattle.model.proofs.Sum.{sum-zero, sum-split}
+use Rattle.model.proofs.Sum.{sum-cong, sum-zero, sum-const, sum-split}
 
 pub onlyIf-le : (t : Bool) (n : ℕ) → onlyIf t n ≤ n
 onlyIf-le true n = omega arith
@@ -27,15 +27,13 @@ pub onlyIf-scaled : (t : Bool) (c n m : ℕ) → c * n ≤ m → c * onlyIf t n 
 onlyIf-scaled true c n m h = h
 onlyIf-scaled false c n m h = omega arith
 
+pub onlyIf-zero : (t : Bool) → onlyIf t 0 ≡ 0
+onlyIf-zero true = refl
+onlyIf-zero false = refl
+
 pub sum-onlyIf : (n : ℕ) (t : Bool) (f : ℕ → ℕ) → sum n (λ i. onlyIf t (f i)) ≡ onlyIf t (sum n f)
 sum-onlyIf n true f = refl
 sum-onlyIf n false f = sum-zero n (λ i below. refl)
-
--- more terms add up to more
-pub sum-longer : {k n : ℕ} (f : ℕ → ℕ) → k ≤ n → sum k f ≤ sum n f
-sum-longer {k} {n} f h =
-    let e : n ≡ k + (n - k) = omega arith in
-    rw e (omega (arith, sum-split k (n - k) f))
 
 -- of terms that are at most c, only those from a up to, not including, b are not 0
 pub sum-within : (n a b c : ℕ) (f : ℕ → ℕ) → ((i : ℕ) → i < n → f i ≤ c) → ((i : ℕ) → i < n → 0 < f i → (a ≤ i) × (i < b))
@@ -53,3 +51,11 @@ sum-within (suc n) a b c f high inside =
         let here = inside n (omega arith) term in
         let longer : min (suc n) b - a ≡ suc (min n b - a) = omega (arith, here .0, here .1) in
         rw longer (omega (arith, high n (omega arith)))
+
+-- a stretch of terms x, and after it a stretch of terms y
+pub sum-two-stretches : (a b x y : ℕ) (f : ℕ → ℕ) → ((u : ℕ) → u < a → f u ≡ x) → ((u : ℕ) → a ≤ u → f u ≡ y)
+    → sum (a + b) f ≡ a * x + b * y
+sum-two-stretches a b x y f first second =
+    let one : sum a f ≡ sum a (λ u. x) = sum-cong a first in
+    let two : sum b (λ u. f (a + u)) ≡ sum b (λ u. y) = sum-cong b (λ u below. second (a + u) (omega arith)) in
+    omega (arith, sum-split a b f, sum-const a x, sum-const b y)

@@ -12,9 +12,9 @@ use native.Mathlib.Omega.{arith}
 use lib.ListN.{length}
 use Rattle.model.specs.Points.{Point, pointAt, dropped, working, RisingPoints}
 use Rattle.model.specs.Bands.{gap, rise, Above}
-use Rattle.model.proofs.Numbers.{lt-or-le, true-or-false}
+use Rattle.model.proofs.Numbers.{true-or-false}
 use Rattle.model.proofs.Search.{FirstLowest, first-lowest}
-use Rattle.model.proofs.Points.{shoelace, frequencies-rise, dropped-above, kept-below}
+use Rattle.model.proofs.Points.{shoelace, frequencies-rise, frequency-below-top, dropped-above, kept-below}
 use Rattle.model.proofs.Working.{Place, place, places-rise, places-close, working-frequencies-rise, working-powers-rise}
 
 -- b lies on or above the line from a to c, and lower than a and as low as c above a line of slope climb / run: absurd
@@ -38,18 +38,11 @@ height : List Point → (run climb : ℕ) → ℕ → ℕ
 height ps run climb i = pointAt ps i .power * run + climb * (pointAt ps (length ps - 1) .frequency - pointAt ps i .frequency)
 
 module _ (ps : List Point) (rising : RisingPoints ps) (run climb : ℕ) where
-  below-top : (i : ℕ) → i < length ps → pointAt ps i .frequency ≤ pointAt ps (length ps - 1) .frequency
-  below-top i inside = go (lt-or-le i (length ps - 1))
-    where
-      go : (i < length ps - 1) ⊎ (length ps - 1 ≤ i) → pointAt ps i .frequency ≤ pointAt ps (length ps - 1) .frequency
-      go (inl below) = omega (arith, frequencies-rise ps rising i (length ps - 1) below (omega arith))
-      go (inr top) = let e : i ≡ length ps - 1 = omega arith in rw e (omega arith)
-
   height-law : (i : ℕ) → i < length ps
       → height ps run climb i + climb * pointAt ps i .frequency ≡ pointAt ps i .power * run + climb * pointAt ps (length ps - 1) .frequency
   unfolding height
   height-law i inside =
-      omega (arith, ap (λ (x : ℕ). climb * x) (sub-add-cancel (below-top i inside)))
+      omega (arith, ap (λ (x : ℕ). climb * x) (sub-add-cancel (frequency-below-top ps rising i inside)))
 
   -- the first of the lowest points is not dropped
   first-kept : (i : ℕ) → FirstLowest (length ps - 1) (height ps run climb) i → dropped ps i ≡ false

@@ -21,6 +21,7 @@ use Rattle.model.specs.Windows.{Window, isInside, cyclesInside, spareOf,
 use Rattle.model.specs.Windows.{overfullTo, earliestStart, earliestEnd, windowTo, windowFrom, earliestOverfull}
 use Rattle.model.proofs.Numbers.{true-or-false, true≢false, both-true}
 use Rattle.model.proofs.Sum.{sum-mono, sum-pos}
+use Rattle.model.proofs.SumMore.{onlyIf-mono}
 use Rattle.model.proofs.Search.{someBelow-found, someBelow-holds, LeastBelow, leastBelow-found, leastBelow-fails, least-index}
 
 pub inside-iff : (start end : ℕ) (job : Job) → (isInside start end job ≡ true) ↔ ((start ≤ job .release) × (job .deadline ≤ end))
@@ -55,12 +56,7 @@ cycles-from : (jobs : List Job) (start end first last : ℕ)
     → ((j : ℕ) → j < length jobs → isInside start end (jobOf jobs j) ≡ true → isInside first last (jobOf jobs j) ≡ true)
     → cyclesInside jobs start end ≤ cyclesInside jobs first last
 unfolding cyclesInside
-cycles-from jobs start end first last also = sum-mono (length jobs) (λ j below. term _ _ _ (also j below))
-  where
-    term : (s t : Bool) (n : ℕ) → (s ≡ true → t ≡ true) → onlyIf s n ≤ onlyIf t n
-    term true true n step = omega arith
-    term true false n step = absurd (true≢false (sym (step refl)))
-    term false t n step = omega arith
+cycles-from jobs start end first last also = sum-mono (length jobs) (λ j below. onlyIf-mono _ _ _ (also j below))
 
 -- the window from the release of job j to the deadline of job k, which is later, is overfull
 pub record OverfullBetween (top : ℕ) (jobs : List Job) (j k : ℕ) : Type 0 where

@@ -35,10 +35,10 @@ module _ (bytes : List ℕ) where
   -- Step s, counted from 0.
   unfoldable pub stepAt : (step : ℕ) → Step
   stepAt s = record {
-      interval = cellAt s / maxJobs;
-      job = cellAt s % maxJobs;
-      cycles = number32 bytes (4 + 2 * stepCount + 4 * s)
-    }
+    interval = cellAt s / maxJobs;
+    job = cellAt s % maxJobs;
+    cycles = number32 bytes (4 + 2 * stepCount + 4 * s);
+  }
 
   -- 15: plan under 4 bytes or length not 4 + 6S.
   abbrev pub wrongPlanLength : Bool
