@@ -1,9 +1,8 @@
--- Every line of the table holds, by computing the definitions; and all levels of the built-in tables work.
+-- Every line of document 01's table holds, by computing the definitions.
 -- Assumes nothing.
 use mathlib.Core.Path.{_≡_, refl}
 use mathlib.Core.Bool.{true}
-use Rattle.model.specs.SiteLines.{pLines, holds, allHold}
-use Rattle.model.specs.BuiltIn.{firstBuiltIn, secondBuiltIn}
+use Rattle.model.specs.SiteLines.{pLines, workedLines, holds, allHold}
 use Rattle.model.specs.Outcome.{byEntryFrom}
 use Rattle.model.specs.Bytes.{numberAt, bytesOf}
 use Rattle.model.specs.Entries.{listOf, encodeEach}
@@ -13,12 +12,12 @@ use Rattle.model.specs.Sum.{sum, product}
 use Rattle.model.specs.Search.{someBelow, firstFrom, leastBelow}
 use Rattle.model.specs.Points.{points, drops, dropped, selectFrom, working}
 use Rattle.model.specs.Bands.{gap, rise, scale, price}
-use Rattle.model.specs.Setting.{bandOf, settingOf, setting, workingOf}
+use Rattle.model.specs.Setting.{bandOf, settingOf, setting}
 use Rattle.model.specs.Intervals.{insertTime, boundsOf, lengthOf}
 use Rattle.model.specs.Windows.{cyclesInside, spareOf, isOverfull, overfullTo, earliestStart, earliestEnd, earliestOverfull, spare}
 use Rattle.model.specs.Plans.{load}
 use Rattle.model.specs.Energy.{bandCycles, intervalEnergy, exactEnergy, bandTotal, energyFigure}
 
-pub p-lines-hold : allHold pLines ≡ true
-unfolding allHold holds pLines byEntryFrom numberAt bytesOf listOf encodeEach readLevels levelAt faultOfLevel encodeLevels readJobs jobAt faultOfJob encodeJobs sum product someBelow firstFrom leastBelow points drops dropped selectFrom working gap rise scale price bandOf settingOf setting insertTime boundsOf lengthOf cyclesInside spareOf isOverfull overfullTo earliestStart earliestEnd earliestOverfull spare load bandCycles intervalEnergy exactEnergy bandTotal energyFigure
-p-lines-hold = refl
+pub lines-hold : (allHold pLines ≡ true) × (allHold workedLines ≡ true)
+unfolding allHold holds pLines workedLines byEntryFrom numberAt bytesOf listOf encodeEach readLevels levelAt faultOfLevel encodeLevels readJobs jobAt faultOfJob encodeJobs sum product someBelow firstFrom leastBelow points drops dropped selectFrom working gap rise scale price bandOf settingOf setting insertTime boundsOf lengthOf cyclesInside spareOf isOverfull overfullTo earliestStart earliestEnd earliestOverfull spare load bandCycles intervalEnergy exactEnergy bandTotal energyFigure
+lines-hold = (refl, refl)

@@ -1,6 +1,6 @@
 -- The lines of document 01's "Sites to try" that are marked P, as one table. That every line holds is one statement,
 -- proved in proofs/SiteLines.antt by computing the definitions. Lines on checking and planning join with these operations.
-use Prim.Native.Nat.{ℕ, suc, _*_}
+use Prim.Native.Nat.{ℕ, zero, suc, _+_, _*_}
 use mathlib.Core.Bool.{Bool, true, false, _&&_}
 use mathlib.Core.List.{List, [], _∷_, map}
 use mathlib.Core.Option.{Option, none, some}
@@ -11,12 +11,14 @@ use Rattle.model.specs.declared.Job.{Job}
 use Rattle.model.specs.Outcome.{Outcome, refused, answer}
 use Rattle.model.specs.Levels.{encodeLevels}
 use Rattle.model.specs.Jobs.{encodeJobs}
-use Rattle.model.specs.BuiltIn.{level}
+use Rattle.model.specs.BuiltIn.{level, firstBuiltIn}
 use Rattle.model.specs.Points.{Point, topFrequency}
 use Rattle.model.specs.Setting.{Setting, setting, workingOf}
 use Rattle.model.specs.Intervals.{boundsOf, intervalCount}
 use Rattle.model.specs.Windows.{Window, spare, earliestOverfull}
-use Rattle.model.specs.Energy.{exactEnergy, energyFigure}
+use Rattle.model.specs.Bands.{scale}
+use Rattle.model.specs.Plans.{Shares}
+use Rattle.model.specs.Energy.{intervalEnergy, exactEnergy, energyFigure}
 
 abbrev pub job : (release deadline cycles : ℕ) → Job
 job release deadline cycles = record { release = release; deadline = deadline; cycles = cycles }
@@ -40,6 +42,10 @@ pub data SiteLine : Type 0 where
   -- the number of intervals, and the energy without any share, exact and reported
   intervals : List Job → (count : ℕ) → SiteLine
   idleEnergy : List Level → List Job → (energy : ℕ) → SiteLine
+  -- the exact energy of one interval is a whole number
+  costs : List Level → (length load : ℕ) → (energy : ℕ) → SiteLine
+  -- the energy figure of a plan, and its exact energy: `over` parts of `parts` above the figure
+  needs : List Level → List Job → Shares → (figure over parts : ℕ) → SiteLine
 
 unfoldable pub pLines : List SiteLine
 pLines =
@@ -63,6 +69,27 @@ pLines =
     -- T, two equal jobs 0 2 of 4 cycles fit; three have spare −4
     ∷ fits T (job 0 2 4 ∷ job 0 2 4 ∷ [])
     ∷ spares T (job 0 2 4 ∷ job 0 2 4 ∷ job 0 2 4 ∷ []) 0 2 (negsuc 3)
+    ∷ []
+
+-- The shares of the plan that document 01 lists for jobs 0 4 6 and 2 3 4: 4 cycles of job 0, 4 of job 1, 2 of job 0.
+abbrev pub listedShares : Shares
+listedShares zero zero = 4
+listedShares zero (suc j) = 0
+listedShares (suc zero) zero = 0
+listedShares (suc zero) (suc j) = 4
+listedShares (suc (suc i)) zero = 2
+listedShares (suc (suc i)) (suc j) = 0
+
+-- Further worked lines of document 01 that the definitions compute.
+unfoldable pub workedLines : List SiteLine
+workedLines =
+    -- load 4 in one tick under T costs 1,600; load 7 in 3 ticks costs 1,300
+    costs T 1 4 1_600
+    ∷ costs T 3 7 1_300
+    -- first built-in table, one job 0 1 with 401 cycles: figure 4,018,415, the exact energy 105/133 higher
+    ∷ needs firstBuiltIn (job 0 1 401 ∷ []) (λ i j. 401) 4_018_415 105 133
+    -- T, jobs 0 4 6 and 2 3 4: energy 2,200
+    ∷ needs T (job 0 4 6 ∷ job 2 3 4 ∷ []) listedShares 2_200 0 1
     ∷ []
 
 sameSetting : Outcome Setting → (band extra gap : ℕ) → Bool
@@ -114,6 +141,12 @@ holds (intervals jobs count) = eqb (intervalCount (boundsOf jobs)) count
 holds (idleEnergy levels jobs energy) =
     eqb (exactEnergy (workingOf levels) jobs (boundsOf jobs) (λ i j. 0)) energy
     && eqb (energyFigure (workingOf levels) jobs (boundsOf jobs) (λ i j. 0)) energy
+
+holds (costs levels length load energy) =
+    eqb (intervalEnergy (workingOf levels) length load) (energy * scale (workingOf levels))
+holds (needs levels jobs shares figure over parts) =
+    eqb (energyFigure (workingOf levels) jobs (boundsOf jobs) shares) figure
+    && eqb (parts * exactEnergy (workingOf levels) jobs (boundsOf jobs) shares) ((parts * figure + over) * scale (workingOf levels))
 
 -- All lines hold.
 unfoldable pub allHold : List SiteLine → Bool
