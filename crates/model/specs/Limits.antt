@@ -20,3 +20,14 @@ maxDeadline = 1_000_000
 
 abbrev pub maxCycles : ℕ
 maxCycles = 1_000_000_000
+
+-- Each job has a release and a deadline, and neighbouring bounds have an interval between them.
+abbrev pub maxBounds : ℕ
+maxBounds = 128
+
+abbrev pub maxIntervals : ℕ
+maxIntervals = 127
+
+-- Idling and the levels.
+abbrev pub maxPoints : ℕ
+maxPoints = 9

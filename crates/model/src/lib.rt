@@ -25,3 +25,10 @@ pub const MAX_JOBS: usize = 64;
 pub const MAX_DEADLINE: u64 = 1_000_000;
 
 pub const MAX_CYCLES: u64 = 1_000_000_000;
+
+// Each job has a release and a deadline, and neighbouring bounds have an interval between them.
+pub const MAX_BOUNDS: usize = 128;
+pub const MAX_INTERVALS: usize = 127;
+
+// Idling and the levels.
+pub const MAX_POINTS: usize = 9;
