@@ -39,3 +39,5 @@ pub mod Faults
 pub mod FittingHalf
 pub mod PricingHalf
 pub mod Accepted
+pub mod Selection
+pub mod BuiltIn

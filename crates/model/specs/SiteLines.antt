@@ -141,7 +141,6 @@ holds (intervals jobs count) = eqb (intervalCount (boundsOf jobs)) count
 holds (idleEnergy levels jobs energy) =
     eqb (exactEnergy (workingOf levels) jobs (boundsOf jobs) (λ i j. 0)) energy
     && eqb (energyFigure (workingOf levels) jobs (boundsOf jobs) (λ i j. 0)) energy
-
 holds (costs levels length load energy) =
     eqb (intervalEnergy (workingOf levels) length load) (energy * scale (workingOf levels))
 holds (needs levels jobs shares figure over parts) =

@@ -28,6 +28,7 @@ pub const MAX_CYCLES: u64 = 1_000_000_000;
 
 // Each job has a release and a deadline, and neighbouring bounds have an interval between them.
 pub const MAX_BOUNDS: usize = 128;
+
 pub const MAX_INTERVALS: usize = 127;
 
 // Idling and the levels.

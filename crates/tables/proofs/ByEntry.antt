@@ -1,6 +1,6 @@
 -- Laws of the answer while the entries are gone through.
 -- Assumes nothing.
-use mathlib.Core.Path.{_≡_, refl, sym, _∙_}
+use mathlib.Core.Path.{_≡_, refl, sym, _∙_, ap}
 use mathlib.Core.List.{List}
 use Prim.Native.Nat.{ℕ, _<_}
 use native.Mathlib.Omega.{arith}
@@ -41,3 +41,11 @@ pub reading-answered : {A : Type 0} (count : ℕ) (fault : ℕ → ℕ) (entries
 reading-answered count fault entries n e =
     let found = some-answer (byEntry count fault (answer entries)) n e in
     found .1 ∙ sym (byEntry-answered fault (answer entries) count (found .1) .1)
+
+-- entries that are those of every answer of that many entries are the outcome's
+pub reading-held : {A : Type 0} (outcome : Outcome (List A)) (n : ℕ) (held : List A) → readingOf outcome ≡ Entries n
+    → ((entries : List A) → outcome ≡ answer entries → length entries ≡ n → held ≡ entries) → outcome ≡ answer held
+reading-held outcome n held e same =
+    let found = some-answer outcome n e in
+    let counted : Entries (length (found .0)) ≡ Entries n = rw (found .1) at e in
+    found .1 ∙ ap answer (sym (same (found .0) (found .1) (cc counted)))

@@ -3,13 +3,13 @@
 use mathlib.Core.Path.{_≡_, sym, _∙_, ap}
 use mathlib.Core.Bool.{cond}
 use mathlib.Core.Logic.{_⊎_, inl, inr}
-use mathlib.Core.List.{List}
-use Prim.Native.Nat.{ℕ, _+_, _<_, _≤_}
+use mathlib.Core.List.{List, _++_}
+use Prim.Native.Nat.{ℕ, _+_, _-_, _<_, _≤_}
 use native.Mathlib.Omega.{arith}
 use native.Mathlib.Decide.{ℕ-discrete}
 use lib.Dec.{ltb}
-use lib.ListN.{length, getD, set, replicate, length-set, length-replicate, getD-replicate}
-use lib.Seq.{ext-getD, getD-set-same, getD-set-other}
+use lib.ListN.{length, getD, set, replicate, length-append, length-set, length-replicate, getD-replicate, List·getD-append}
+use lib.Seq.{ext-getD, getD-append-add, getD-set-same, getD-set-other}
 use borrow.Author.Tests.{lt-ltb, le-ltb}
 use Rattle.model.specs.Entries.{listOf}
 use Rattle.model.proofs.Numbers.{lt-or-le}
@@ -76,3 +76,18 @@ pub column-of-entries : {A : Type 0} (size count : ℕ) (entry : ℕ → A) (def
 column-of-entries size count entry default field number agree =
     rw (length-listOf count entry)
     (column-cong size count _ _ (λ i below. agree i ∙ ap field (sym (getD-listOf count entry i default below))))
+
+-- an array that holds a list is the list, and zeros after it
+pub column-padded : (size : ℕ) (l : List ℕ) → length l ≤ size → columnOf size (length l) (λ i. getD l i 0) ≡ l ++ replicate (size - length l) 0
+column-padded size l fits =
+    ext-getD 0 _ _ (length-column size _ (length l) ∙ sym (simp (length-append, length-replicate) (omega arith)))
+    (λ i below. let inside : i < size = rw (length-column size (λ i. getD l i 0) (length l)) at below in at i inside (lt-or-le i (length l)))
+  where
+    at : (i : ℕ) → i < size → (i < length l) ⊎ (length l ≤ i)
+        → getD (columnOf size (length l) (λ i. getD l i 0)) i 0 ≡ getD (l ++ replicate (size - length l) 0) i 0
+    at i inside (inl below) = column-at size _ (length l) i inside below ∙ sym (List·getD-append l _ 0 i below)
+    at i inside (inr past) =
+        let place : i ≡ length l + (i - length l) = omega arith in
+        let zeros : i - length l < size - length l = omega arith in
+        column-past size _ (length l) i inside past
+        ∙ sym (rw (place, getD-append-add l (replicate (size - length l) 0) (i - length l) 0) (getD-replicate (size - length l) (i - length l) 0 0 zeros))

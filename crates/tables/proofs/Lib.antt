@@ -3,3 +3,4 @@ pub mod Column
 pub mod ByEntry
 pub mod DecodedLevels
 pub mod DecodedJobs
+pub mod Read

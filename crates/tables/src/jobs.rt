@@ -1,6 +1,7 @@
 // Reading jobs: refusals 6 to 10.
 ghost use mathlib.Core.Path.{_≡_};
 ghost use Prim.Native.Nat.{_≤_};
+ghost use Rattle.model.specs.Limits.{maxJobs};
 ghost use Rattle.model.specs.Outcome.{refused};
 ghost use Rattle.model.specs.Jobs.{faultOfJob, readJobs};
 ghost use Rattle.tables.specs.Tables.{readingOf, jobTable, checkedJobs};
@@ -68,7 +69,7 @@ fn check_jobs(
     cycles: &[u64; MAX_JOBS],
     count: usize,
 ) -> Reading
-    requires { ⌜ count ≤ 64 ⌝ }
+    requires { ⌜ count ≤ maxJobs ⌝ }
     ensures { λ r. ⌜ r ≡ readingOf (checkedJobs count (now (releases .entry)) (now (deadlines .entry)) (now (cycles .entry))) ⌝ }
 {
     let mut i = 0;

@@ -1,6 +1,7 @@
 // Reading levels: refusals 1 to 5.
 ghost use mathlib.Core.Path.{_≡_};
 ghost use Prim.Native.Nat.{_≤_};
+ghost use Rattle.model.specs.Limits.{maxLevels};
 ghost use Rattle.model.specs.Outcome.{refused};
 ghost use Rattle.model.specs.Levels.{faultOfLevel, readLevels};
 ghost use Rattle.tables.specs.Tables.{readingOf, levelTable, checkedLevels};
@@ -66,7 +67,7 @@ fn check_levels(
     voltages: &[u64; MAX_LEVELS],
     count: usize,
 ) -> Reading
-    requires { ⌜ count ≤ 8 ⌝ }
+    requires { ⌜ count ≤ maxLevels ⌝ }
     ensures { λ r. ⌜ r ≡ readingOf (checkedLevels count (now (frequencies .entry)) (now (voltages .entry))) ⌝ }
 {
     let mut before = Level {

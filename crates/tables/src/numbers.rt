@@ -2,6 +2,7 @@
 ghost use mathlib.Core.Path.{_≡_};
 ghost use Prim.Native.Nat.{ℕ, _+_, _*_, _<_, _≤_};
 ghost use lib.ListN.{length};
+ghost use Rattle.model.specs.Limits.{maxLevels, maxJobs};
 ghost use Rattle.model.specs.Bytes.{number16 as at16, number32 as at32};
 ghost use Rattle.tables.specs.Column.{columnOf};
 use model::MAX_JOBS;
@@ -29,8 +30,8 @@ pub(crate) fn number32(bytes: &[u8], place: usize) -> u64
 
 // The 16-bit numbers from a place on, as many as count; zeros after them.
 pub(crate) fn column16(bytes: &[u8], place: usize, count: usize) -> [u64; MAX_LEVELS]
-    requires { ⌜ (count ≤ 8) × (place + 2 * count ≤ length (now bytes)) ⌝ }
-    ensures { λ r. ⌜ r ≡ columnOf 8 count (λ i. at16 (now (bytes .entry)) (place + 2 * i)) ⌝ }
+    requires { ⌜ (count ≤ maxLevels) × (place + 2 * count ≤ length (now bytes)) ⌝ }
+    ensures { λ r. ⌜ r ≡ columnOf maxLevels count (λ i. at16 (now (bytes .entry)) (place + 2 * i)) ⌝ }
 {
     let mut numbers = [0u64; MAX_LEVELS];
     let mut i = 0;
@@ -43,8 +44,8 @@ pub(crate) fn column16(bytes: &[u8], place: usize, count: usize) -> [u64; MAX_LE
 
 // The 32-bit numbers from a place on, each `stride` bytes after the one before, as many as count; zeros after them.
 pub(crate) fn column32(bytes: &[u8], place: usize, stride: usize, count: usize) -> [u64; MAX_JOBS]
-    requires { ⌜ (count ≤ 64) × ((i : ℕ) → i < count → place + stride * i + 4 ≤ length (now bytes)) ⌝ }
-    ensures { λ r. ⌜ r ≡ columnOf 64 count (λ i. at32 (now (bytes .entry)) (place + stride * i)) ⌝ }
+    requires { ⌜ (count ≤ maxJobs) × ((i : ℕ) → i < count → place + stride * i + 4 ≤ length (now bytes)) ⌝ }
+    ensures { λ r. ⌜ r ≡ columnOf maxJobs count (λ i. at32 (now (bytes .entry)) (place + stride * i)) ⌝ }
 {
     let mut numbers = [0u64; MAX_JOBS];
     let mut i = 0;

@@ -1,0 +1,5 @@
+-- Laws for the proofs of the functions.
+pub mod Loops
+pub mod Capacity
+pub mod Inserted
+pub mod Padded

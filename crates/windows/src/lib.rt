@@ -1,0 +1,14 @@
+// Windows and intervals of a job table: the spare of a window, the earliest overfull window, bounds and open sets.
+mod intervals;
+mod overfull;
+mod times;
+mod window;
+
+pub use intervals::open_pairs;
+pub use intervals::open_sets;
+pub use overfull::Overfull;
+pub use overfull::earliest_overfull;
+pub use times::BoundTable;
+pub use times::bounds_of;
+pub use window::SpareAnswer;
+pub use window::spare;

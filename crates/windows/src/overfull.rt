@@ -1,0 +1,134 @@
+// The earliest overfull window: refusal 11.
+ghost use mathlib.Core.Path.{_≡_};
+ghost use Prim.Native.Nat.{_<_, _≤_};
+ghost use Rattle.model.specs.Limits.{maxFrequency};
+ghost use Rattle.model.specs.Jobs.{ValidJobs};
+ghost use Rattle.model.specs.Windows.{earliestOverfull, earliestStart, earliestEnd, overfullTo};
+ghost use Rattle.tables.specs.Tables.{jobsIn};
+ghost use Rattle.windows.specs.Answers.{overfullAnswer, foundOf, smallerFound};
+use crate::window::cycles_inside;
+use model::MAX_JOBS;
+
+// The earliest overfull window, if there is one.
+pub enum Overfull {
+    Window { start: u64, end: u64 },
+    Fits,
+}
+
+// A time that was found, if there is one.
+pub enum Found {
+    At(u64),
+    Nothing,
+}
+
+// The earliest release from which a window to a later deadline is overfull, and then the earliest such deadline.
+pub fn earliest_overfull(
+    releases: &[u64; MAX_JOBS],
+    deadlines: &[u64; MAX_JOBS],
+    cycles: &[u64; MAX_JOBS],
+    count: usize,
+    top: u64,
+) -> Overfull
+    requires { ⌜ ValidJobs (jobsIn count (now releases) (now deadlines) (now cycles)) ⌝ }
+    requires { ⌜ top ≤ maxFrequency ⌝ }
+    ensures { λ r. ⌜ r ≡ overfullAnswer (earliestOverfull top (jobsIn count (now (releases .entry)) (now (deadlines .entry)) (now (cycles .entry)))) ⌝ }
+{
+    let found = earliest_start(releases, deadlines, cycles, count, top);
+    match found {
+        Found::Nothing => Overfull::Fits,
+        Found::At(start) => {
+            let last = earliest_end(releases, deadlines, cycles, count, top, start);
+            match last {
+                Found::Nothing => Overfull::Fits,
+                Found::At(end) => Overfull::Window { start, end },
+            }
+        }
+    }
+}
+
+// The earliest release from which some window is overfull.
+fn earliest_start(
+    releases: &[u64; MAX_JOBS],
+    deadlines: &[u64; MAX_JOBS],
+    cycles: &[u64; MAX_JOBS],
+    count: usize,
+    top: u64,
+) -> Found
+    requires { ⌜ ValidJobs (jobsIn count (now releases) (now deadlines) (now cycles)) ⌝ }
+    requires { ⌜ top ≤ maxFrequency ⌝ }
+    ensures { λ r. ⌜ r ≡ foundOf (earliestStart top (jobsIn count (now (releases .entry)) (now (deadlines .entry)) (now (cycles .entry)))) ⌝ }
+{
+    let mut found = Found::Nothing;
+    let mut j = 0;
+    while j < count {
+        let end = earliest_end(releases, deadlines, cycles, count, top, releases[j]);
+        if let Found::At(_) = end {
+            found = smaller(found, releases[j]);
+        }
+        j += 1;
+    }
+    found
+}
+
+// The earliest deadline after start to which the window is overfull.
+fn earliest_end(
+    releases: &[u64; MAX_JOBS],
+    deadlines: &[u64; MAX_JOBS],
+    cycles: &[u64; MAX_JOBS],
+    count: usize,
+    top: u64,
+    start: u64,
+) -> Found
+    requires { ⌜ ValidJobs (jobsIn count (now releases) (now deadlines) (now cycles)) ⌝ }
+    requires { ⌜ top ≤ maxFrequency ⌝ }
+    ensures { λ r. ⌜ r ≡ foundOf (earliestEnd top (jobsIn count (now (releases .entry)) (now (deadlines .entry)) (now (cycles .entry))) start) ⌝ }
+{
+    let mut found = Found::Nothing;
+    let mut k = 0;
+    while k < count {
+        let end = deadlines[k];
+        if overfull_to(releases, deadlines, cycles, count, top, start, k) {
+            found = smaller(found, end);
+        }
+        k += 1;
+    }
+    found
+}
+
+// Whether the deadline of job k is later than start and the window from start to it is overfull.
+fn overfull_to(
+    releases: &[u64; MAX_JOBS],
+    deadlines: &[u64; MAX_JOBS],
+    cycles: &[u64; MAX_JOBS],
+    count: usize,
+    top: u64,
+    start: u64,
+    k: usize,
+) -> bool
+    requires { ⌜ ValidJobs (jobsIn count (now releases) (now deadlines) (now cycles)) ⌝ }
+    requires { ⌜ (top ≤ maxFrequency) × (k < count) ⌝ }
+    ensures { λ r. ⌜ r ≡ overfullTo top (jobsIn count (now (releases .entry)) (now (deadlines .entry)) (now (cycles .entry))) start k ⌝ }
+{
+    let end = deadlines[k];
+    if end <= start {
+        return false;
+    }
+    let need = cycles_inside(releases, deadlines, cycles, count, start, end);
+    (end - start) * top < need
+}
+
+// The smaller of what was found and another time.
+fn smaller(found: Found, time: u64) -> Found
+    ensures { λ r. ⌜ r ≡ smallerFound found time ⌝ }
+{
+    match found {
+        Found::Nothing => Found::At(time),
+        Found::At(least) => {
+            if time < least {
+                Found::At(time)
+            } else {
+                Found::At(least)
+            }
+        }
+    }
+}
