@@ -1,7 +1,7 @@
 -- The limits of document 01: 0 to 64 jobs, 1 to 8 levels, deadlines up to 1,000,000, cycles 1 to 1,000,000,000,
 -- frequencies 1 to 1,000 and voltages 1 to 500. Each is the largest number allowed.
 -- The code has the same names in src/lib.rt.
-use Prim.Native.Nat.{ℕ}
+use Prim.Native.Nat.{ℕ, _*_}
 
 abbrev pub maxLevels : ℕ
 maxLevels = 8
@@ -11,6 +11,10 @@ maxFrequency = 1_000
 
 abbrev pub maxVoltage : ℕ
 maxVoltage = 500
+
+-- The power of the highest frequency at the highest voltage.
+abbrev pub maxPower : ℕ
+maxPower = maxFrequency * maxVoltage * maxVoltage
 
 abbrev pub maxJobs : ℕ
 maxJobs = 64

@@ -1,0 +1,9 @@
+-- Laws of the definitions, for the proofs of the functions.
+pub mod Products
+pub mod PointTables
+pub mod SmallPoints
+pub mod Filling
+pub mod Dropping
+pub mod Keeping
+pub mod Loads
+pub mod Answers

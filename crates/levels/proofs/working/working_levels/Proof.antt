@@ -1,0 +1,19 @@
+-- `working::working_levels` meets its contract. All points of a valid level table keep the limits and stand whole in their
+-- table (proofs/SmallPoints.antt). Assumes nothing.
+use mathlib.Core.Path.{_∙_}
+use borrow.Author.Needs.{needs}
+use Rattle.levels.proofs.SmallPoints.{points-small, points-held}
+use Rattle.levels.proofs.working.working_levels.Statement.{statement}
+use Rattle.levels.proofs.working.working_levels.Tie as tie
+
+all-points-requires : tie.Need-all-points-requires
+all-points-requires c κs = search needs
+
+working-points-requires : tie.Need-working-points-requires
+working-points-requires c κs = rw (c .all-points .ensures) (points-small _ (c .before .pre))
+
+returns : tie.Need-returns
+returns c = c .working-points .ensures ∙ rw (c .before .all-points .ensures, points-held _ (c .before .before .pre))
+
+pub working-levels-spec : {M : Type 1} → statement M
+working-levels-spec = tie.close (tie.spec all-points-requires working-points-requires returns)
