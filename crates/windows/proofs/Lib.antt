@@ -3,3 +3,4 @@ pub mod Loops
 pub mod Capacity
 pub mod Inserted
 pub mod Padded
+pub mod Pairs
