@@ -25,14 +25,14 @@ module _ (table : PointTable) where
   pub frequency-in : (i : ℕ) → i < table .count → getD (table .frequencies) i 0 ≡ frequencyOf (pointsOf table) i
   frequency-in i below = ap (λ (p : Point). p .frequency) (sym (point-in table i below))
 
-  band-count : bandCount (pointsOf table) ≡ table .count - 1
+  pub band-count : bandCount (pointsOf table) ≡ table .count - 1
   band-count = ap (λ (n : ℕ). n - 1) (length-pointsOf table)
 
   module _ (small : SmallPoints table) where
     pub table-some : 2 ≤ table .count
     table-some = rw (length-pointsOf table) at (small .rising .some)
 
-    frequency-high : (i : ℕ) → i < table .count → getD (table .frequencies) i 0 ≤ 1_000
+    pub frequency-high : (i : ℕ) → i < table .count → getD (table .frequencies) i 0 ≤ 1_000
     frequency-high i below = rw (frequency-in i below) (small .frequency-high i below)
 
     pub load-high : (length i : ℕ) → length ≤ 1_000_000 → i < table .count → length * getD (table .frequencies) i 0 ≤ 1_000_000_000

@@ -1,0 +1,2 @@
+-- What the energy figure is, in terms of the loads of the intervals.
+pub mod Figures
