@@ -1,0 +1,58 @@
+/* Ramyearly: checking clock plans, for the reader's kernel.
+ *
+ * Every function takes byte tables as a pointer and a length in bytes, of any content and length, and numbers of any
+ * value. It returns the answer by value, reads nothing but the bytes it is lent, writes nothing and always returns.
+ * A pointer must be valid for its length; with length 0 it must still not be null.
+ *
+ * number is 0 for an answer, and otherwise the number of the refusal in the paper, with its place (0 where none is
+ * named). Fields that a case does not fill are 0. */
+#ifndef RAMYEARLY_H
+#define RAMYEARLY_H
+
+#include <stddef.h>
+#include <stdint.h>
+
+#ifdef __cplusplus
+extern "C" {
+#endif
+
+struct ramyearly_check_answer {
+    uint32_t number, place;
+    uint64_t energy;
+};
+
+struct ramyearly_setting_answer {
+    uint32_t number, place, band, gap;
+    uint64_t extra;
+};
+
+struct ramyearly_spare_answer {
+    uint32_t number, place;
+    int64_t spare;
+};
+
+/* Accepts a plan and its price list exactly when the plan gives each job its cycles between release and deadline and the
+ * prices fit, and answers the energy figure. Refusals 1 to 10 and 15 to 24. No schedule over the same levels that meets
+ * all deadlines has less than an accepted plan's exact energy. */
+struct ramyearly_check_answer ramyearly_check(
+    const uint8_t *levels, size_t levels_length,
+    const uint8_t *jobs, size_t jobs_length,
+    const uint8_t *plan, size_t plan_length,
+    const uint8_t *prices, size_t prices_length);
+
+/* The setting of one interval: the clock stays extra / gap ticks on working level `band`, first, and the remaining time
+ * on the one below; zeros for load 0. Refusals 1 to 5, 25 and 26. */
+struct ramyearly_setting_answer ramyearly_setting(
+    const uint8_t *levels, size_t levels_length, uint32_t length, uint64_t load);
+
+/* The spare of a window: length x top frequency less the cycles of the jobs inside; negative where the window is
+ * overfull. Refusals 1 to 10 and 27. */
+struct ramyearly_spare_answer ramyearly_spare(
+    const uint8_t *levels, size_t levels_length,
+    const uint8_t *jobs, size_t jobs_length, uint32_t start, uint32_t end);
+
+#ifdef __cplusplus
+}
+#endif
+
+#endif
