@@ -1,21 +1,19 @@
-// The built-in level tables, and what reading answers once they are in bytes.
-use crate::encode::ROOM;
-use crate::encode::put;
-use crate::show;
+// The built-in level tables.
+use crate::read::entries;
 use model::Level;
+use testing::show;
 
-pub(crate) fn both() {
-    let first = tables::first_built_in();
-    print(b"first_built_in", first);
-    read_back(b"first_read_back", first);
-    let second = tables::second_built_in();
-    print(b"second_built_in", second);
-    read_back(b"second_read_back", second);
+pub(crate) fn first() {
+    print(b"levels first_built_in", tables::first_built_in());
 }
 
-fn print(name: &[u8], levels: [Level; 5]) {
-    show::words(b"levels ", name);
-    show::entries(5);
+pub(crate) fn second() {
+    print(b"levels second_built_in", tables::second_built_in());
+}
+
+fn print(words: &[u8], levels: [Level; 5]) {
+    show::words(words);
+    entries(5);
     let mut i = 0;
     while i < 5 {
         let level = levels[i];
@@ -24,20 +22,4 @@ fn print(name: &[u8], levels: [Level; 5]) {
         i += 1;
     }
     show::end();
-}
-
-fn read_back(name: &[u8], levels: [Level; 5]) {
-    read_back_in(&mut [0; ROOM], name, levels);
-}
-
-fn read_back_in(bytes: &mut [u8], name: &[u8], levels: [Level; 5]) {
-    put(bytes, 0, 2, 5);
-    let mut i = 0;
-    while i < 5 {
-        let level = levels[i];
-        put(bytes, 2 + 2 * i, 2, level.frequency);
-        put(bytes, 12 + 2 * i, 2, level.voltage);
-        i += 1;
-    }
-    show::levels(name, bytes, 22);
 }

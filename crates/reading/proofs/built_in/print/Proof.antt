@@ -5,13 +5,10 @@ use Rattle.reading.proofs.built_in.print.Statement.{statement}
 use Rattle.reading.proofs.built_in.print.Tie as tie
 
 abbrev Inv-loop : tie.InvT-loop
-Inv-loop name levels i₀ i = Unit
+Inv-loop words levels i₀ i = Unit
 
 abbrev μ-loop : tie.MeasureT-loop
-μ-loop name levels i₀ i = 5 - i
-
-slice-aggregate-words : tie.Need-slice-aggregate-words Inv-loop μ-loop
-slice-aggregate-words c = search needs
+μ-loop words levels i₀ i = 5 - i
 
 words-requires : tie.Need-words-requires Inv-loop μ-loop
 words-requires c κs = search needs
@@ -55,7 +52,6 @@ print-spec =
     (tie.spec
     Inv-loop
     μ-loop
-    slice-aggregate-words
     words-requires
     entries-requires
     loop-holds

@@ -1,14 +1,14 @@
--- `show::job_entries` meets its contract: the index is below the arrays' length. Assumes nothing.
+-- `read::level_entries` meets its contract: the index is below the arrays' length. Assumes nothing.
 use Prim.Native.Nat.{_-_}
 use borrow.Author.Needs.{needs}
-use Rattle.reading.proofs.show.job_entries.Statement.{statement}
-use Rattle.reading.proofs.show.job_entries.Tie as tie
+use Rattle.reading.proofs.read.level_entries.Statement.{statement}
+use Rattle.reading.proofs.read.level_entries.Tie as tie
 
 abbrev Inv-loop : tie.InvT-loop
-Inv-loop count releases deadlines cycles j₀ j = Unit
+Inv-loop count frequencies voltages i₀ i = Unit
 
 abbrev μ-loop : tie.MeasureT-loop
-μ-loop count releases deadlines cycles j₀ j = 64 - j
+μ-loop count frequencies voltages i₀ i = 8 - i
 
 entries-requires : tie.Need-entries-requires Inv-loop μ-loop
 entries-requires c κs = search needs
@@ -34,17 +34,8 @@ element-copy-out-number-2 c = search needs
 number-requires-2 : tie.Need-number-requires-2 Inv-loop μ-loop
 number-requires-2 c κs = search needs
 
-mul-number-3 : tie.Need-mul-number-3 Inv-loop μ-loop
-mul-number-3 c = search needs
-
-element-copy-out-number-3 : tie.Need-element-copy-out-number-3 Inv-loop μ-loop
-element-copy-out-number-3 c = search needs
-
-number-requires-3 : tie.Need-number-requires-3 Inv-loop μ-loop
-number-requires-3 c κs = search needs
-
-add-j : tie.Need-add-j Inv-loop μ-loop
-add-j c = search needs
+add-i : tie.Need-add-i Inv-loop μ-loop
+add-i c = search needs
 
 loop-less : tie.Need-loop-less Inv-loop μ-loop
 loop-less c = search needs
@@ -55,8 +46,8 @@ loop-again c = search needs
 returns : tie.Need-returns Inv-loop μ-loop
 returns c = search needs
 
-pub job-entries-spec : {M : Type 1} → statement M
-job-entries-spec =
+pub level-entries-spec : {M : Type 1} → statement M
+level-entries-spec =
     tie.close
     (tie.spec
     Inv-loop
@@ -69,10 +60,7 @@ job-entries-spec =
     mul-number-2
     element-copy-out-number-2
     number-requires-2
-    mul-number-3
-    element-copy-out-number-3
-    number-requires-3
-    add-j
+    add-i
     loop-less
     loop-again
     returns)

@@ -1,13 +1,17 @@
--- `encode::put` meets its contract. The loop's invariant: the slice keeps its length. Assumes nothing.
+-- `encode::put` meets its contract. The loop's invariant: the slice keeps its length, and the place is within it.
+-- Assumes nothing.
 use mathlib.Core.Logic.{⊎-elim}
-use mathlib.Core.Path.{_≡_}
+use mathlib.Core.Path.{_≡_, ap}
+use Prim.Native.Nat.{_≤_}
+use native.Mathlib.Omega.{arith}
 use lib.ListN.{length, length-set}
 use borrow.Author.Needs.{needs}
-use Rattle.reading.proofs.encode.put.Statement.{statement}
-use Rattle.reading.proofs.encode.put.Tie as tie
+use Rattle.testing.proofs.encode.put.Statement.{statement}
+use Rattle.testing.proofs.encode.put.Tie as tie
 
 abbrev Inv-loop : tie.InvT-loop
-Inv-loop bytes₀ place width number at₀ rest₀ left₀ bytes at rest left = length bytes ≡ length bytes₀
+Inv-loop bytes₀ place width number at₀ rest₀ left₀ bytes at rest left =
+    (length bytes ≡ length bytes₀) × (at ≤ length bytes)
 
 abbrev μ-loop : tie.MeasureT-loop
 μ-loop bytes₀ place width number at₀ rest₀ left₀ bytes at rest left = left
@@ -31,7 +35,11 @@ loop-less : tie.Need-loop-less Inv-loop μ-loop
 loop-less c = search needs
 
 loop-again : tie.Need-loop-again Inv-loop μ-loop
-loop-again c = ⊎-elim (λ w. rw (w .1, length-set) (c .before .before .loop .inv)) (λ w. search needs) (c .if1 .came)
+loop-again c =
+    ⊎-elim
+    (λ w. omega (arith, simp length-set at (ap length (w .1))))
+    (λ w. omega (arith, ap length (w .1)))
+    (c .if1 .came)
 
 same-length : tie.Need-same-length Inv-loop μ-loop
 same-length c = search needs

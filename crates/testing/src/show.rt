@@ -1,0 +1,54 @@
+// Printing the line of a case.
+ghost use mathlib.Core.Path.{_≡_};
+ghost use Prim.Native.Nat.{_≤_};
+ghost use lib.IntN.{natAbs};
+ghost use lib.ListN.{length};
+use crate::text::find;
+use libc::STDOUT_FILENO;
+
+pub fn words(text: &[u8]) {
+    io::write_all(STDOUT_FILENO, text);
+}
+
+// A line's words, up to the one at a place.
+pub fn words_to(line: &[u8], place: usize)
+    requires { ⌜ place ≤ length (now line) ⌝ }
+{
+    let end = find(line, place, b' ');
+    words(&line[..end]);
+}
+
+pub fn number(value: u64) {
+    words(b" ");
+    io::print_decimal(STDOUT_FILENO, value);
+}
+
+pub fn signed(value: i64) {
+    if value < 0 {
+        words(b" -");
+    } else {
+        words(b" ");
+    }
+    io::print_decimal(STDOUT_FILENO, magnitude(value));
+}
+
+// A number without its sign. The least number has one too: one more than it can be negated.
+fn magnitude(value: i64) -> u64
+    ensures { λ r. ⌜ r ≡ natAbs value ⌝ }
+{
+    if value < 0 {
+        -(value + 1) as u64 + 1
+    } else {
+        value as u64
+    }
+}
+
+pub fn refusal(refused: u32, place: u32) {
+    words(b" refused");
+    number(refused as u64);
+    number(place as u64);
+}
+
+pub fn end() {
+    words(b"\n");
+}

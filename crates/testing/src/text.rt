@@ -1,0 +1,54 @@
+// Cases in text: a line has words and numbers, with a space between two of them.
+ghost use Prim.Native.Nat.{_<_, _≤_};
+ghost use lib.ListN.{length};
+ghost use Rattle.io.specs.Counts.{Counts};
+
+// The first place from a start on that has the byte, or the end of the text.
+pub fn find(text: &[u8], start: usize, byte: u8) -> usize
+    requires { ⌜ start ≤ length (now text) ⌝ }
+    ensures { λ r. ⌜ (start ≤ r) × Counts r (now (text .entry)) ⌝ }
+{
+    let mut i = start;
+    while i < text.len() {
+        if text[i] == byte {
+            return i;
+        }
+        i += 1;
+    }
+    i
+}
+
+// The place after the word or number at a place and after the space behind it.
+pub fn next(line: &[u8], place: usize) -> usize
+    requires { ⌜ place ≤ length (now line) ⌝ }
+    ensures { λ r. ⌜ (r ≤ length (now (line .entry))) × (place < length (now (line .entry)) → place < r) ⌝ }
+{
+    let end = find(line, place, b' ');
+    if end < line.len() { end + 1 } else { end }
+}
+
+// The number at a place, which is below 2 to the power 32.
+pub fn number(line: &[u8], place: usize) -> u32 {
+    let mut value = 0u64;
+    let mut i = place;
+    while i < line.len() {
+        let digit = digit(line[i]);
+        if digit > 9 {
+            return value as u32;
+        }
+        value = (value * 10 + digit) % 4_294_967_296;
+        i += 1;
+    }
+    value as u32
+}
+
+// The value of a digit, or 10 for another byte.
+pub(crate) fn digit(byte: u8) -> u64 {
+    if byte < b'0' {
+        return 10;
+    }
+    if byte > b'9' {
+        return 10;
+    }
+    (byte - b'0') as u64
+}
