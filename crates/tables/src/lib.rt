@@ -11,6 +11,8 @@ pub use jobs::JobTable;
 pub use jobs::read_jobs;
 pub use levels::LevelTable;
 pub use levels::read_levels;
+pub use numbers::number16;
+pub use numbers::number32;
 
 // What reading a table answers: how many entries it has, or the refusal's number and place.
 pub enum Reading {

@@ -14,14 +14,14 @@ fn wide(byte: u8) -> u64
     byte as u64
 }
 
-pub(crate) fn number16(bytes: &[u8], place: usize) -> u64
+pub fn number16(bytes: &[u8], place: usize) -> u64
     requires { ⌜ place + 2 ≤ length (now bytes) ⌝ }
     ensures { λ r. ⌜ (r ≡ at16 (now (bytes .entry)) place) × (r < 65536) ⌝ }
 {
     wide(bytes[place]) + 256 * wide(bytes[place + 1])
 }
 
-pub(crate) fn number32(bytes: &[u8], place: usize) -> u64
+pub fn number32(bytes: &[u8], place: usize) -> u64
     requires { ⌜ place + 4 ≤ length (now bytes) ⌝ }
     ensures { λ r. ⌜ r ≡ at32 (now (bytes .entry)) place ⌝ }
 {

@@ -1,0 +1,14 @@
+-- Laws of the definitions, for the proofs of the functions.
+pub mod Walking
+pub mod Verdicts
+pub mod Arrays
+pub mod Tallies
+pub mod SeenSets
+pub mod BoundsIn
+pub mod StepFaults
+pub mod FirstHalf
+pub mod LeastPrices
+pub mod PriceFaults
+pub mod SecondHalf
+pub mod BothHalves
+pub mod CheckedLevels

@@ -1,0 +1,72 @@
+-- `cheapest::cheapest_prices` meets its contract. The loop's invariant: the prices of the jobs passed are filled, zeros after
+-- them. Assumes nothing.
+use mathlib.Core.Path.{_≡_}
+use Prim.Native.Nat.{_-_, _≤_}
+use native.Mathlib.Omega.{arith}
+use Rattle.tables.specs.Column.{columnOf}
+use Rattle.tables.proofs.Column.{column-none, column-more, column-whole}
+use Rattle.audit.specs.SecondHalf.{cheapestFor}
+use Rattle.audit.proofs.cheapest.cheapest_prices.Statement.{statement}
+use Rattle.audit.proofs.cheapest.cheapest_prices.Tie as tie
+
+abbrev Inv-loop : tie.InvT-loop
+Inv-loop bands releases deadlines count times bounds numbers cheapest₀ j₀ cheapest j =
+    (j ≤ count) × (cheapest ≡ columnOf 64 j (cheapestFor bands releases deadlines times bounds numbers))
+
+abbrev μ-loop : tie.MeasureT-loop
+μ-loop bands releases deadlines count times bounds numbers cheapest₀ j₀ cheapest j = count - j
+
+loop-holds : tie.Need-loop-holds Inv-loop μ-loop
+loop-holds c = (omega arith, column-none 64 _)
+
+mul-cheapest-price : tie.Need-mul-cheapest-price Inv-loop μ-loop
+mul-cheapest-price c = omega arith
+
+element-copy-out-cheapest-price : tie.Need-element-copy-out-cheapest-price Inv-loop μ-loop
+element-copy-out-cheapest-price c = omega arith
+
+mul-cheapest-price-2 : tie.Need-mul-cheapest-price-2 Inv-loop μ-loop
+mul-cheapest-price-2 c = omega arith
+
+element-copy-out-cheapest-price-2 : tie.Need-element-copy-out-cheapest-price-2 Inv-loop μ-loop
+element-copy-out-cheapest-price-2 c = omega arith
+
+cheapest-price-requires : tie.Need-cheapest-price-requires Inv-loop μ-loop
+cheapest-price-requires c κs = omega arith
+
+mul-cheapest : tie.Need-mul-cheapest Inv-loop μ-loop
+mul-cheapest c = omega arith
+
+array-write-cheapest : tie.Need-array-write-cheapest Inv-loop μ-loop
+array-write-cheapest c = omega arith
+
+add-j : tie.Need-add-j Inv-loop μ-loop
+add-j c = omega arith
+
+loop-less : tie.Need-loop-less Inv-loop μ-loop
+loop-less c = omega arith
+
+loop-again : tie.Need-loop-again Inv-loop μ-loop
+loop-again c = (omega arith, column-more 64 _ _ _ _ (omega arith) (c .before .before .before .before .loop .inv .1) (c .cheapest-price .ensures))
+
+returns : tie.Need-returns Inv-loop μ-loop
+returns c = column-whole 64 _ _ _ _ (c .before .loop .inv .0) (c .loop-test .left) (c .before .loop .inv .1)
+
+pub cheapest-prices-spec : {M : Type 1} → statement M
+cheapest-prices-spec =
+    tie.close
+    (tie.spec
+    Inv-loop
+    μ-loop
+    loop-holds
+    mul-cheapest-price
+    element-copy-out-cheapest-price
+    mul-cheapest-price-2
+    element-copy-out-cheapest-price-2
+    cheapest-price-requires
+    mul-cheapest
+    array-write-cheapest
+    add-j
+    loop-less
+    loop-again
+    returns)

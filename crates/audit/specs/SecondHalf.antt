@@ -1,0 +1,60 @@
+-- The second half of the check over plain arrays.
+use Prim.Native.Nat.{ℕ, zero, suc, _+_, _-_, _*_, _<_, _≤_, min}
+use mathlib.Core.Path.{_≡_}
+use mathlib.Core.Bool.{Bool, not, cond, _&&_, _||_}
+use mathlib.Core.List.{List}
+use lib.ListN.{length, getD}
+use lib.Dec.{ltb, leb, eqb}
+use Rattle.model.specs.Points.{Point}
+use Rattle.model.specs.Prices.{fitsLoad}
+use Rattle.model.specs.Steps.{stepCount, stepAt}
+use Rattle.model.specs.PriceBytes.{priceIntervals, endAt}
+use Rattle.audit.specs.FirstHalf.{intervalLoads}
+
+-- A plan whose steps each have one of the jobs and one of the intervals between the bounds, and the loads that they make.
+pub record Planned (jobs bounds : ℕ) (plan loads : List ℕ) : Type 0 where
+  pub size : length plan ≡ 4 + 6 * stepCount plan
+  pub step-interval : (s : ℕ) → s < stepCount plan → stepAt plan s .interval < bounds - 1
+  pub step-job : (s : ℕ) → s < stepCount plan → stepAt plan s .job < jobs
+  pub loaded : loads ≡ intervalLoads plan
+
+-- The price of each interval is the number of a band, counted from 1.
+pub record BandNumbers (bands intervals : ℕ) (numbers : List ℕ) : Type 0 where
+  pub low : (i : ℕ) → i < intervals → 1 ≤ getD numbers i 0
+  pub high : (i : ℕ) → i < intervals → getD numbers i 0 ≤ bands
+
+-- Refusal 21: price list under 2 bytes, wrong N, or length not 2 + 5N.
+abbrev pub wrongLengthIn : (intervals : ℕ) → (prices : List ℕ) → Bool
+wrongLengthIn intervals prices =
+    ltb (length prices) 2 || not (eqb (priceIntervals prices) intervals) || not (eqb (length prices) (2 + 5 * intervals))
+
+-- Refusal 22 at an interval, over times and prices in arrays; 0 for none.
+abbrev pub entryFaultIn : (bands : ℕ) → (times prices numbers : List ℕ) → (interval : ℕ) → ℕ
+entryFaultIn bands times prices numbers i =
+    cond (eqb (endAt prices i) (getD times (i + 1) 0) && (leb 1 (getD numbers i 0) && leb (getD numbers i 0) bands)) 0 22
+
+-- Refusal 23 at an interval, over times, loads and prices in arrays; 0 for none.
+abbrev pub priceFaultIn : List Point → (times loads numbers : List ℕ) → (interval : ℕ) → ℕ
+priceFaultIn ws times loads numbers i =
+    cond (fitsLoad ws (getD times (i + 1) 0 - getD times i 0) (getD loads i 0) (getD numbers i 0)) 0 23
+
+-- A job with this release and deadline is open in interval i between the times.
+abbrev pub openBetween : (release deadline : ℕ) → (times : List ℕ) → (i : ℕ) → Bool
+openBetween release deadline times i = leb release (getD times i 0) && leb (getD times (i + 1) 0) deadline
+
+-- The smallest price of the first `count` intervals that pass the test; `most` where none does or none has a smaller price.
+unfoldable pub cheapestBelow : (most count : ℕ) → (test : ℕ → Bool) → (price : ℕ → ℕ) → ℕ
+cheapestBelow most zero test price = most
+cheapestBelow most (suc count) test price =
+    let rest : ℕ = cheapestBelow most count test price in
+    cond (test count) (min (price count) rest) rest
+
+-- The smallest price of the intervals that job j is open in, the number of bands where it is open in none.
+abbrev pub cheapestFor : (bands : ℕ) → (releases deadlines times : List ℕ) → (bounds : ℕ) → (numbers : List ℕ) → (j : ℕ) → ℕ
+cheapestFor bands releases deadlines times bounds numbers j =
+    cheapestBelow bands (bounds - 1) (openBetween (getD releases j 0) (getD deadlines j 0) times) (λ i. getD numbers i 0)
+
+-- Refusal 24 at a step: its job has a cheaper interval than the step's; 0 for none.
+abbrev pub cheaperFaultIn : (cheapest numbers plan : List ℕ) → (s : ℕ) → ℕ
+cheaperFaultIn cheapest numbers plan s =
+    cond (ltb (getD cheapest (stepAt plan s .job) 0) (getD numbers (stepAt plan s .interval) 0)) 24 0

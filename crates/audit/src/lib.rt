@@ -1,0 +1,19 @@
+// Checking a plan and its price list, and walking a plan.
+mod cells;
+mod cheapest;
+mod checking;
+mod fitting;
+mod pricing;
+mod steps;
+
+pub use checking::CheckAnswer;
+pub use checking::check;
+pub use steps::Step;
+pub use steps::StepAnswer;
+pub use steps::step_at;
+
+// What a half of the check finds: that nothing is wrong, or the refusal's number and place.
+pub enum Verdict {
+    Passed,
+    Refused { number: u32, place: u32 },
+}

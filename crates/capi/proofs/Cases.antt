@@ -1,0 +1,136 @@
+-- From the case of an answer to the struct for C, and that a setting's gap fits its field.
+-- Assumes nothing.
+use mathlib.Core.Path.{_≡_, refl, ap}
+use mathlib.Core.Bool.{Bool, not, _&&_}
+use mathlib.Core.Logic.{_⊎_, inl, inr}
+use mathlib.Core.List.{List}
+use Prim.Native.Nat.{ℕ, zero, suc, _*_, _-_, _<_, _≤_}
+use native.Mathlib.Omega.{arith}
+use lib.Dec.{ltb, leb}
+use lib.ListN.{length, getD, List·getD-eq-default}
+use lib.IntN.{ℤ, pos}
+use Rattle.model.specs.declared.Level.{Level}
+use Rattle.model.specs.Limits.{maxFrequency, maxDeadline}
+use Rattle.model.specs.Outcome.{Outcome, refused, answer, refuseWhen, andThen}
+use Rattle.model.specs.Levels.{readLevels, ValidLevels}
+use Rattle.model.specs.Points.{Point, pointAt, idlingPoint, topFrequency}
+use Rattle.model.specs.Bands.{frequencyOf, gap}
+use Rattle.model.specs.Setting.{Setting, bandOf, settingOf, setting, workingOf}
+use Rattle.model.specs.Windows.{spare}
+use Rattle.model.specs.Checking.{check}
+use Rattle.model.proofs.Numbers.{lt-or-le}
+use Rattle.model.proofs.Outcome.{answered-past, answer-injective, andThen-answered}
+use Rattle.model.proofs.Levels.{levels-valid}
+use Rattle.levels.specs.declared.interval.SettingAnswer.the-variants.{Set, Refused}
+use Rattle.levels.specs.Settings.{settingAnswer}
+use Rattle.levels.specs.PointTables.{pointsOf, pointTable}
+use Rattle.levels.proofs.SmallPoints.{working-small, working-held}
+use Rattle.windows.specs.declared.window.SpareAnswer.the-variants.{Spare, Refused as SpareRefused}
+use Rattle.windows.specs.Answers.{spareAnswer}
+use Rattle.audit.specs.declared.checking.CheckAnswer.the-variants.{Accepted, Refused as CheckRefused}
+use Rattle.audit.specs.Answers.{checkAnswer}
+use Rattle.capi.specs.Results.{checkResult, settingResult, spareResult}
+
+accepted-result : (outcome : Outcome ℕ) (energy : ℕ) → Accepted energy ≡ checkAnswer outcome
+    → record { number = 0; place = 0; energy = energy } ≡ checkResult outcome
+accepted-result (refused number place) energy e = cc e
+accepted-result (answer found) energy e = let same : energy ≡ found = cc e in λ k. record { number = 0; place = 0; energy = same k }
+
+unaccepted-result : (outcome : Outcome ℕ) (number place : ℕ) → CheckRefused number place ≡ checkAnswer outcome
+    → record { number = number; place = place; energy = 0 } ≡ checkResult outcome
+unaccepted-result (refused n p) number place e =
+    let same-number : number ≡ n = cc e in
+    let same-place : place ≡ p = cc e in
+    λ k. record { number = same-number k; place = same-place k; energy = 0 }
+unaccepted-result (answer found) number place e = cc e
+
+set-result : (outcome : Outcome Setting) (band extra gap : ℕ) → Set band extra gap ≡ settingAnswer outcome
+    → record { number = 0; place = 0; band = band; gap = gap; extra = extra } ≡ settingResult outcome
+set-result (refused number place) band extra gap e = cc e
+set-result (answer s) band extra gap e =
+    let same-band : band ≡ s .band = cc e in
+    let same-extra : extra ≡ s .extra = cc e in
+    let same-gap : gap ≡ s .gap = cc e in
+    λ k. record { number = 0; place = 0; band = same-band k; gap = same-gap k; extra = same-extra k }
+
+refused-result : (outcome : Outcome Setting) (number place : ℕ) → Refused number place ≡ settingAnswer outcome
+    → record { number = number; place = place; band = 0; gap = 0; extra = 0 } ≡ settingResult outcome
+refused-result (refused n p) number place e =
+    let same-number : number ≡ n = cc e in
+    let same-place : place ≡ p = cc e in
+    λ k. record { number = same-number k; place = same-place k; band = 0; gap = 0; extra = 0 }
+refused-result (answer s) number place e = cc e
+
+spare-result : (outcome : Outcome ℤ) (z : ℤ) → Spare z ≡ spareAnswer outcome
+    → record { number = 0; place = 0; spare = z } ≡ spareResult outcome
+spare-result (refused number place) z e = cc e
+spare-result (answer found) z e = let same : z ≡ found = cc e in λ k. record { number = 0; place = 0; spare = same k }
+
+no-spare-result : (outcome : Outcome ℤ) (number place : ℕ) → SpareRefused number place ≡ spareAnswer outcome
+    → record { number = number; place = place; spare = pos 0 } ≡ spareResult outcome
+no-spare-result (refused n p) number place e =
+    let same-number : number ≡ n = cc e in
+    let same-place : place ≡ p = cc e in
+    λ k. record { number = same-number k; place = same-place k; spare = pos 0 }
+no-spare-result (answer found) number place e = cc e
+
+-- the outcome is that of an operation on bytes
+module _ (levelBytes jobBytes plan prices : List ℕ) where
+  pub check-accepted : (energy : ℕ) → Accepted energy ≡ checkAnswer (check levelBytes jobBytes plan prices)
+      → record { number = 0; place = 0; energy = energy } ≡ checkResult (check levelBytes jobBytes plan prices)
+  check-accepted = accepted-result (check levelBytes jobBytes plan prices)
+
+  pub check-refused : (number place : ℕ) → CheckRefused number place ≡ checkAnswer (check levelBytes jobBytes plan prices)
+      → record { number = number; place = place; energy = 0 } ≡ checkResult (check levelBytes jobBytes plan prices)
+  check-refused = unaccepted-result (check levelBytes jobBytes plan prices)
+
+module _ (bytes : List ℕ) (length load : ℕ) where
+  pub setting-set : (band extra gap : ℕ) → Set band extra gap ≡ settingAnswer (setting bytes length load)
+      → record { number = 0; place = 0; band = band; gap = gap; extra = extra } ≡ settingResult (setting bytes length load)
+  setting-set = set-result (setting bytes length load)
+
+  pub setting-refused : (number place : ℕ) → Refused number place ≡ settingAnswer (setting bytes length load)
+      → record { number = number; place = place; band = 0; gap = 0; extra = 0 } ≡ settingResult (setting bytes length load)
+  setting-refused = refused-result (setting bytes length load)
+
+module _ (levelBytes jobBytes : List ℕ) (start end : ℕ) where
+  pub spare-found : (z : ℤ) → Spare z ≡ spareAnswer (spare levelBytes jobBytes start end)
+      → record { number = 0; place = 0; spare = z } ≡ spareResult (spare levelBytes jobBytes start end)
+  spare-found = spare-result (spare levelBytes jobBytes start end)
+
+  pub spare-refused : (number place : ℕ) → SpareRefused number place ≡ spareAnswer (spare levelBytes jobBytes start end)
+      → record { number = number; place = place; spare = pos 0 } ≡ spareResult (spare levelBytes jobBytes start end)
+  spare-refused = no-spare-result (spare levelBytes jobBytes start end)
+
+-- no working level is above the highest frequency
+frequency-high : (levels : List Level) → ValidLevels levels → (k : ℕ) → frequencyOf (workingOf levels) k ≤ maxFrequency
+frequency-high levels valid k = go (lt-or-le k (length (workingOf levels)))
+  where
+    go : (k < length (workingOf levels)) ⊎ (length (workingOf levels) ≤ k) → frequencyOf (workingOf levels) k ≤ maxFrequency
+    go (inl inside) = rw (working-held levels valid) at (working-small levels valid .frequency-high k inside)
+    go (inr past) =
+        let past-all = ap (λ (p : Point). p .frequency) (List·getD-eq-default (workingOf levels) (idlingPoint 0) past) in
+        omega arith
+
+settingOf-gap : (levels : List Level) → ValidLevels levels → (length load : ℕ) → settingOf (workingOf levels) length load .gap ≤ maxFrequency
+unfolding settingOf gap
+settingOf-gap levels valid length zero = omega arith
+settingOf-gap levels valid length (suc cycles) =
+    omega (arith, frequency-high levels valid (suc (bandOf (workingOf levels) length (suc cycles))))
+
+answered-gap : (bytes : List ℕ) (length load : ℕ) (s : Setting) → setting bytes length load ≡ answer s → s .gap ≤ maxFrequency
+unfolding setting
+answered-gap bytes length load s answered =
+    let read = andThen-answered (readLevels bytes) _ answered in
+    let long = answered-past (not (leb 1 length && leb length maxDeadline)) 25 _ (read .2) in
+    let fits = answered-past (ltb (length * topFrequency (read .0)) load) 26 _ (long .1) in
+    rw (answer-injective (fits .1)) at (settingOf-gap (read .0) (levels-valid bytes (read .0) (read .1)) length load)
+
+-- the gap that a setting answers
+pub gap-small : (bytes : List ℕ) (length load band extra gap : ℕ) → Set band extra gap ≡ settingAnswer (setting bytes length load) → gap ≤ maxFrequency
+gap-small bytes length load band extra gap e = go (setting bytes length load) (answered-gap bytes length load) e
+  where
+    go : (outcome : Outcome Setting) → ((s : Setting) → outcome ≡ answer s → s .gap ≤ maxFrequency)
+        → Set band extra gap ≡ settingAnswer outcome → gap ≤ maxFrequency
+    go (refused number place) small e = let z : _≡_ {A = ℕ} 0 1 = cc e in absurd (omega arith)
+    go (answer s) small e = let same : gap ≡ s .gap = cc e in omega (arith, small s refl)

@@ -1,0 +1,2 @@
+-- What the functions for C return, for each outcome.
+pub mod Results

@@ -1,0 +1,102 @@
+// The kernel's interface, for C: byte slices are a pointer and a length, answers are structs by value. No function
+// requires anything of its caller. The header is include/ramyearly.h.
+ghost use mathlib.Core.Path.{_≡_};
+ghost use Rattle.model.specs.Checking.{check as checkOf};
+ghost use Rattle.model.specs.Setting.{setting as settingFor};
+ghost use Rattle.model.specs.Windows.{spare as spareFor};
+ghost use Rattle.capi.specs.Results.{checkResult, settingResult, spareResult};
+use audit::CheckAnswer;
+use levels::SettingAnswer;
+use windows::SpareAnswer;
+
+// The check of a plan and its price list. Number 0: accepted; otherwise the refusal's number and place, and 0.
+#[repr(C)]
+pub struct CheckResult {
+    pub number: u32,
+    pub place: u32,
+    pub energy: u64,
+}
+
+// The setting of one interval. Number 0: answered; otherwise the refusal's number and place, and zeros.
+#[repr(C)]
+pub struct SettingResult {
+    pub number: u32,
+    pub place: u32,
+    pub band: u32,
+    pub gap: u32,
+    pub extra: u64,
+}
+
+// The spare of a window. Number 0: answered; otherwise the refusal's number and place, and 0.
+#[repr(C)]
+pub struct SpareResult {
+    pub number: u32,
+    pub place: u32,
+    pub spare: i64,
+}
+
+#[no_mangle]
+pub extern "C" fn ramyearly_check(
+    levels: &[u8],
+    jobs: &[u8],
+    plan: &[u8],
+    prices: &[u8],
+) -> CheckResult
+    ensures { λ r. ⌜ r ≡ checkResult (checkOf (now (levels .entry)) (now (jobs .entry)) (now (plan .entry)) (now (prices .entry))) ⌝ }
+{
+    let answer = audit::check(levels, jobs, plan, prices);
+    match answer {
+        CheckAnswer::Accepted { energy } => CheckResult {
+            number: 0,
+            place: 0,
+            energy,
+        },
+        CheckAnswer::Refused { number, place } => CheckResult {
+            number,
+            place,
+            energy: 0,
+        },
+    }
+}
+
+#[no_mangle]
+pub extern "C" fn ramyearly_setting(levels: &[u8], length: u32, load: u64) -> SettingResult
+    ensures { λ r. ⌜ r ≡ settingResult (settingFor (now (levels .entry)) length load) ⌝ }
+{
+    let answer = levels::setting(levels, length, load);
+    match answer {
+        SettingAnswer::Set { band, extra, gap } => SettingResult {
+            number: 0,
+            place: 0,
+            band,
+            gap: gap as u32,
+            extra,
+        },
+        SettingAnswer::Refused { number, place } => SettingResult {
+            number,
+            place,
+            band: 0,
+            gap: 0,
+            extra: 0,
+        },
+    }
+}
+
+#[no_mangle]
+pub extern "C" fn ramyearly_spare(levels: &[u8], jobs: &[u8], start: u32, end: u32) -> SpareResult
+    ensures { λ r. ⌜ r ≡ spareResult (spareFor (now (levels .entry)) (now (jobs .entry)) start end) ⌝ }
+{
+    let answer = windows::spare(levels, jobs, start, end);
+    match answer {
+        SpareAnswer::Spare(spare) => SpareResult {
+            number: 0,
+            place: 0,
+            spare,
+        },
+        SpareAnswer::Refused { number, place } => SpareResult {
+            number,
+            place,
+            spare: 0,
+        },
+    }
+}
