@@ -1,5 +1,5 @@
 -- The lines of document 01's "Sites to try" that are marked P, as one table. That every line holds is one statement,
--- proved in proofs/SiteLines.antt by computing the definitions. Lines on checking and planning join with these operations.
+-- proved in proofs/SiteLines.antt by computing the definitions. Lines on planning join with that operation.
 use Prim.Native.Nat.{ℕ, zero, suc, _+_, _*_}
 use mathlib.Core.Bool.{Bool, true, false, _&&_}
 use mathlib.Core.List.{List, [], _∷_, map}
@@ -18,6 +18,7 @@ use Rattle.model.specs.Intervals.{boundsOf, intervalCount}
 use Rattle.model.specs.Windows.{Window, spare, earliestOverfull}
 use Rattle.model.specs.Bands.{scale}
 use Rattle.model.specs.Plans.{Shares}
+use Rattle.model.specs.Checking.{check}
 use Rattle.model.specs.Energy.{intervalEnergy, exactEnergy, energyFigure}
 
 abbrev pub job : (release deadline cycles : ℕ) → Job
@@ -42,6 +43,8 @@ pub data SiteLine : Type 0 where
   -- the number of intervals, and the energy without any share, exact and reported
   intervals : List Job → (count : ℕ) → SiteLine
   idleEnergy : List Level → List Job → (energy : ℕ) → SiteLine
+  -- the check accepts a plan and its price list with an energy figure
+  accepts : List Level → List Job → (plan prices : List ℕ) → (figure : ℕ) → SiteLine
   -- the exact energy of one interval is a whole number
   costs : List Level → (length load : ℕ) → (energy : ℕ) → SiteLine
   -- the energy figure of a plan, and its exact energy: `over` parts of `parts` above the figure
@@ -66,6 +69,7 @@ pLines =
     -- no jobs: N = 0, energy 0
     ∷ intervals [] 0
     ∷ idleEnergy T [] 0
+    ∷ accepts T [] (0 ∷ 0 ∷ 0 ∷ 0 ∷ []) (0 ∷ 0 ∷ []) 0
     -- T, two equal jobs 0 2 of 4 cycles fit; three have spare −4
     ∷ fits T (job 0 2 4 ∷ job 0 2 4 ∷ [])
     ∷ spares T (job 0 2 4 ∷ job 0 2 4 ∷ job 0 2 4 ∷ []) 0 2 (negsuc 3)
@@ -80,6 +84,17 @@ listedShares (suc zero) (suc j) = 4
 listedShares (suc (suc i)) zero = 2
 listedShares (suc (suc i)) (suc j) = 0
 
+-- Its bytes: N, S, the cells, the cycles; and N, the interval ends, the prices.
+abbrev pub listedPlan : List ℕ
+listedPlan =
+    3 ∷ 0 ∷ 3 ∷ 0
+    ∷ 0 ∷ 0 ∷ 65 ∷ 0 ∷ 128 ∷ 0
+    ∷ 4 ∷ 0 ∷ 0 ∷ 0 ∷ 4 ∷ 0 ∷ 0 ∷ 0 ∷ 2 ∷ 0 ∷ 0 ∷ 0
+    ∷ []
+
+abbrev pub listedPrices : List ℕ
+listedPrices = 3 ∷ 0 ∷ 2 ∷ 0 ∷ 0 ∷ 0 ∷ 3 ∷ 0 ∷ 0 ∷ 0 ∷ 4 ∷ 0 ∷ 0 ∷ 0 ∷ 1 ∷ 2 ∷ 1 ∷ []
+
 -- Further worked lines of document 01 that the definitions compute.
 unfoldable pub workedLines : List SiteLine
 workedLines =
@@ -88,13 +103,18 @@ workedLines =
     ∷ costs T 3 7 1_300
     -- first built-in table, one job 0 1 with 401 cycles: figure 4,018,415, the exact energy 105/133 higher
     ∷ needs firstBuiltIn (job 0 1 401 ∷ []) (λ i j. 401) 4_018_415 105 133
-    -- T, jobs 0 4 6 and 2 3 4: energy 2,200
+    -- T, jobs 0 4 6 and 2 3 4: energy 2,200, and the check accepts the plan that the listing prints
     ∷ needs T (job 0 4 6 ∷ job 2 3 4 ∷ []) listedShares 2_200 0 1
+    ∷ accepts T (job 0 4 6 ∷ job 2 3 4 ∷ []) listedPlan listedPrices 2_200
     ∷ []
 
 sameSetting : Outcome Setting → (band extra gap : ℕ) → Bool
 sameSetting (refused number place) band extra gap = false
 sameSetting (answer setting) band extra gap = eqb (setting .band) band && eqb (setting .extra) extra && eqb (setting .gap) gap
+
+sameNumber : Outcome ℕ → (wanted : ℕ) → Bool
+sameNumber (refused number place) wanted = false
+sameNumber (answer n) wanted = eqb n wanted
 
 sameRefusal : {A : Type 0} → Outcome A → (number : ℕ) → Bool
 sameRefusal (refused number place) wanted = eqb number wanted && eqb place 0
@@ -130,7 +150,7 @@ isNone (some window) = false
 
 -- The line holds, as the definitions compute.
 unfoldable pub holds : SiteLine → Bool
-unfolding sameSetting sameRefusal sameInteger sameSpare sameNumbers sameWorking sameWindow isNone
+unfolding sameSetting sameNumber sameRefusal sameInteger sameSpare sameNumbers sameWorking sameWindow isNone
 holds (sets levels length load band extra gap) = sameSetting (setting (encodeLevels levels) length load) band extra gap
 holds (refusesSetting levels length load number) = sameRefusal (setting (encodeLevels levels) length load) number
 holds (spares levels jobs start end z) = sameSpare (spare (encodeLevels levels) (encodeJobs jobs) start end) z
@@ -141,6 +161,7 @@ holds (intervals jobs count) = eqb (intervalCount (boundsOf jobs)) count
 holds (idleEnergy levels jobs energy) =
     eqb (exactEnergy (workingOf levels) jobs (boundsOf jobs) (λ i j. 0)) energy
     && eqb (energyFigure (workingOf levels) jobs (boundsOf jobs) (λ i j. 0)) energy
+holds (accepts levels jobs plan prices figure) = sameNumber (check (encodeLevels levels) (encodeJobs jobs) plan prices) figure
 holds (costs levels length load energy) =
     eqb (intervalEnergy (workingOf levels) length load) (energy * scale (workingOf levels))
 holds (needs levels jobs shares figure over parts) =
