@@ -1,0 +1,74 @@
+-- Laws of lists that are joined: one more list, how long they are together, what holds of every element, and sums over
+-- the elements.
+-- Assumes nothing.
+use mathlib.Core.Path.{_≡_, refl, _∙_, ap}
+use mathlib.Core.Logic.{_⊎_, inl, inr}
+use mathlib.Core.List.{List, _++_}
+use Prim.Native.Nat.{ℕ, zero, suc, _+_, _-_, _<_, _≤_}
+use native.Mathlib.Omega.{arith}
+use native.Mathlib.Numerals.{add-one}
+use lib.ListN.{length, getD, length-append, List·getD-append}
+use lib.Seq.{getD-append-add}
+use Rattle.model.specs.Sum.{sum}
+use Rattle.model.proofs.Numbers.{lt-or-le}
+use Rattle.model.proofs.Sum.{sum-cong, sum-split, sum-longer}
+use Rattle.writing.specs.StepList.{joined}
+
+module _ {A : Type 0} where
+  pub joined-next : (n : ℕ) (f : ℕ → List A) → joined (n + 1) f ≡ joined n f ++ f n
+  unfolding joined
+  joined-next n f = rw add-one
+
+  pub joined-cong : (n : ℕ) (f g : ℕ → List A) → ((i : ℕ) → i < n → f i ≡ g i) → joined n f ≡ joined n g
+  unfolding joined
+  joined-cong zero f g same = refl
+  joined-cong (suc n) f g same = rw (joined-cong n f g (λ i below. same i (omega arith)), same n (omega arith))
+
+  pub length-joined : (n : ℕ) (f : ℕ → List A) → length (joined n f) ≡ sum n (λ i. length (f i))
+  unfolding joined sum
+  length-joined zero f = refl
+  length-joined (suc n) f = rw (length-append, length-joined n f)
+
+  pub joined-longer : (f : ℕ → List A) (k n : ℕ) → k ≤ n → length (joined k f) ≤ length (joined n f)
+  joined-longer f k n h = rw (length-joined k f, length-joined n f) (sum-longer (λ i. length (f i)) h)
+
+  module _ (d : A) where
+    -- past the first of two lists
+    pub getD-past : (a b : List A) (i : ℕ) → length a ≤ i → getD (a ++ b) i d ≡ getD b (i - length a) d
+    getD-past a b i past =
+        let e : i ≡ length a + (i - length a) = omega arith in
+        ap (λ (k : ℕ). getD (a ++ b) k d) e ∙ getD-append-add a b (i - length a) d
+
+    -- a fact of each element
+    abbrev pub Each : (A → Type 0) → List A → Type 0
+    Each fact l = (i : ℕ) → i < length l → fact (getD l i d)
+
+    pub each-append : (fact : A → Type 0) (a b : List A) → Each fact a → Each fact b → Each fact (a ++ b)
+    each-append fact a b first second i below = go (lt-or-le i (length a))
+      where
+        go : (i < length a) ⊎ (length a ≤ i) → fact (getD (a ++ b) i d)
+        go (inl inside) = rw (List·getD-append a b d i inside) (first i inside)
+        go (inr past) = rw (getD-past a b i past) (second (i - length a) (omega (arith, length-append a b)))
+
+    pub each-joined : (fact : A → Type 0) (n : ℕ) (f : ℕ → List A) → ((i : ℕ) → i < n → Each fact (f i)) → Each fact (joined n f)
+    unfolding joined
+    each-joined fact zero f each = λ i below. absurd (omega arith)
+    each-joined fact (suc n) f each =
+        each-append fact (joined n f) (f n) (each-joined fact n f (λ i below. each i (omega arith))) (each n (omega arith))
+
+    -- the sum of a number that each element has
+    abbrev pub sumOver : (A → ℕ) → List A → ℕ
+    sumOver number l = sum (length l) (λ i. number (getD l i d))
+
+    sum-append : (number : A → ℕ) (a b : List A) → sumOver number (a ++ b) ≡ sumOver number a + sumOver number b
+    sum-append number a b =
+        let first : sum (length a) (λ i. number (getD (a ++ b) i d)) ≡ sumOver number a =
+        sum-cong (length a) (λ i inside. rw (List·getD-append a b d i inside)) in
+        let second : sum (length b) (λ i. number (getD (a ++ b) (length a + i) d)) ≡ sumOver number b =
+        sum-cong (length b) (λ i inside. rw (getD-append-add a b i d)) in
+        rw length-append (omega (arith, sum-split (length a) (length b) (λ i. number (getD (a ++ b) i d))))
+
+    pub sum-joined : (number : A → ℕ) (n : ℕ) (f : ℕ → List A) → sumOver number (joined n f) ≡ sum n (λ i. sumOver number (f i))
+    unfolding joined sum
+    sum-joined number zero f = refl
+    sum-joined number (suc n) f = omega (arith, sum-append number (joined n f) (f n), sum-joined number n f)

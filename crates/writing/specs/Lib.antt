@@ -1,0 +1,4 @@
+-- What the operations of this crate write, as lists of bytes.
+pub mod StepList
+pub mod PlanBytes
+pub mod PriceListBytes

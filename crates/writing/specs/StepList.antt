@@ -1,0 +1,33 @@
+-- The steps of all shares that are not 0, in cell order: interval by interval, within it by job number.
+use Prim.Native.Nat.{ℕ, zero, suc, _+_, _*_}
+use mathlib.Core.List.{List, [], _∷_, _++_}
+use lib.Dec.{ltb}
+use lib.ListN.{getD}
+use Rattle.model.specs.Sum.{sum, onlyIf}
+use Rattle.model.specs.Plans.{Shares}
+use Rattle.model.specs.Steps.{Step}
+
+-- f 0 ++ f 1 ++ .. ++ f (count - 1)
+unfoldable pub joined : {A : Type 0} → (count : ℕ) → (ℕ → List A) → List A
+joined zero f = []
+joined (suc count) f = joined count f ++ f count
+
+-- The step of a share; a share of 0 has none.
+unfoldable pub stepOf : (interval job share : ℕ) → List Step
+stepOf interval job zero = []
+stepOf interval job (suc n) = record { interval = interval; job = job; cycles = suc n } ∷ []
+
+-- The steps of one interval, by job number.
+abbrev pub stepsIn : (jobs : ℕ) → Shares → (interval : ℕ) → List Step
+stepsIn jobs shares i = joined jobs (λ j. stepOf i j (shares i j))
+
+unfoldable pub stepsOf : (jobs intervals : ℕ) → Shares → List Step
+stepsOf jobs intervals shares = joined intervals (stepsIn jobs shares)
+
+-- A table of shares has that of job j in interval i at i × jobs + j.
+abbrev pub sharesIn : (jobs : ℕ) → List ℕ → Shares
+sharesIn jobs table i j = getD table (i * jobs + j) 0
+
+-- How many of the first `size` numbers of a table are not 0.
+abbrev pub positives : (size : ℕ) → List ℕ → ℕ
+positives size table = sum size (λ k. onlyIf (ltb 0 (getD table k 0)) 1)
