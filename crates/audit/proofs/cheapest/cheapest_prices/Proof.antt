@@ -3,6 +3,7 @@
 use mathlib.Core.Path.{_≡_}
 use Prim.Native.Nat.{_-_, _≤_}
 use native.Mathlib.Omega.{arith}
+use Rattle.model.specs.Limits.{maxJobs}
 use Rattle.tables.specs.Column.{columnOf}
 use Rattle.tables.proofs.Column.{column-none, column-more, column-whole}
 use Rattle.audit.specs.SecondHalf.{cheapestFor}
@@ -11,13 +12,13 @@ use Rattle.audit.proofs.cheapest.cheapest_prices.Tie as tie
 
 abbrev Inv-loop : tie.InvT-loop
 Inv-loop bands releases deadlines count times bounds numbers cheapest₀ j₀ cheapest j =
-    (j ≤ count) × (cheapest ≡ columnOf 64 j (cheapestFor bands releases deadlines times bounds numbers))
+    (j ≤ count) × (cheapest ≡ columnOf maxJobs j (cheapestFor bands releases deadlines times bounds numbers))
 
 abbrev μ-loop : tie.MeasureT-loop
 μ-loop bands releases deadlines count times bounds numbers cheapest₀ j₀ cheapest j = count - j
 
 loop-holds : tie.Need-loop-holds Inv-loop μ-loop
-loop-holds c = (omega arith, column-none 64 _)
+loop-holds c = (omega arith, column-none maxJobs _)
 
 mul-cheapest-price : tie.Need-mul-cheapest-price Inv-loop μ-loop
 mul-cheapest-price c = omega arith
@@ -47,10 +48,10 @@ loop-less : tie.Need-loop-less Inv-loop μ-loop
 loop-less c = omega arith
 
 loop-again : tie.Need-loop-again Inv-loop μ-loop
-loop-again c = (omega arith, column-more 64 _ _ _ _ (omega arith) (c .before .before .before .before .loop .inv .1) (c .cheapest-price .ensures))
+loop-again c = (omega arith, column-more maxJobs _ _ _ _ (omega arith) (c .before .before .before .before .loop .inv .1) (c .cheapest-price .ensures))
 
 returns : tie.Need-returns Inv-loop μ-loop
-returns c = column-whole 64 _ _ _ _ (c .before .loop .inv .0) (c .loop-test .left) (c .before .loop .inv .1)
+returns c = column-whole maxJobs _ _ _ _ (c .before .loop .inv .0) (c .loop-test .left) (c .before .loop .inv .1)
 
 pub cheapest-prices-spec : {M : Type 1} → statement M
 cheapest-prices-spec =

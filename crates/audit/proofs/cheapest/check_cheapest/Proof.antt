@@ -7,6 +7,7 @@ use lib.ListN.{getD}
 use denote.Ref.{now}
 use borrow.Author.Count.{below-none, below-more}
 use borrow.Author.Tests.{lt-ltb, le-ltb}
+use Rattle.model.specs.Limits.{maxIntervals}
 use Rattle.model.specs.Steps.{stepAt}
 use Rattle.audit.specs.declared.steps.Step.{Step}
 use Rattle.audit.specs.Walking.{codeStep}
@@ -43,7 +44,7 @@ decode-step-requires : tie.Need-decode-step-requires Inv-loop μ-loop
 decode-step-requires c κs = (c .before .before .before .before .before .pre .0 .2, omega arith)
 
 -- the step of this turn has an interval
-inside : (c : tie.After-decode-step Inv-loop μ-loop) → c .decode-step .result .interval < 127
+inside : (c : tie.After-decode-step Inv-loop μ-loop) → c .decode-step .result .interval < maxIntervals
 inside c =
     omega (
       arith,

@@ -5,6 +5,7 @@ use Prim.Native.Nat.{_≤_}
 use native.Mathlib.Omega.{arith}
 use denote.Ref.{now}
 use borrow.Author.Needs.{needs}
+use Rattle.model.specs.Limits.{maxLevels}
 use Rattle.model.specs.Levels.{readLevels}
 use Rattle.model.specs.Outcome.{answer}
 use Rattle.model.proofs.Levels.{levels-valid}
@@ -30,7 +31,7 @@ answered : (c : tie.After-reading2)
     ≡ answer (levelsIn (c .reading2 .given .0 .0) (table .frequencies) (table .voltages))
 answered c = levels-read _ _ (c .before .before .read-levels .ensures) _ (c .reading2 .given .1)
 
-counted : (c : tie.After-reading2) → (1 ≤ c .reading2 .given .0 .0) × (c .reading2 .given .0 .0 ≤ 8)
+counted : (c : tie.After-reading2) → (1 ≤ c .reading2 .given .0 .0) × (c .reading2 .given .0 .0 ≤ maxLevels)
 counted c = levels-count _ _ _ (levels-valid _ _ (answered c))
 
 working-levels-requires : tie.Need-working-levels-requires

@@ -3,6 +3,7 @@
 use Prim.Native.Nat.{_≤_}
 use denote.Ref.{now}
 use borrow.Author.Needs.{needs}
+use Rattle.model.specs.Limits.{maxJobs}
 use Rattle.tables.proofs.Read.{jobs-count}
 use Rattle.energy.specs.Figures.{SmallBounds}
 use Rattle.audit.proofs.BothHalves.{bounds-small, first-refused, planned, second-refused, all-passed}
@@ -10,7 +11,7 @@ use Rattle.audit.proofs.checking.check_tables.Statement.{statement}
 use Rattle.audit.proofs.checking.check_tables.Tie as tie
 
 -- the jobs are few, and their bounds small
-few : (c : tie.Start) → c .args .count ≤ 64
+few : (c : tie.Start) → c .args .count ≤ maxJobs
 few c = jobs-count (c .args .count) (now (c .args .releases)) (now (c .args .deadlines)) (now (c .args .cycles)) (c .pre .1)
 
 small : (c : tie.After-bounds-of) → SmallBounds (c .bounds-of .result .count) (c .bounds-of .result .times)

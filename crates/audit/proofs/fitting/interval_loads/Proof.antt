@@ -3,6 +3,7 @@
 use mathlib.Core.Path.{_≡_, ap}
 use Prim.Native.Nat.{_-_, _≤_, _<_}
 use native.Mathlib.Omega.{arith}
+use Rattle.model.specs.Limits.{maxIntervals}
 use Rattle.model.specs.Steps.{stepAt}
 use Rattle.audit.specs.declared.steps.Step.{Step}
 use Rattle.audit.specs.FirstHalf.{tallyOf}
@@ -12,7 +13,7 @@ use Rattle.audit.proofs.fitting.interval_loads.Tie as tie
 
 abbrev Inv-loop : tie.InvT-loop
 Inv-loop plan count loads₀ s₀ loads s =
-    (s ≤ count) × (loads ≡ tallyOf 127 s (λ r. stepAt plan r .interval) (λ r. stepAt plan r .cycles))
+    (s ≤ count) × (loads ≡ tallyOf maxIntervals s (λ r. stepAt plan r .interval) (λ r. stepAt plan r .cycles))
 
 abbrev μ-loop : tie.MeasureT-loop
 μ-loop plan count loads₀ s₀ loads s = count - s
@@ -21,13 +22,13 @@ step-count-requires : tie.Need-step-count-requires Inv-loop μ-loop
 step-count-requires c κs = c .before .pre .0
 
 loop-holds : tie.Need-loop-holds Inv-loop μ-loop
-loop-holds c = (omega arith, tally-none 127 _ _)
+loop-holds c = (omega arith, tally-none maxIntervals _ _)
 
 decode-step-requires : tie.Need-decode-step-requires Inv-loop μ-loop
 decode-step-requires c κs = (c .before .before .before .before .pre .0, omega arith)
 
 -- the step of this turn has an interval
-inside : (c : tie.After-decode-step Inv-loop μ-loop) → c .decode-step .result .interval < 127
+inside : (c : tie.After-decode-step Inv-loop μ-loop) → c .decode-step .result .interval < maxIntervals
 inside c =
     omega (
       arith,
@@ -47,7 +48,7 @@ add-loads c =
     let known = turn .before .before .before .before in
     record {
       fits =
-          cycles-room _ (λ place. known .shared-slice-known .given place .fits) 127
+          cycles-room _ (λ place. known .shared-slice-known .given place .fits) maxIntervals
           _ _ _ _ _ (turn .before .before .loop .inv .1) (omega arith) (inside turn) (turn .decode-step .ensures .3);
     }
 
@@ -65,12 +66,12 @@ loop-again c =
     let turn = c .before in
     let decoded = turn .decode-step .ensures .0 in (
       omega arith,
-      tally-more 127 _ _ _ _ _ _ (turn .before .before .loop .inv .1)
+      tally-more maxIntervals _ _ _ _ _ _ (turn .before .before .loop .inv .1)
           (ap (λ (t : Step). t .interval) decoded) (ap (λ (t : Step). t .cycles) decoded) (inside turn),
     )
 
 returns : tie.Need-returns Inv-loop μ-loop
-returns c = tally-whole 127 _ _ _ _ _ (omega arith) (omega arith) (c .before .loop .inv .1)
+returns c = tally-whole maxIntervals _ _ _ _ _ (omega arith) (omega arith) (c .before .loop .inv .1)
 
 pub interval-loads-spec : {M : Type 1} → statement M
 interval-loads-spec =

@@ -3,6 +3,7 @@
 use mathlib.Core.Path.{_≡_, ap}
 use Prim.Native.Nat.{_-_, _≤_}
 use native.Mathlib.Omega.{arith}
+use Rattle.model.specs.Limits.{maxJobs}
 use Rattle.model.specs.Steps.{stepAt}
 use Rattle.audit.specs.declared.steps.Step.{Step}
 use Rattle.audit.specs.FirstHalf.{tallyOf}
@@ -12,7 +13,7 @@ use Rattle.audit.proofs.fitting.job_sums.Tie as tie
 
 abbrev Inv-loop : tie.InvT-loop
 Inv-loop plan count sums₀ s₀ sums s =
-    (s ≤ count) × (sums ≡ tallyOf 64 s (λ r. stepAt plan r .job) (λ r. stepAt plan r .cycles))
+    (s ≤ count) × (sums ≡ tallyOf maxJobs s (λ r. stepAt plan r .job) (λ r. stepAt plan r .cycles))
 
 abbrev μ-loop : tie.MeasureT-loop
 μ-loop plan count sums₀ s₀ sums s = count - s
@@ -21,7 +22,7 @@ step-count-requires : tie.Need-step-count-requires Inv-loop μ-loop
 step-count-requires c κs = c .before .pre
 
 loop-holds : tie.Need-loop-holds Inv-loop μ-loop
-loop-holds c = (omega arith, tally-none 64 _ _)
+loop-holds c = (omega arith, tally-none maxJobs _ _)
 
 decode-step-requires : tie.Need-decode-step-requires Inv-loop μ-loop
 decode-step-requires c κs = (c .before .before .before .before .pre, omega arith)
@@ -38,7 +39,7 @@ add-sums c =
     let known = turn .before .before .before .before in
     record {
       fits =
-          cycles-room _ (λ place. known .shared-slice-known .given place .fits) 64
+          cycles-room _ (λ place. known .shared-slice-known .given place .fits) maxJobs
           _ _ _ _ _ (turn .before .before .loop .inv .1) (omega arith) (omega arith) (turn .decode-step .ensures .3);
     }
 
@@ -56,12 +57,12 @@ loop-again c =
     let turn = c .before in
     let decoded = turn .decode-step .ensures .0 in (
       omega arith,
-      tally-more 64 _ _ _ _ _ _ (turn .before .before .loop .inv .1)
+      tally-more maxJobs _ _ _ _ _ _ (turn .before .before .loop .inv .1)
           (ap (λ (t : Step). t .job) decoded) (ap (λ (t : Step). t .cycles) decoded) (omega arith),
     )
 
 returns : tie.Need-returns Inv-loop μ-loop
-returns c = tally-whole 64 _ _ _ _ _ (omega arith) (omega arith) (c .before .loop .inv .1)
+returns c = tally-whole maxJobs _ _ _ _ _ (omega arith) (omega arith) (c .before .loop .inv .1)
 
 pub job-sums-spec : {M : Type 1} → statement M
 job-sums-spec =

@@ -8,6 +8,7 @@ use native.Mathlib.Omega.{arith}
 use lib.ListN.{length}
 use denote.Ref.{now}
 use borrow.Author.Needs.{needs}
+use Rattle.model.specs.Limits.{maxIntervals}
 use Rattle.levels.proofs.PointTables.{length-pointsOf}
 use Rattle.audit.specs.SecondHalf.{wrongLengthIn}
 use Rattle.audit.proofs.SecondHalf.{wrong-length-refused, price-size, entries-refuse, band-numbers, fits-refuse, cheapest-decides}
@@ -38,7 +39,7 @@ right c = sym (c .before .wrong-price-length .ensures) ∙ c .if1 .left
 
 sized : (c : tie.Else1)
     → let intervals = c .before .before .interval-count .result in
-    (intervals ≤ 127) × (length (now (c .before .before .before .before .before .args .prices)) ≡ 2 + 5 * intervals)
+    (intervals ≤ maxIntervals) × (length (now (c .before .before .before .before .before .args .prices)) ≡ 2 + 5 * intervals)
 sized c =
     let start = c .before .before .before .before .before in
     let a = start .args in

@@ -4,6 +4,7 @@ use mathlib.Core.Path.{_≡_, refl}
 use Prim.Native.Nat.{_+_, _-_, _*_, _≤_}
 use native.Mathlib.Omega.{arith}
 use lib.ListN.{getD}
+use Rattle.model.specs.Limits.{maxIntervals}
 use Rattle.tables.specs.Column.{columnOf}
 use Rattle.tables.proofs.Column.{column-none, column-more, column-whole}
 use Rattle.audit.proofs.pricing.price_numbers.Statement.{statement}
@@ -11,13 +12,13 @@ use Rattle.audit.proofs.pricing.price_numbers.Tie as tie
 
 abbrev Inv-loop : tie.InvT-loop
 Inv-loop prices intervals numbers₀ i₀ numbers i =
-    (i ≤ intervals) × (numbers ≡ columnOf 127 i (λ k. getD prices (2 + 4 * intervals + k) 0))
+    (i ≤ intervals) × (numbers ≡ columnOf maxIntervals i (λ k. getD prices (2 + 4 * intervals + k) 0))
 
 abbrev μ-loop : tie.MeasureT-loop
 μ-loop prices intervals numbers₀ i₀ numbers i = intervals - i
 
 loop-holds : tie.Need-loop-holds Inv-loop μ-loop
-loop-holds c = (omega arith, column-none 127 _)
+loop-holds c = (omega arith, column-none maxIntervals _)
 
 mul-numbers : tie.Need-mul-numbers Inv-loop μ-loop
 mul-numbers c = omega arith
@@ -47,10 +48,10 @@ loop-less : tie.Need-loop-less Inv-loop μ-loop
 loop-less c = omega arith
 
 loop-again : tie.Need-loop-again Inv-loop μ-loop
-loop-again c = (omega arith, column-more 127 _ _ _ _ (omega arith) (c .before .before .loop .inv .1) refl)
+loop-again c = (omega arith, column-more maxIntervals _ _ _ _ (omega arith) (c .before .before .loop .inv .1) refl)
 
 returns : tie.Need-returns Inv-loop μ-loop
-returns c = column-whole 127 _ _ _ _ (c .before .loop .inv .0) (c .loop-test .left) (c .before .loop .inv .1)
+returns c = column-whole maxIntervals _ _ _ _ (c .before .loop .inv .0) (c .loop-test .left) (c .before .loop .inv .1)
 
 pub price-numbers-spec : {M : Type 1} → statement M
 price-numbers-spec =

@@ -1,0 +1,79 @@
+-- T6, why the band never has to pass the last one. When every reached interval is full at the top frequency, and every job
+-- with a share there has its whole window there, then the jobs inside the range fill it, and the one being placed still
+-- lacks some cycles: the jobs inside need more than the range holds.
+-- Assumes nothing.
+use mathlib.Core.Path.{_≡_}
+use mathlib.Core.Bool.{Bool, true, false}
+use mathlib.Core.Logic.{_⊎_, inl, inr}
+use Prim.Native.Nat.{ℕ, suc, _+_, _-_, _*_, _<_, _≤_}
+use native.Mathlib.Nat.{eq-zero-or-pos, eq-or-lt-of-le}
+use native.Mathlib.Omega.{arith}
+use borrow.Author.Tests.{le-leb}
+use Rattle.model.specs.Sum.{sum, onlyIf}
+use Rattle.model.specs.Plans.{Shares}
+use Rattle.model.proofs.Sum.{sum-mono, sum-strict, sum-swap, sum-mul-right, sum-split, sum-pos}
+use Rattle.planner.specs.Placement.{Problem, SoundProblem, loadOf, placedOf, Placing, Reached, Scanned}
+use Rattle.planner.specs.RangesFit.{isWithin, RangesFit}
+use Rattle.planner.proofs.JobOrder.{placed-most}
+use Rattle.planner.proofs.RaisedPrices.{window-closed}
+
+-- part of a sum
+sum-part : (n start end : ℕ) (f : ℕ → ℕ) → start ≤ end → end ≤ n → sum (end - start) (λ d. f (start + d)) ≤ sum n f
+sum-part n start end f order inside =
+    let e : n ≡ start + ((end - start) + (n - end)) = omega arith in
+    rw e (omega (arith, sum-split start ((end - start) + (n - end)) f, sum-split (end - start) (n - end) (λ d. f (start + d))))
+
+onlyIf-most : (t : Bool) (n m : ℕ) → n ≤ m → onlyIf t n ≤ onlyIf t m
+onlyIf-most true n m order = order
+onlyIf-most false n m order = omega arith
+
+module _ {p : Problem} (sound : SoundProblem p) {shares : Shares} {prices : ℕ → ℕ} {job left band count start end : ℕ} {reached source : ℕ → ℕ}
+    (placing : Placing p shares prices job left band) (now : Reached p shares job count reached source start end)
+    (scanned : (i : ℕ) → start ≤ i → i < end → Scanned p shares band count reached i) where
+  pub range-order : start ≤ end
+  range-order =
+      omega (
+        arith,
+        now .from-start 0 (now .some),
+        now .to-end 0 (now .some),
+        sound .window (reached 0) (now .job-below 0 (now .some)),
+      )
+
+  -- what a job has in the range, all of it if anything
+  part : (j : ℕ) → j < p .jobs → sum (end - start) (λ d. shares (start + d) j) ≤ onlyIf (isWithin p start end j) (placedOf p shares j)
+  part j below = go (eq-zero-or-pos (sum (end - start) (λ d. shares (start + d) j)))
+    where
+      go : (sum (end - start) (λ d. shares (start + d) j) ≡ 0) ⊎ (0 < sum (end - start) (λ d. shares (start + d) j))
+          → sum (end - start) (λ d. shares (start + d) j) ≤ onlyIf (isWithin p start end j) (placedOf p shares j)
+      go (inl nothing) = omega arith
+      go (inr something) =
+          let (d, inside, share) = sum-pos (end - start) (λ d. shares (start + d) j) something in
+          let (from, to) = window-closed now scanned {i = start + d} (omega arith) (omega arith) below share in
+          rw (le-leb start (p .first j) from, le-leb (p .last j) end to) (sum-part (p .intervals) start end (λ i. shares i j) range-order (now .end-below))
+
+  -- the jobs inside have what the range holds, and the one being placed lacks some
+  pub range-overfull : 0 < left → suc band ≡ p .bands
+      → sum (end - start) (λ d. p .size (start + d)) * p .frequency (p .bands)
+      < sum (p .jobs) (λ j. onlyIf (isWithin p start end j) (p .cycles j))
+  range-overfull lacks top =
+      let full : sum (end - start) (λ d. p .size (start + d) * p .frequency (p .bands)) ≤ sum (end - start) (λ d. loadOf p shares (start + d)) =
+      sum-mono (end - start) (λ d inside. rw (← top) (scanned (start + d) (omega arith) (omega arith) .full)) in
+      let parts : sum (p .jobs) (λ j. sum (end - start) (λ d. shares (start + d) j)) ≤ sum (p .jobs) (λ j. onlyIf (isWithin p start end j) (placedOf p shares j)) =
+      sum-mono (p .jobs) part in
+      let own : isWithin p start end job ≡ true =
+      rw (le-leb start (p .first job) (rw (now .origin) at (now .from-start 0 (now .some))), le-leb (p .last job) end (rw (now .origin) at (now .to-end 0 (now .some)))) in
+      let needs : sum (p .jobs) (λ j. onlyIf (isWithin p start end j) (placedOf p shares j)) < sum (p .jobs) (λ j. onlyIf (isWithin p start end j) (p .cycles j)) =
+      sum-strict (p .jobs) job (placing .job-below) (λ j below. onlyIf-most (isWithin p start end j) _ _ (placed-most placing j below)) (rw own (omega (arith, placing .here))) in
+      omega (
+        arith,
+        sum-mul-right (end - start) (p .frequency (p .bands)) (λ d. p .size (start + d)),
+        sum-swap (end - start) (p .jobs) (λ d j. shares (start + d) j),
+      )
+
+  -- so where no range is overfull there is a next band
+  pub next-band : RangesFit p → 0 < left → suc band < p .bands
+  next-band fit lacks = go (eq-or-lt-of-le (placing .band-below))
+    where
+      go : (suc band ≡ p .bands) ⊎ (suc band < p .bands) → suc band < p .bands
+      go (inl top) = absurd (omega (arith, range-overfull lacks top, fit start end range-order (now .end-below)))
+      go (inr more) = more

@@ -1,0 +1,25 @@
+-- Laws for the proofs of the functions.
+pub mod JobOrder
+pub mod Listing
+pub mod ReachedRange
+pub mod ReachedPrices
+pub mod GrownShares
+pub mod PathLimit
+pub mod PathSteps
+pub mod RaisedPrices
+pub mod FullRange
+pub mod SiteProblem
+pub mod SmallestPrices
+pub mod SharesTable
+pub mod StoredLoads
+pub mod StoredPrices
+pub mod PriceRanges
+pub mod RisingPrices
+pub mod RisePasses
+pub mod SitePrices
+pub mod WalkSteps
+pub mod MoveSteps
+pub mod FillSteps
+pub mod PlaceSteps
+pub mod ScanSteps
+pub mod SearchSteps

@@ -1,0 +1,71 @@
+-- Laws of the prices in what is reached: no reached interval has a price below the band, so that one with room at the
+-- band, a target, has the band for its price.
+-- Assumes nothing.
+use mathlib.Core.Path.{_≡_}
+use mathlib.Core.Logic.{_⊎_, inl, inr}
+use Prim.Native.Nat.{ℕ, zero, suc, _*_, _<_, _≤_}
+use native.Mathlib.Nat.{eq-or-lt-of-le, eq-zero-or-pos, mul-le-mul-left}
+use native.Mathlib.Omega.{arith}
+use Rattle.model.specs.Plans.{Shares}
+use Rattle.model.proofs.Numbers.{rises-between}
+use Rattle.planner.specs.Placement.{Problem, SoundProblem, Open, loadOf, Priced, Placing, Reached}
+
+module _ {p : Problem} (sound : SoundProblem p) where
+  pub frequency-mono : (k l : ℕ) → k ≤ l → l ≤ p .bands → p .frequency k ≤ p .frequency l
+  frequency-mono k l order inside = go (eq-or-lt-of-le order)
+    where
+      go : (k ≡ l) ⊎ (k < l) → p .frequency k ≤ p .frequency l
+      go (inl same) = rw same (omega arith)
+      go (inr less) = omega (arith, rises-between (p .frequency) (suc (p .bands)) (λ i h. sound .rises i (omega arith)) k l less (omega arith))
+
+  -- what an interval holds at a frequency
+  pub capacity-mono : (i k l : ℕ) → k ≤ l → l ≤ p .bands → p .size i * p .frequency k ≤ p .size i * p .frequency l
+  capacity-mono i k l order inside = mul-le-mul-left (p .size i) (frequency-mono k l order inside)
+
+  -- no interval is loaded past the top frequency
+  pub load-most : {shares : Shares} {prices : ℕ → ℕ} → Priced p shares prices → (i : ℕ) → i < p .intervals
+      → loadOf p shares i ≤ p .size i * p .frequency (p .bands)
+  load-most {prices = prices} priced i inside =
+      omega (arith, priced .high i inside, capacity-mono i (suc (prices i)) (p .bands) (priced .band i inside) (omega arith))
+
+  -- a job is open in intervals that exist
+  pub open-below : {i j : ℕ} → j < p .jobs → Open p i j → i < p .intervals
+  open-below {i} {j} below is-open = omega (arith, sound .inside j below)
+
+  module _ {shares : Shares} {prices : ℕ → ℕ} {job left band count start end : ℕ} {reached source : ℕ → ℕ}
+      (placing : Placing p shares prices job left band) (now : Reached p shares job count reached source start end) where
+    -- by the order in which the jobs were reached
+    price-before : (n s : ℕ) → s < n → s < count → (i : ℕ) → Open p i (reached s) → band ≤ prices i
+    price-before zero s early below i is-open = absurd (omega arith)
+    price-before (suc n) s early below i is-open = go (eq-zero-or-pos s) (price-before n)
+      where
+        inside : i < p .intervals
+        inside = open-below (now .job-below s below) is-open
+
+        go : (s ≡ 0) ⊎ (0 < s) → ((r : ℕ) → r < n → r < count → (i : ℕ) → Open p i (reached r) → band ≤ prices i) → band ≤ prices i
+        go (inl e) step = placing .reaches i inside (rw (e, now .origin) at is-open)
+        go (inr more) step =
+            let (r, less, from) = now .source-reached s more below in
+            let cheapest = placing .priced .cheapest (source s) i (reached s) (now .source-below s more below) inside (now .job-below s below)
+            (now .source-share s more below) is-open in
+            omega (arith, step r (omega arith) (omega arith) (source s) from)
+
+    -- no interval in which a reached job is open has a price below the band
+    pub price-reached : {s i : ℕ} → s < count → Open p i (reached s) → band ≤ prices i
+    price-reached {s} {i} below is-open = price-before (suc s) s (omega arith) below i is-open
+
+    -- a reached interval with room at the band has the band for its price
+    pub price-of-target : {target : ℕ} → start ≤ target → target < end → loadOf p shares target < p .size target * p .frequency (suc band)
+        → prices target ≡ band
+    price-of-target {target} from to room =
+        let (s, below, is-open) = now .covered target from to in
+        go (eq-or-lt-of-le (price-reached below is-open))
+      where
+        inside : target < p .intervals
+        inside = omega (arith, now .end-below)
+
+        go : (band ≡ prices target) ⊎ (band < prices target) → prices target ≡ band
+        go (inl e) = omega arith
+        go (inr above) =
+            let top = placing .priced .band target inside in
+            absurd (omega (arith, capacity-mono target (suc band) (prices target) above (omega arith), placing .priced .low target inside))

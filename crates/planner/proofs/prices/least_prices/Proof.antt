@@ -1,0 +1,95 @@
+-- `prices::least_prices` meets its contract. The loop's invariant: the prices before `i` are the least. Assumes nothing.
+use mathlib.Core.Path.{_≡_, refl, _∙_}
+use Prim.Native.Nat.{ℕ, _-_, _<_, _≤_}
+use native.Mathlib.Omega.{arith}
+use lib.ListN.{length, length-set}
+use borrow.Author.Count.{below-none}
+use denote.Ref.{now}
+use Rattle.model.specs.Limits.{maxIntervals}
+use Rattle.planner.specs.Arrays.{numbersIn}
+use Rattle.planner.specs.RisingPrices.{LeastBand}
+use Rattle.planner.proofs.SharesTable.{stored-more}
+use Rattle.planner.proofs.prices.least_prices.Statement.{statement}
+use Rattle.planner.proofs.prices.least_prices.Tie as tie
+
+abbrev Inv-loop : tie.InvT-loop
+Inv-loop loads prices₀ work intervals i₀ prices i =
+    (i ≤ intervals)
+    × (length prices ≡ maxIntervals)
+    × ((k : ℕ) → k < i → LeastBand (numbersIn (work .frequency)) (work .bands) (numbersIn (work .size) k) (numbersIn loads k) (numbersIn prices k))
+
+abbrev μ-loop : tie.MeasureT-loop
+μ-loop loads prices₀ work intervals i₀ prices i = intervals - i
+
+loop-holds : tie.Need-loop-holds Inv-loop μ-loop
+loop-holds c = (omega arith, refl, below-none _)
+
+-- the interval's number fits the arrays
+below : (c : tie.In-loop Inv-loop μ-loop) → c .before .loop .i < maxIntervals
+below c = omega (arith, c .before .before .before .pre .intervals-most)
+
+mul-size : tie.Need-mul-size Inv-loop μ-loop
+mul-size c = omega (arith, below c)
+
+element-copy-out-size : tie.Need-element-copy-out-size Inv-loop μ-loop
+element-copy-out-size c = below c
+
+mul-least-band : tie.Need-mul-least-band Inv-loop μ-loop
+mul-least-band c = omega (arith, below (c .before .before .before))
+
+element-copy-out-least-band : tie.Need-element-copy-out-least-band Inv-loop μ-loop
+element-copy-out-least-band c = below (c .before .before .before)
+
+least-band-requires : tie.Need-least-band-requires Inv-loop μ-loop
+least-band-requires c κs =
+    let sound = c .before .before .before .before .before .before .before .pre in
+    (sound .bands-most, sound .size-most _ (c .before .before .before .before .loop-test .taken), sound .frequency-most)
+
+mul-prices : tie.Need-mul-prices Inv-loop μ-loop
+mul-prices c = omega (arith, below (c .before .before .before .before .before))
+
+element-write-prices : tie.Need-element-write-prices Inv-loop μ-loop
+element-write-prices c = below (c .before .before .before .before .before)
+
+add-i : tie.Need-add-i Inv-loop μ-loop
+add-i c = omega (arith, below (c .before .before .before .before .before))
+
+loop-less : tie.Need-loop-less Inv-loop μ-loop
+loop-less c = omega (arith, c .before .before .before .before .before .loop-test .taken)
+
+loop-again : tie.Need-loop-again Inv-loop μ-loop
+loop-again c =
+    let a = c .before .before .before .before .before .before .before .before .args in
+    let prices = c .before .before .before .before .before .before .loop .prices in
+    let i = c .before .before .before .before .before .before .loop .i in
+    let inv = c .before .before .before .before .before .before .loop .inv in
+    let inside : i < length prices = omega (arith, below (c .before .before .before .before .before), inv .1) in (
+      omega (arith, c .before .before .before .before .before .loop-test .taken),
+      length-set prices i _ ∙ inv .1,
+      stored-more (λ k band. LeastBand (numbersIn (a .t1 .frequency)) (a .t1 .bands) (numbersIn (a .t1 .size) k) (numbersIn (now (a .loads)) k) band)
+          prices i _ inside (inv .2) (c .least-band .ensures .1),
+    )
+
+returns : tie.Need-returns Inv-loop μ-loop
+returns c =
+    let all : c .before .loop .i ≡ c .before .before .before .args .t1 .intervals = omega arith in
+    (c .before .loop .inv .1, rw all at (c .before .loop .inv .2))
+
+pub least-prices-spec : {M : Type 1} → statement M
+least-prices-spec =
+    tie.close
+    (tie.spec
+    Inv-loop
+    μ-loop
+    loop-holds
+    mul-size
+    element-copy-out-size
+    mul-least-band
+    element-copy-out-least-band
+    least-band-requires
+    mul-prices
+    element-write-prices
+    add-i
+    loop-less
+    loop-again
+    returns)

@@ -1,0 +1,10 @@
+-- The invariants of the planner.
+pub mod Placement
+pub mod RangesFit
+pub mod SiteProblem
+pub mod SmallestPrices
+pub mod Arrays
+pub mod Reaching
+pub mod Moves
+pub mod PlacedTables
+pub mod RisingPrices

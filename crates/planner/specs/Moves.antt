@@ -1,0 +1,66 @@
+-- Moving cycles along a path, in plain arrays.
+use Prim.Native.Nat.{ℕ, suc, _+_, _-_, _*_, _<_, _≤_}
+use mathlib.Core.Path.{_≡_}
+use mathlib.Core.List.{List}
+use lib.ListN.{length, getD, set}
+use lib.Dec.{eqb}
+use Rattle.model.specs.Limits.{maxJobs}
+use Rattle.model.specs.Sum.{onlyIf}
+use Rattle.model.specs.Plans.{Shares}
+use Rattle.planner.specs.declared.workload.Workload.{Workload}
+use Rattle.planner.specs.declared.search.Found.{Found}
+use Rattle.planner.specs.Placement.{Problem, Passes, Placing, loadOf}
+use Rattle.planner.specs.Arrays.{numbersIn, sharesIn, problemIn, SoundWorkload}
+use Rattle.planner.specs.Reaching.{Reaching}
+
+-- One number of a table grown by an amount, and one less by it.
+abbrev pub putAt : List ℕ → (place amount : ℕ) → List ℕ
+putAt table place amount = set table place (getD table place 0 + amount)
+
+abbrev pub takenAt : List ℕ → (place amount : ℕ) → List ℕ
+takenAt table place amount = set table place (getD table place 0 - amount)
+
+-- `amount` cycles can go along the path from the target back to the job being placed.
+abbrev pub PathPasses : Workload → (table : List ℕ) → Found → (amount : ℕ) → Type 0
+PathPasses work table found amount =
+    Passes (problemIn work) (sharesIn (work .jobs) table) (found .count) (numbersIn (found .reached)) (numbersIn (found .source)) amount (found .target)
+
+-- The path from a reached target can be walked.
+pub record CanWalk (work : Workload) (table : List ℕ) (found : Found) : Type 0 where
+  pub jobs-most : work .jobs ≤ maxJobs
+  pub table-length : work .intervals * work .jobs ≤ length table
+  pub job : ℕ
+  pub reaching : Reaching (problemIn work) (sharesIn (work .jobs) table) job found
+  pub from : found .start ≤ found .target
+  pub to : found .target < found .end
+
+-- While a job is placed at a band, a reached target has room for `amount` cycles.
+pub record ToMove (p : Problem) (shares : Shares) (prices : ℕ → ℕ) (job left band : ℕ) (found : Found) (amount : ℕ) : Type 0 where
+  pub placing : Placing p shares prices job left band
+  pub reaching : Reaching p shares job found
+  pub from : found .start ≤ found .target
+  pub to : found .target < found .end
+  pub some : 0 < amount
+  pub room : loadOf p shares (found .target) + amount ≤ p .size (found .target) * p .frequency (suc band)
+
+-- The amount is placed: only the load of the target has changed.
+pub record Moved (p : Problem) (before after : Shares) (prices : ℕ → ℕ) (job left band : ℕ) (target amount : ℕ) : Type 0 where
+  pub placing : (rest : ℕ) → left ≡ rest + amount → Placing p after prices job rest band
+  pub loads : (i : ℕ) → i < p .intervals → loadOf p after i ≡ loadOf p before i + onlyIf (eqb i target) amount
+
+-- To a function that is not lent the prices: with some prices, a job is placed and the path passes the amount.
+pub record CanMove (work : Workload) (table : List ℕ) (found : Found) (amount : ℕ) : Type 0 where
+  pub sound : SoundWorkload work
+  pub table-length : work .intervals * work .jobs ≤ length table
+  pub passes : PathPasses work table found amount
+  pub prices : ℕ → ℕ
+  pub job : ℕ
+  pub left : ℕ
+  pub band : ℕ
+  pub to-move : ToMove (problemIn work) (sharesIn (work .jobs) table) prices job left band found amount
+
+-- With any such prices the amount is placed.
+abbrev pub Moves : Workload → (before after : List ℕ) → Found → (amount : ℕ) → Type 0
+Moves work before after found amount =
+    (prices : ℕ → ℕ) (job left band : ℕ) → ToMove (problemIn work) (sharesIn (work .jobs) before) prices job left band found amount
+    → Moved (problemIn work) (sharesIn (work .jobs) before) (sharesIn (work .jobs) after) prices job left band (found .target) amount

@@ -1,0 +1,137 @@
+// The smallest prices that fit shares, bands counted from 0.
+ghost use mathlib.Core.Path.{_≡_};
+ghost use Prim.Native.Nat.{ℕ, _*_, _<_, _≤_};
+ghost use lib.ListN.{length};
+ghost use Rattle.model.specs.Limits.{maxIntervals, maxLevels, maxDeadline, maxFrequency};
+ghost use Rattle.planner.specs.Arrays.{numbersIn, sharesIn, problemIn, SoundWorkload};
+ghost use Rattle.planner.specs.RisingPrices.{LeastBand, HighestPrice, IsBelow, JobStep, SmallestPriced, CanPrice, CanRise, RisePass};
+use crate::placement::raise;
+use crate::workload::Workload;
+use model::MAX_INTERVALS;
+use model::MAX_POINTS;
+
+// The prices rise from the least ones that the loads allow, until a pass over the jobs changes nothing.
+pub fn smallest_prices(
+    work: Workload,
+    shares: &[u32],
+    loads: &[u64; MAX_INTERVALS],
+    prices: &mut [u64; MAX_INTERVALS],
+)
+    requires { ⌜ CanPrice work (now shares) (now loads) ⌝ }
+    ensures { λ _. ⌜ SmallestPriced (problemIn work) (sharesIn (work .jobs) (now (shares .entry))) (numbersIn (now (prices .exit)))
+        × (length (now (prices .exit)) ≡ maxIntervals) ⌝ }
+{
+    least_prices(work, loads, prices);
+    while raise_all(work, shares, prices) {}
+}
+
+// The least price that each load allows.
+fn least_prices(work: Workload, loads: &[u64; MAX_INTERVALS], prices: &mut [u64; MAX_INTERVALS])
+    requires { ⌜ SoundWorkload work ⌝ }
+    ensures { λ _. ⌜ (length (now (prices .exit)) ≡ maxIntervals)
+        × ((i : ℕ) → i < work .intervals
+        → LeastBand (numbersIn (work .frequency)) (work .bands) (numbersIn (work .size) i) (numbersIn (now (loads .entry)) i) (numbersIn (now (prices .exit)) i)) ⌝ }
+{
+    *prices = [0; MAX_INTERVALS];
+    let intervals = work.intervals;
+    let mut i = 0;
+    while i < intervals {
+        let size = work.size[i];
+        let band = least_band(&work.frequency, work.bands, size, loads[i]);
+        prices[i] = band as u64;
+        i += 1;
+    }
+}
+
+// Goes over the jobs once, and answers whether a price was raised.
+fn raise_all(work: Workload, shares: &[u32], prices: &mut [u64; MAX_INTERVALS]) -> bool
+    requires { ⌜ CanRise work (now shares) (now prices) ⌝ }
+    ensures { λ r. ⌜ RisePass work (now (shares .entry)) (now (prices .entry)) (now (prices .exit)) (work .jobs) r ⌝ }
+{
+    let mut changed = false;
+    let jobs = work.jobs;
+    let mut job = 0;
+    while job < jobs {
+        if raise_job(shares, prices, jobs, job, work.first[job], work.last[job]) {
+            changed = true;
+        }
+        job += 1;
+    }
+    changed
+}
+
+// Raises the prices of a job's window to the highest one at which it has a share, and answers whether one was lower.
+fn raise_job(
+    shares: &[u32],
+    prices: &mut [u64; MAX_INTERVALS],
+    jobs: usize,
+    job: usize,
+    first: usize,
+    last: usize,
+) -> bool
+    requires { ⌜ (job < jobs) × (first ≤ last) × (last ≤ maxIntervals) × (last * jobs ≤ length (now shares)) ⌝ }
+    requires { ⌜ length (now prices) ≡ maxIntervals ⌝ }
+    ensures { λ r. ⌜ JobStep (sharesIn jobs (now (shares .entry))) (now (prices .entry)) (now (prices .exit)) job first last r ⌝ }
+{
+    let price = highest_price(shares, prices, jobs, job, first, last);
+    if is_below(prices, first, last, price) {
+        raise(prices, first, last, price);
+        return true;
+    }
+    false
+}
+
+// Whether an interval from start up to, not including, end has a lower price.
+fn is_below(prices: &[u64; MAX_INTERVALS], start: usize, end: usize, price: u64) -> bool
+    requires { ⌜ end ≤ maxIntervals ⌝ }
+    ensures { λ r. ⌜ IsBelow (numbersIn (now (prices .entry))) start end price r ⌝ }
+{
+    let mut i = start;
+    while i < end {
+        if prices[i] < price {
+            return true;
+        }
+        i += 1;
+    }
+    false
+}
+
+// The highest price among the intervals of a window in which a job has a share, 0 where it has none.
+fn highest_price(
+    shares: &[u32],
+    prices: &[u64; MAX_INTERVALS],
+    jobs: usize,
+    job: usize,
+    first: usize,
+    last: usize,
+) -> u64
+    requires { ⌜ (job < jobs) × (first ≤ last) × (last ≤ maxIntervals) × (last * jobs ≤ length (now shares)) ⌝ }
+    ensures { λ r. ⌜ HighestPrice (sharesIn jobs (now (shares .entry))) (numbersIn (now (prices .entry))) job first last r ⌝ }
+{
+    let mut highest = 0;
+    let mut i = first;
+    while i < last {
+        if shares[i * jobs + job] > 0 {
+            if highest < prices[i] {
+                highest = prices[i];
+            }
+        }
+        i += 1;
+    }
+    highest
+}
+
+// The least band that ends at or above a load.
+fn least_band(frequency: &[u64; MAX_POINTS], bands: usize, size: u64, load: u64) -> usize
+    requires { ⌜ (bands ≤ maxLevels) × (size ≤ maxDeadline) × ((k : ℕ) → k ≤ bands → numbersIn (now frequency) k ≤ maxFrequency) ⌝ }
+    ensures { λ r. ⌜ (r ≤ bands) × LeastBand (numbersIn (now (frequency .entry))) bands size load r ⌝ }
+{
+    let mut band = 0;
+    while band < bands {
+        if load <= size * frequency[band + 1] {
+            return band;
+        }
+        band += 1;
+    }
+    band
+}
