@@ -9,7 +9,6 @@ pub mod PathSteps
 pub mod RaisedPrices
 pub mod FullRange
 pub mod SiteProblem
-pub mod SmallestPrices
 pub mod SharesTable
 pub mod StoredLoads
 pub mod StoredPrices

@@ -2,7 +2,6 @@
 pub mod Placement
 pub mod RangesFit
 pub mod SiteProblem
-pub mod SmallestPrices
 pub mod Arrays
 pub mod Reaching
 pub mod Moves

@@ -87,7 +87,7 @@ module _ (p : Problem) (shares : Shares) where
     pub closed : maxIntervals ≤ found .target → (i : ℕ) → found .start ≤ i → i < found .end
         → Scanned p shares band (found .count) (numbersIn (found .reached)) i
 
--- A job can be searched for an interval with room: shares and loads are stored, and shares stand only where jobs are open.
+-- An interval with room can be looked for: shares and loads are stored, and shares stand only where jobs are open.
 pub record CanSearch (work : Workload) (table loads : List ℕ) (job band : ℕ) : Type 0 where
   pub sound : SoundWorkload work
   pub stored : Stored work table loads

@@ -37,7 +37,7 @@ pub(crate) fn path_limit(work: Workload, shares: &[u32], found: Found, most: u64
     limit
 }
 
-// Moves an amount along the path. The shares of no other intervals and jobs change.
+// Moves an amount along the path, and so places it. Only the load of the target changes.
 pub(crate) fn move_along(work: Workload, shares: &mut [u32], found: Found, amount: u32)
     requires { ⌜ CanMove work (now shares) found amount ⌝ }
     ensures { λ _. ⌜ KeptPast (work .intervals * work .jobs) (now (shares .entry)) (now (shares .exit))

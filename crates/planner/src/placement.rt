@@ -14,7 +14,7 @@ use crate::search::search;
 use crate::workload::Workload;
 use model::MAX_INTERVALS;
 
-// Places all jobs. Bands count from 0 in the prices.
+// Places all jobs, from an empty table. Prices are bands, counted from 0.
 pub fn place(
     work: Workload,
     shares: &mut [u32],

@@ -10,8 +10,8 @@ use model::MAX_INTERVALS;
 use model::MAX_JOBS;
 
 // What is reached: `count` jobs, each but the first with an interval, its source, where it has a share, and the intervals
-// from `start` up to, not including, `end`. A mark stands at each listed job's number. The target is an interval with room, MAX_INTERVALS
-// where none was found.
+// from `start` up to, not including, `end`. `listed` has a mark at the number of each reached job. The target is an
+// interval with room, MAX_INTERVALS where none was found.
 pub struct Found {
     pub count: usize,
     pub reached: [usize; MAX_JOBS],
@@ -51,7 +51,7 @@ pub(crate) fn search(
     found
 }
 
-// The start of the search.
+// Only the job being placed is reached.
 fn only(job: usize, first: usize, last: usize) -> Found
     requires { ⌜ job < maxJobs ⌝ }
     ensures { λ r. ⌜ r ≡ onlyJob job first last ⌝ }
@@ -110,7 +110,7 @@ fn scan<'a>(
     found
 }
 
-// One job more.
+// One job more is reached, by its share in an interval, and the intervals of its window.
 fn reach(before: Found, job: usize, source: usize, first: usize, last: usize) -> Found
     requires { ⌜ (before .count < maxJobs) × (job < maxJobs) ⌝ }
     ensures { λ r. ⌜ r ≡ withJob before job source first last ⌝ }
