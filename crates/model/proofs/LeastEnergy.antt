@@ -2,7 +2,6 @@
 -- Assumes nothing.
 use mathlib.Core.Path.{_≡_}
 use mathlib.Core.List.{List}
-use mathlib.Core.Option.{some}
 use Prim.Native.Nat.{ℕ, _≤_}
 use native.Mathlib.Nat.{le-of-mul-le-mul-left}
 use native.Mathlib.Omega.{arith}
@@ -12,11 +11,9 @@ use Rattle.model.specs.Levels.{ValidLevels}
 use Rattle.model.specs.Jobs.{ValidJobs}
 use Rattle.model.specs.Points.{points, working, topFrequency}
 use Rattle.model.specs.Intervals.{Bounds}
-use Rattle.model.specs.Windows.{Window, earliestOverfull}
 use Rattle.model.specs.Plans.{Shares, Gives}
 use Rattle.model.specs.Energy.{exactEnergy}
 use Rattle.model.specs.Prices.{PriceList, FittingPrices}
-use Rattle.model.specs.Schedules.{Schedule, Serves}
 use Rattle.model.specs.LeastEnergy.{
   Site,
   Certificate,
@@ -27,7 +24,7 @@ use Rattle.model.specs.LeastEnergy.{
   LeastEnergyIsOne,
 }
 use Rattle.model.proofs.Points.{valid-points-rise}
-use Rattle.model.proofs.Windows.{overfull-iff, earliestOverfull-found}
+use Rattle.model.proofs.Windows.{overfull-iff}
 use Rattle.model.proofs.Fitting.{fits-between, between-fits}
 use Rattle.model.proofs.Figure.{figure-near-exact}
 use Rattle.model.proofs.Certificate.{least-energy}
@@ -85,10 +82,3 @@ least-energy-is-one idlePower levels jobs site bounds B one two first second pri
 -- valid tables make a site, idling without power
 pub valid-site : (levels : List Level) (jobs : List Job) → ValidLevels levels → ValidJobs jobs → Site 0 levels jobs
 valid-site levels jobs valid sound = record { rising = valid-points-rise levels valid; ordered = sound .release-before-deadline }
-
--- where planning refuses with 11, no schedule meets all deadlines
-pub no-schedule-when-overfull : (levels : List Level) (jobs : List Job) → ValidLevels levels → ValidJobs jobs
-    → (window : Window) → earliestOverfull (topFrequency levels) jobs ≡ some window → (schedule : Schedule levels jobs) → Serves schedule → ⊥
-no-schedule-when-overfull levels jobs valid sound window found =
-    overfull-never-served 0 levels jobs (valid-site levels jobs valid sound) (window .start) (window .end)
-    (earliestOverfull-found (topFrequency levels) jobs window found .overfull)

@@ -39,5 +39,6 @@ pub mod Faults
 pub mod FittingHalf
 pub mod PricingHalf
 pub mod Accepted
+pub mod Demands
 pub mod Selection
 pub mod BuiltIn

@@ -23,4 +23,6 @@ pub mod Steps
 pub mod PriceBytes
 pub mod Checking
 pub mod Accepted
+pub mod Planning
+pub mod Demands
 pub mod SiteLines
