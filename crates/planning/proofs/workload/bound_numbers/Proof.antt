@@ -1,0 +1,65 @@
+-- `workload::bound_numbers` meets its contract. The loop's invariant: the first `j` numbers are filled, zeros after them.
+-- Assumes nothing.
+use mathlib.Core.Path.{_≡_}
+use Prim.Native.Nat.{_-_, _≤_}
+use native.Mathlib.Omega.{arith}
+use lib.ListN.{getD}
+use Rattle.tables.specs.Column.{columnOf}
+use Rattle.tables.proofs.Column.{column-none, column-more, column-whole}
+use Rattle.planning.specs.Workloads.{numberOf}
+use Rattle.planning.proofs.workload.bound_numbers.Statement.{statement}
+use Rattle.planning.proofs.workload.bound_numbers.Tie as tie
+
+abbrev Inv-loop : tie.InvT-loop
+Inv-loop moments jobs times count numbers₀ j₀ numbers j =
+    (j ≤ jobs) × (numbers ≡ columnOf 64 j (λ k. numberOf count times (getD moments k 0)))
+
+abbrev μ-loop : tie.MeasureT-loop
+μ-loop moments jobs times count numbers₀ j₀ numbers j = jobs - j
+
+loop-holds : tie.Need-loop-holds Inv-loop μ-loop
+loop-holds c = (omega arith, column-none 64 _)
+
+mul-bound-number : tie.Need-mul-bound-number Inv-loop μ-loop
+mul-bound-number c = omega arith
+
+element-copy-out-bound-number : tie.Need-element-copy-out-bound-number Inv-loop μ-loop
+element-copy-out-bound-number c = omega arith
+
+bound-number-requires : tie.Need-bound-number-requires Inv-loop μ-loop
+bound-number-requires c κs = omega arith
+
+mul-numbers : tie.Need-mul-numbers Inv-loop μ-loop
+mul-numbers c = omega arith
+
+array-write-numbers : tie.Need-array-write-numbers Inv-loop μ-loop
+array-write-numbers c = omega arith
+
+add-j : tie.Need-add-j Inv-loop μ-loop
+add-j c = omega arith
+
+loop-less : tie.Need-loop-less Inv-loop μ-loop
+loop-less c = omega arith
+
+loop-again : tie.Need-loop-again Inv-loop μ-loop
+loop-again c = (omega arith, column-more 64 _ _ _ _ (omega arith) (c .before .before .before .loop .inv .1) (c .bound-number .ensures))
+
+returns : tie.Need-returns Inv-loop μ-loop
+returns c = column-whole 64 _ _ _ _ (c .before .loop .inv .0) (c .loop-test .left) (c .before .loop .inv .1)
+
+pub bound-numbers-spec : {M : Type 1} → statement M
+bound-numbers-spec =
+    tie.close
+    (tie.spec
+    Inv-loop
+    μ-loop
+    loop-holds
+    mul-bound-number
+    element-copy-out-bound-number
+    bound-number-requires
+    mul-numbers
+    array-write-numbers
+    add-j
+    loop-less
+    loop-again
+    returns)

@@ -1,0 +1,2 @@
+-- What is to be placed for a site, in the terms of the crates model and planner.
+pub mod Workloads
