@@ -1,4 +1,9 @@
--- Laws for the proofs of the functions, and of placing for a site.
+-- Laws for the proofs of the functions, of placing for a site, and of the plan that is made.
 pub mod SiteArrays
 pub mod SiteTables
 pub mod Placeable
+pub mod SameShares
+pub mod WrittenSite
+pub mod MadePlans
+pub mod RoomSizes
+pub mod PlanDemand

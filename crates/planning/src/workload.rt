@@ -51,7 +51,7 @@ pub fn workload_of(
 }
 
 // Neighbouring bounds have an interval between them.
-fn interval_count(bounds: usize) -> usize
+pub(crate) fn interval_count(bounds: usize) -> usize
     ensures { λ r. ⌜ r ≡ bounds - 1 ⌝ }
 {
     if bounds == 0 { 0 } else { bounds - 1 }

@@ -1,0 +1,112 @@
+-- `making::make_plan` meets its contract: the jobs are placed, the smallest prices found, and what is written is the plan
+-- (proofs/MadePlans.antt).
+-- Assumes nothing.
+use mathlib.Core.Path.{refl, ap}
+use native.Mathlib.Omega.{arith}
+use borrow.Author.Needs.{needs}
+use Rattle.windows.specs.declared.times.BoundTable.{BoundTable}
+use Rattle.planning.proofs.Placeable.{workload-fits, workload-can-price}
+use Rattle.planning.proofs.MadePlans.{table-small, rooms, steps-few, made-plan}
+use Rattle.planning.proofs.making.make_plan.Statement.{statement}
+use Rattle.planning.proofs.making.make_plan.Tie as tie
+
+workload-of-requires : tie.Need-workload-of-requires
+workload-of-requires c κs = search needs
+
+place-requires : tie.Need-place-requires
+place-requires c κs =
+    let working = c .before .before .before in
+    let start = working .before .before .before .before in
+    let curve = start .pre .1 .1 .0 .curve in
+    let site = working .workload-of .ensures in (
+      site .sound,
+      (workload-fits curve (start .pre .0) site refl (start .pre .1 .1 .1 .0), rooms curve (start .pre .0) site (start .pre .1 .1 .1 .1) .0),
+    )
+
+smallest-prices-requires : tie.Need-smallest-prices-requires
+smallest-prices-requires c κs =
+    let placed = c .before .before .before .before .before in
+    let working = placed .before .before .before .before in
+    let start = working .before .before .before .before in
+    workload-can-price (start .pre .1 .1 .0 .curve) (start .pre .0) (working .workload-of .ensures) (placed .place .ensures .0)
+
+from-one-requires : tie.Need-from-one-requires
+from-one-requires c κs =
+    let priced = c .before in
+    let working = priced .before .before .before .before .before .before .before .before .before .before in
+    let site = working .workload-of .ensures in (
+      site .sound .intervals-most,
+      λ i below. omega (arith, site .sound .bands-most, priced .smallest-prices .ensures .0 .priced .band i below),
+    )
+
+write-plan-requires : tie.Need-write-plan-requires
+write-plan-requires c κs =
+    let priced = c .before .before .before .before .before in
+    let placed = priced .before .before .before .before .before .before in
+    let working = placed .before .before .before .before in
+    let start = working .before .before .before .before in
+    let site = working .workload-of .ensures in
+    let tables = placed .place .ensures .0 in (
+      (site .sound .jobs-most, site .sound .intervals-most, tables .stored .table-length),
+      omega (arith, start .pre .1 .1 .1 .1 .plan-room, steps-few _ _ _ (start .pre .1 .1 .0 .curve) (start .pre .0) site _ _ _ tables),
+    )
+
+write-prices-requires : tie.Need-write-prices-requires
+write-prices-requires c κs =
+    let written = c .before .before .before .before .before in
+    let priced = written .before .before .before .before .before .before in
+    let placed = priced .before .before .before .before .before .before in
+    let working = placed .before .before .before .before in
+    let start = working .before .before .before .before in
+    let site = working .workload-of .ensures in
+    (site .sound .intervals-most, rooms (start .pre .1 .1 .0 .curve) (start .pre .0) site (start .pre .1 .1 .1 .1) .1)
+
+energy-figure-requires : tie.Need-energy-figure-requires
+energy-figure-requires c κs =
+    let listed = c .before .before .before .before in
+    let written = listed .before .before .before .before .before .before in
+    let priced = written .before .before .before .before .before .before in
+    let placed = priced .before .before .before .before .before .before in
+    let working = placed .before .before .before .before in
+    let start = working .before .before .before .before in
+    (start .pre .1 .1 .0 .small, table-small (start .pre .0) (start .pre .1 .0))
+
+same-length : tie.Need-same-length
+same-length c = search needs
+
+same-length-2 : tie.Need-same-length-2
+same-length-2 c = search needs
+
+same-length-3 : tie.Need-same-length-3
+same-length-3 c = search needs
+
+returns : tie.Need-returns
+returns c =
+    let listed = c .before .before .before .before .before in
+    let written = listed .before .before .before .before .before .before in
+    let counted = written .before .before .before .before in
+    let priced = counted .before .before in
+    let placed = priced .before .before .before .before .before .before in
+    let working = placed .before .before .before .before in
+    let start = working .before .before .before .before in
+    made-plan _ _ _ (start .pre .1 .1 .0 .curve) (start .pre .0) (working .workload-of .ensures) _ _ _ (placed .place .ensures .0)
+    (priced .smallest-prices .last .1 .1 .1 .0) (priced .smallest-prices .ensures .0) _ (counted .from-one .ensures)
+    _ (ap (λ (t : BoundTable). t .times) (start .pre .1 .0)) _ (ap (λ (t : BoundTable). t .count) (start .pre .1 .0)) _ _
+    _ _ _ _ _ (placed .place .ensures .1) (written .write-plan .ensures .0) (written .write-plan .ensures .1)
+    (listed .write-prices .ensures) (c .energy-figure .ensures)
+
+pub make-plan-spec : {M : Type 1} → statement M
+make-plan-spec =
+    tie.close
+    (tie.spec
+    workload-of-requires
+    place-requires
+    smallest-prices-requires
+    from-one-requires
+    write-plan-requires
+    write-prices-requires
+    energy-figure-requires
+    same-length
+    same-length-2
+    same-length-3
+    returns)
