@@ -7,3 +7,4 @@ pub mod WrittenSite
 pub mod MadePlans
 pub mod RoomSizes
 pub mod PlanDemand
+pub mod PlanStages

@@ -2,3 +2,4 @@
 pub mod Workloads
 pub mod MadePlans
 pub mod WantedRooms
+pub mod PlanAnswers

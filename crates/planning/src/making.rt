@@ -28,13 +28,13 @@ use writing::write_prices;
 
 // Intervals, steps and energy figure of a plan.
 pub struct Figures {
-    intervals: usize,
-    steps: usize,
-    energy: u64,
+    pub intervals: usize,
+    pub steps: usize,
+    pub energy: u64,
 }
 
 // Places the jobs, finds the smallest prices, and writes both.
-pub fn make_plan(
+pub(crate) fn make_plan(
     releases: &[u64; MAX_JOBS],
     deadlines: &[u64; MAX_JOBS],
     cycles: &[u64; MAX_JOBS],

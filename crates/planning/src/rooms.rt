@@ -15,13 +15,13 @@ use windows::open_sets;
 
 // The lengths wanted: bytes of the plan and of the prices, and shares.
 pub struct Rooms {
-    plan: usize,
-    prices: usize,
-    shares: usize,
+    pub plan: usize,
+    pub prices: usize,
+    pub shares: usize,
 }
 
 // 4 + 6K bytes, 2 + 5N bytes and n × N shares.
-pub fn rooms_of(
+pub(crate) fn rooms_of(
     releases: &[u64; MAX_JOBS],
     deadlines: &[u64; MAX_JOBS],
     count: usize,

@@ -18,7 +18,7 @@ use planner::Workload;
 use windows::BoundTable;
 
 // The jobs in the intervals between their bounds, at the working points.
-pub fn workload_of(
+pub(crate) fn workload_of(
     releases: &[u64; MAX_JOBS],
     deadlines: &[u64; MAX_JOBS],
     cycles: &[u64; MAX_JOBS],

@@ -12,3 +12,4 @@ pub use times::BoundTable;
 pub use times::bounds_of;
 pub use window::SpareAnswer;
 pub use window::spare;
+pub use window::window_spare;

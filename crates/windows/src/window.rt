@@ -1,10 +1,10 @@
 // The spare of a window: refusal 27.
 ghost use mathlib.Core.Path.{_≡_};
 ghost use Prim.Native.Nat.{_*_, _≤_};
-ghost use Rattle.model.specs.Limits.{maxFrequency, maxJobs, maxCycles};
+ghost use Rattle.model.specs.Limits.{maxFrequency, maxDeadline, maxJobs, maxCycles};
 ghost use Rattle.model.specs.Jobs.{ValidJobs};
 ghost use Rattle.model.specs.Sum.{onlyIf};
-ghost use Rattle.model.specs.Windows.{isInside, cyclesInside, spare as spareFor};
+ghost use Rattle.model.specs.Windows.{isInside, cyclesInside, spareOf, spare as spareFor};
 ghost use Rattle.tables.specs.Tables.{jobsIn};
 ghost use Rattle.windows.specs.Answers.{spareAnswer, spareIn};
 use model::MAX_DEADLINE;
@@ -59,10 +59,27 @@ fn spare_of_jobs(top: u64, jobs: &[u8], start: u64, end: u64) -> SpareAnswer
             let releases = table.releases;
             let deadlines = table.deadlines;
             let cycles = table.cycles;
-            let need = cycles_inside(&releases, &deadlines, &cycles, count, start, end);
-            SpareAnswer::Spare(((end - start) * top) as i64 - need as i64)
+            SpareAnswer::Spare(window_spare(&releases, &deadlines, &cycles, count, top, start, end))
         }
     }
+}
+
+// The spare of a window for jobs that were read.
+pub fn window_spare(
+    releases: &[u64; MAX_JOBS],
+    deadlines: &[u64; MAX_JOBS],
+    cycles: &[u64; MAX_JOBS],
+    count: usize,
+    top: u64,
+    start: u64,
+    end: u64,
+) -> i64
+    requires { ⌜ ValidJobs (jobsIn count (now releases) (now deadlines) (now cycles)) ⌝ }
+    requires { ⌜ (top ≤ maxFrequency) × (start ≤ end) × (end ≤ maxDeadline) ⌝ }
+    ensures { λ r. ⌜ r ≡ spareOf top (jobsIn count (now (releases .entry)) (now (deadlines .entry)) (now (cycles .entry))) start end ⌝ }
+{
+    let need = cycles_inside(releases, deadlines, cycles, count, start, end);
+    ((end - start) * top) as i64 - need as i64
 }
 
 // The cycles of the jobs inside a window.
