@@ -1,8 +1,9 @@
-/* Ramyearly: checking clock plans, for the reader's kernel.
+/* Ramyearly: planning and checking clock plans, for the reader's kernel and for the hosts that plan its sites.
  *
  * Every function takes byte tables as a pointer and a length in bytes, of any content and length, and numbers of any
- * value. It returns the answer by value, reads nothing but the bytes it is lent, writes nothing and always returns.
- * A pointer must be valid for its length; with length 0 it must still not be null.
+ * value. It returns the answer by value, reads nothing but the bytes it is lent and always returns. Only planning
+ * writes, and only into the three buffers it is lent. A pointer must be valid for its length; with length 0 it must
+ * still not be null, and it must be aligned for its type. Buffers must not overlap each other or the tables.
  *
  * number is 0 for an answer, and otherwise the number of the refusal in the paper, with its place (0 where none is
  * named). Fields that a case does not fill are 0. */
@@ -31,6 +32,13 @@ struct ramyearly_spare_answer {
     int64_t spare;
 };
 
+struct ramyearly_plan_answer {
+    uint32_t number, place, intervals, steps;
+    uint64_t energy;
+    uint32_t start, end;
+    int64_t spare;
+};
+
 /* Accepts a plan and its price list exactly when the plan gives each job its cycles between release and deadline and the
  * prices fit, and answers the energy figure. Refusals 1 to 10 and 15 to 24. No schedule over the same levels that meets
  * all deadlines has less than an accepted plan's exact energy. */
@@ -50,6 +58,19 @@ struct ramyearly_setting_answer ramyearly_setting(
 struct ramyearly_spare_answer ramyearly_spare(
     const uint8_t *levels, size_t levels_length,
     const uint8_t *jobs, size_t jobs_length, uint32_t start, uint32_t end);
+
+/* Plans a site. Number 0: the first 4 + 6 x steps bytes of the plan buffer, 2 + 5 x intervals bytes of the price buffer and
+ * jobs x intervals shares (that job's cycles at interval x jobs + job) are written, the rest stays; ramyearly_check
+ * accepts exactly those bytes and answers the same energy. No schedule over the same levels that meets all deadlines
+ * has less than the plan's exact energy. Number 11: start and end are the earliest overfull window, with its spare,
+ * and no schedule meets all deadlines. Otherwise refusals 1 to 10 and 12 to 14; the places of 12 to 14 are the
+ * lengths wanted, 14 counting 32-bit numbers. Where no plan comes out the buffers stay as they were. */
+struct ramyearly_plan_answer ramyearly_plan(
+    const uint8_t *levels, size_t levels_length,
+    const uint8_t *jobs, size_t jobs_length,
+    uint8_t *plan, size_t plan_length,
+    uint8_t *prices, size_t prices_length,
+    uint32_t *shares, size_t shares_length);
 
 #ifdef __cplusplus
 }

@@ -64,6 +64,37 @@ static void check_is(const char *name, struct bytes levels, struct bytes jobs, s
     same(name, a.energy, wanted.energy);
 }
 
+/* The buffers that planning is lent, filled with a marker. */
+struct lent {
+    uint8_t plan[64], prices[32];
+    uint32_t shares[16];
+};
+
+static struct lent marked(void)
+{
+    struct lent l;
+    memset(&l, 0xa5, sizeof l);
+    return l;
+}
+
+/* Plans with buffers of the given lengths; without a plan they must stay as they were. */
+static struct lent plan_is(const char *name, struct bytes levels, struct bytes jobs, size_t plan, size_t prices, size_t shares, struct ramyearly_plan_answer wanted)
+{
+    struct lent before = marked(), after = before;
+    struct ramyearly_plan_answer a = ramyearly_plan(levels.at, levels.length, jobs.at, jobs.length, after.plan, plan, after.prices, prices, after.shares, shares);
+    same(name, a.number, wanted.number);
+    same(name, a.place, wanted.place);
+    same(name, a.intervals, wanted.intervals);
+    same(name, a.steps, wanted.steps);
+    same(name, a.energy, wanted.energy);
+    same(name, a.start, wanted.start);
+    same(name, a.end, wanted.end);
+    same(name, a.spare, wanted.spare);
+    if (a.number)
+        same(name, memcmp(&before, &after, sizeof before), 0);
+    return after;
+}
+
 static struct bytes cut(struct bytes b)
 {
     b.length--;
@@ -151,12 +182,37 @@ static void checks(void)
         (struct ramyearly_check_answer) { .energy = 0 });
 }
 
+/* Planning document 01's site: the listed plan is the only least one. */
+static void plans(void)
+{
+    struct bytes t = level_pair(), jobs = two_jobs(), plan = plan_of(2), prices = prices_of(1, 2, 1);
+    struct ramyearly_plan_answer planned = { .intervals = 3, .steps = 3, .energy = 2200 };
+    const uint32_t shares[] = { 4, 0, 0, 4, 2, 0 };
+    struct lent before = marked(), l = plan_is("the listed site", t, jobs, 64, 32, 16, planned);
+    same("its plan", memcmp(l.plan, plan.at, plan.length), 0);
+    same("its prices", memcmp(l.prices, prices.at, prices.length), 0);
+    same("its shares", memcmp(l.shares, shares, sizeof shares), 0);
+    same("the rest of the plan buffer", memcmp(l.plan + plan.length, before.plan + plan.length, 64 - plan.length), 0);
+    same("the rest of the price buffer", memcmp(l.prices + prices.length, before.prices + prices.length, 32 - prices.length), 0);
+    same("the rest of the shares", memcmp(l.shares + 6, before.shares + 6, 10 * sizeof *shares), 0);
+    plan_is("just long enough", t, jobs, 28, 17, 6, planned);
+    plan_is("plan buffer too short", t, jobs, 27, 17, 6, (struct ramyearly_plan_answer) { .number = 12, .place = 28 });
+    plan_is("price buffer too short", t, jobs, 28, 16, 6, (struct ramyearly_plan_answer) { .number = 13, .place = 17 });
+    plan_is("shares too few", t, jobs, 28, 17, 5, (struct ramyearly_plan_answer) { .number = 14, .place = 6 });
+    plan_is("overfull", t, table(4, 1, (const uint32_t[]) { 0, 1, 5 }, 3), 64, 32, 16,
+        (struct ramyearly_plan_answer) { .number = 11, .start = 0, .end = 1, .spare = -1 });
+    plan_is("levels damaged", cut(t), jobs, 64, 32, 16, (struct ramyearly_plan_answer) { .number = 3 });
+    plan_is("jobs damaged", t, cut(jobs), 64, 32, 16, (struct ramyearly_plan_answer) { .number = 8 });
+    plan_is("no jobs", t, table(4, 0, NULL, 0), 4, 2, 0, (struct ramyearly_plan_answer) { .number = 0 });
+}
+
 int main(void)
 {
     settings();
     spares();
     checks();
+    plans();
     if (!wrong)
-        printf("interface: check, setting and spare answer C as they should\n");
+        printf("interface: check, setting, spare and plan answer C as they should\n");
     return wrong;
 }

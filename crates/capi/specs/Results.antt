@@ -1,12 +1,19 @@
 -- The structs that the functions for C return. The number is 0 for an answer and the refusal's number otherwise; fields
 -- that a case does not fill are 0.
 use Prim.Native.Nat.{ℕ}
+use mathlib.Core.Path.{_≡_}
+use mathlib.Core.List.{List}
 use lib.IntN.{ℤ, pos}
 use Rattle.model.specs.Outcome.{Outcome, refused, answer}
 use Rattle.model.specs.Setting.{Setting}
+use Rattle.planning.specs.declared.operation.PlanAnswer.{PlanAnswer}
+use Rattle.planning.specs.declared.operation.PlanAnswer.the-variants.{Plan, Overfull, Refused}
+use Rattle.planning.specs.MadePlans.{Buffers}
+use Rattle.planning.specs.PlanAnswers.{PlanContract}
 use Rattle.capi.specs.declared.CheckResult.{CheckResult}
 use Rattle.capi.specs.declared.SettingResult.{SettingResult}
 use Rattle.capi.specs.declared.SpareResult.{SpareResult}
+use Rattle.capi.specs.declared.PlanResult.{PlanResult}
 
 abbrev pub checkResult : Outcome ℕ → CheckResult
 checkResult (refused number place) = record { number = number; place = place; energy = 0 }
@@ -20,3 +27,17 @@ settingResult (answer setting) =
 abbrev pub spareResult : Outcome ℤ → SpareResult
 spareResult (refused number place) = record { number = number; place = place; spare = pos 0 }
 spareResult (answer spare) = record { number = 0; place = 0; spare = spare }
+
+abbrev pub planResult : PlanAnswer → PlanResult
+planResult (Plan intervals steps energy) =
+    record { number = 0; place = 0; intervals = intervals; steps = steps; energy = energy; start = 0; end = 0; spare = pos 0 }
+planResult (Overfull start end spare) =
+    record { number = 11; place = 0; intervals = 0; steps = 0; energy = 0; start = start; end = end; spare = spare }
+planResult (Refused number place) =
+    record { number = number; place = place; intervals = 0; steps = 0; energy = 0; start = 0; end = 0; spare = pos 0 }
+
+-- A call of planning from C: what it returns is the struct of an answer that planning's contract holds of.
+pub record PlanCall (levelBytes jobBytes : List ℕ) (before after : Buffers) (result : PlanResult) : Type 0 where
+  pub answered : PlanAnswer
+  pub result-is : result ≡ planResult answered
+  pub contract : PlanContract levelBytes jobBytes before after answered

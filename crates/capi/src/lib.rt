@@ -4,9 +4,10 @@ ghost use mathlib.Core.Path.{_≡_};
 ghost use Rattle.model.specs.Checking.{check as checkOf};
 ghost use Rattle.model.specs.Setting.{setting as settingFor};
 ghost use Rattle.model.specs.Windows.{spare as spareFor};
-ghost use Rattle.capi.specs.Results.{checkResult, settingResult, spareResult};
+ghost use Rattle.capi.specs.Results.{checkResult, settingResult, spareResult, PlanCall};
 use audit::CheckAnswer;
 use levels::SettingAnswer;
+use planning::PlanAnswer;
 use windows::SpareAnswer;
 
 // The check of a plan and its price list. Number 0: accepted; otherwise the refusal's number and place, and 0.
@@ -32,6 +33,20 @@ pub struct SettingResult {
 pub struct SpareResult {
     pub number: u32,
     pub place: u32,
+    pub spare: i64,
+}
+
+// Planning. Number 0: a plan was written, with its intervals, steps and energy figure; 11: the earliest overfull window
+// and its spare; otherwise the refusal's number and place. Fields that a case does not fill are 0.
+#[repr(C)]
+pub struct PlanResult {
+    pub number: u32,
+    pub place: u32,
+    pub intervals: u32,
+    pub steps: u32,
+    pub energy: u64,
+    pub start: u32,
+    pub end: u32,
     pub spare: i64,
 }
 
@@ -96,6 +111,57 @@ pub extern "C" fn ramyearly_spare(levels: &[u8], jobs: &[u8], start: u32, end: u
         SpareAnswer::Refused { number, place } => SpareResult {
             number,
             place,
+            spare: 0,
+        },
+    }
+}
+
+#[no_mangle]
+pub extern "C" fn ramyearly_plan(
+    levels: &[u8],
+    jobs: &[u8],
+    plan: &mut [u8],
+    prices: &mut [u8],
+    shares: &mut [u32],
+) -> PlanResult
+    ensures { λ r. ⌜ PlanCall (now (levels .entry)) (now (jobs .entry))
+        (record { plan = now (plan .entry); prices = now (prices .entry); shares = now (shares .entry) })
+        (record { plan = now (plan .exit); prices = now (prices .exit); shares = now (shares .exit) }) r ⌝ }
+{
+    let answer = planning::plan(levels, jobs, plan, prices, shares);
+    match answer {
+        PlanAnswer::Plan {
+            intervals,
+            steps,
+            energy,
+        } => PlanResult {
+            number: 0,
+            place: 0,
+            intervals,
+            steps,
+            energy,
+            start: 0,
+            end: 0,
+            spare: 0,
+        },
+        PlanAnswer::Overfull { start, end, spare } => PlanResult {
+            number: 11,
+            place: 0,
+            intervals: 0,
+            steps: 0,
+            energy: 0,
+            start,
+            end,
+            spare,
+        },
+        PlanAnswer::Refused { number, place } => PlanResult {
+            number,
+            place,
+            intervals: 0,
+            steps: 0,
+            energy: 0,
+            start: 0,
+            end: 0,
             spare: 0,
         },
     }
