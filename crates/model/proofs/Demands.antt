@@ -1,6 +1,6 @@
--- Demand 3 of planning: with long enough buffers it refuses no valid tables; the window that comes out is the earliest
--- overfull one, and then no schedule meets all deadlines; a plan comes out where some schedule does; and a plan that
--- comes out is such a schedule of least energy. An operation that keeps planning's promise thus meets demand 3.
+-- Demand 3 of planning, part by part: with long enough buffers it refuses no valid tables; the window that comes out is
+-- the earliest overfull one, and then no schedule meets all deadlines; a plan comes out where some schedule does; and a
+-- plan that comes out is such a schedule of least energy.
 -- Assumes nothing.
 use mathlib.Core.Path.{_≡_, refl, sym, _∙_}
 use mathlib.Core.Bool.{Bool, true, false, cond}
@@ -30,7 +30,6 @@ use Rattle.model.specs.Demands.{
   ServedComesOut,
   BestPlan,
   PlannedIsBest,
-  PlanningMeetsDemandThree,
 }
 use Rattle.model.proofs.Levels.{levels-valid}
 use Rattle.model.proofs.Jobs.{jobs-valid}
@@ -199,27 +198,3 @@ planned-is-best levelBytes jobBytes levels jobs tables intervals steps energy pl
           let same : answered ≡ energy = other ∙ sym figure in
           planned .smallest others (rw same at e) i (rw (planned .interval-count) below);
     }
-
-pub demand-three : PlanningMeetsDemandThree
-demand-three levelBytes jobBytes levels jobs tables planRoom priceRoom shareRoom long outcome is _ _ energy plan prices _ plans =
-    record {
-      exactly-when-served = (
-        λ e. let carried = best e .carried-out in (carried .schedule, carried .serves),
-        λ served. is ∙ served-comes-out _ _ _ _ tables _ _ _ long served,
-      );
-      best = best;
-      checked = λ e. plans e .accepted;
-      window = instead;
-      no-schedule = λ no-plan.
-          let (start, end, spare, same, window) = instead no-plan in
-          window-never-served _ _ _ _ tables start end (window .needs-more);
-    }
-  where
-    best : outcome ≡ comesOut → BestPlan levelBytes jobBytes levels jobs energy plan prices
-    best e = planned-is-best _ _ _ _ tables _ _ _ _ _ _ (plans e)
-
-    instead : (outcome ≡ comesOut → ⊥)
-        → (start end : ℕ) × (spare : ℤ) × (outcome ≡ overfull start end spare) × EarliestWindow (topFrequency levels) jobs start end spare
-    instead no-plan =
-        let (start, end, spare, same) = long-enough-decides _ _ _ _ tables _ _ _ long .plan-or-window (λ e. no-plan (is ∙ e)) in
-        (start, end, spare, is ∙ same, window-comes-out _ _ _ _ tables planRoom priceRoom shareRoom start end spare .0 same)

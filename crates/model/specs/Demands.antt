@@ -1,5 +1,5 @@
--- Demand 3 as statements about planning; their proofs are in proofs/Demands.antt. What stands in quotes are the
--- demand's own words.
+-- What demand 3 says of planning, part by part; the proofs are in proofs/Demands.antt. What stands in quotes are the
+-- demand's own words. The demand as a whole is stated in the crate demands.
 use Prim.Native.Nat.{ℕ, _+_, _-_, _*_, _<_, _≤_}
 use mathlib.Core.Path.{_≡_}
 use mathlib.Core.Logic.{_↔_}
@@ -91,6 +91,13 @@ ServedComesOut =
     → (planRoom priceRoom shareRoom : ℕ) → LongEnough jobs planRoom priceRoom shareRoom
     → CanBeServed levels jobs → planning levelBytes jobBytes planRoom priceRoom shareRoom ≡ comesOut
 
+-- "and by planning in document 01": the prices are, interval by interval, the smallest that the check accepts for the plan,
+-- with whatever figure.
+abbrev pub SmallestPrices : (levelBytes jobBytes : List ℕ) → List Job → (plan prices : List ℕ) → Type 0
+SmallestPrices levelBytes jobBytes jobs plan prices =
+    (others : List ℕ) (answered : ℕ) → check levelBytes jobBytes plan others ≡ answer answered
+    → (i : ℕ) → i < intervalCount (boundsOf jobs) → pricesOf prices i ≤ pricesOf others i
+
 -- What holds of a plan that comes out.
 pub record BestPlan (levelBytes jobBytes : List ℕ) (levels : List Level) (jobs : List Job) (energy : ℕ) (plan prices : List ℕ) : Type 0 where
   -- "all cycles are placed and each interval is priced, by 2"
@@ -102,10 +109,7 @@ pub record BestPlan (levelBytes jobBytes : List ℕ) (levels : List Level) (jobs
   pub least : LeastPlan levels jobs plan energy
   -- the plan, carried out, is itself a schedule that meets all deadlines, of equal exact energy
   pub carried-out : CarriedOut 0 levels jobs (boundsOf jobs) (sharesOf plan)
-  -- "and by planning in document 01": the prices are, interval by interval, the smallest that the check accepts for the
-  -- plan, with whatever figure
-  pub smallest : (others : List ℕ) (answered : ℕ) → check levelBytes jobBytes plan others ≡ answer answered
-      → (i : ℕ) → i < intervalCount (boundsOf jobs) → pricesOf prices i ≤ pricesOf others i
+  pub smallest : SmallestPrices levelBytes jobBytes jobs plan prices
 
 abbrev pub PlannedIsBest : Type 0
 PlannedIsBest =
@@ -113,26 +117,3 @@ PlannedIsBest =
     → (intervals steps energy : ℕ) (plan prices shares : List ℕ)
     → Planned levelBytes jobBytes jobs intervals steps energy plan prices shares
     → BestPlan levelBytes jobBytes levels jobs energy plan prices
-
--- Demand 3 of one call: its outcome, and what it answered and wrote where a plan came out.
-pub record DemandThree (levelBytes jobBytes : List ℕ) (levels : List Level) (jobs : List Job)
-    (outcome : PlanOutcome) (energy : ℕ) (plan prices : List ℕ) : Type 0 where
-  -- "a plan comes out exactly when some schedule over the same levels meets all deadlines"
-  pub exactly-when-served : (outcome ≡ comesOut) ↔ CanBeServed levels jobs
-  pub best : outcome ≡ comesOut → BestPlan levelBytes jobBytes levels jobs energy plan prices
-  -- "the check, lent the same tables and exactly the bytes written, accepts them and answers the same energy figure"
-  pub checked : outcome ≡ comesOut → check levelBytes jobBytes plan prices ≡ answer energy
-  -- "Where no plan comes out, a window does, .. and then no schedule meets all deadlines."
-  pub window : (outcome ≡ comesOut → ⊥)
-      → (start end : ℕ) × (spare : ℤ) × (outcome ≡ overfull start end spare) × EarliestWindow (topFrequency levels) jobs start end spare
-  pub no-schedule : (outcome ≡ comesOut → ⊥) → CanBeServed levels jobs → ⊥
-
--- An operation whose outcome is planning's and that has planned where a plan comes out meets demand 3.
-abbrev pub PlanningMeetsDemandThree : Type 0
-PlanningMeetsDemandThree =
-    (levelBytes jobBytes : List ℕ) (levels : List Level) (jobs : List Job) → ValidTables levelBytes jobBytes levels jobs
-    → (planRoom priceRoom shareRoom : ℕ) → LongEnough jobs planRoom priceRoom shareRoom
-    → (outcome : PlanOutcome) → outcome ≡ planning levelBytes jobBytes planRoom priceRoom shareRoom
-    → (intervals steps energy : ℕ) (plan prices shares : List ℕ)
-    → (outcome ≡ comesOut → Planned levelBytes jobBytes jobs intervals steps energy plan prices shares)
-    → DemandThree levelBytes jobBytes levels jobs outcome energy plan prices

@@ -6,5 +6,4 @@ pub mod SameShares
 pub mod WrittenSite
 pub mod MadePlans
 pub mod RoomSizes
-pub mod PlanDemand
 pub mod PlanStages

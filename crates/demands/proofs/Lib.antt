@@ -1,0 +1,3 @@
+-- Laws of refusal numbers, and the three demands.
+pub mod RefusalNumbers
+pub mod ThreeDemands

@@ -1,0 +1,248 @@
+-- Laws of the numbers that a definition refuses by, one for each form of refusal, and the numbers of each operation.
+-- Assumes nothing.
+use mathlib.Core.Path.{_≡_, refl, sym}
+use mathlib.Core.Bool.{Bool, true, false, cond, not, _&&_, _||_}
+use mathlib.Core.Logic.{_⊎_, inl, inr}
+use mathlib.Core.List.{List}
+use mathlib.Core.Option.{Option, none, some}
+use Prim.Native.Nat.{ℕ, zero, suc, _+_, _*_}
+use native.Mathlib.Omega.{arith}
+use lib.ListN.{length}
+use lib.Dec.{ltb, leb, eqb}
+use Rattle.model.specs.declared.Level.{Level}
+use Rattle.model.specs.declared.Job.{Job}
+use Rattle.model.specs.Limits.{maxLevels, maxJobs, maxDeadline}
+use Rattle.model.specs.Outcome.{Outcome, refused, answer, andThen, refuseWhen, refuseAt, byEntryFrom}
+use Rattle.model.specs.Entries.{listOf}
+use Rattle.model.specs.Levels.{levelCount, levelEntries, wrongFrequency, wrongVoltage, faultOfLevel, levelFault, readLevels}
+use Rattle.model.specs.Jobs.{jobOf, jobCount, jobEntries, wrongWindow, wrongCycles as wrongJobCycles, faultOfJob, jobFault, readJobs}
+use Rattle.model.specs.Points.{Point, topFrequency}
+use Rattle.model.specs.Setting.{settingOf, workingOf, setting}
+use Rattle.model.specs.Search.{someBelow}
+use Rattle.model.specs.Intervals.{boundsOf, intervalCount, boundAt, lengthOf, isOpen, openPairs}
+use Rattle.model.specs.Windows.{Window, spareOf, earliestOverfull, spare}
+use Rattle.model.specs.Plans.{load}
+use Rattle.model.specs.Prices.{isBandNumber, fitsLoad}
+use Rattle.model.specs.Steps.{planIntervals, stepCount, stepAt, wrongPlanLength, walk, sharesOf}
+use Rattle.model.specs.PriceBytes.{endAt, pricesOf}
+use Rattle.model.specs.Checking.{
+  wrongCell,
+  wrongCycles,
+  stepFault,
+  jobSum,
+  jobSumFault,
+  loadFault,
+  fitting,
+  wrongPriceLength,
+  entryFault,
+  priceFault,
+  cheaperFault,
+  pricing,
+  figureOf,
+  check,
+}
+use Rattle.model.specs.Planning.{PlanOutcome, refusal, afterReading, unlessOverfull, wants, planning}
+use Rattle.demands.specs.ThreeDemands.{From, RefusesBy}
+
+-- A fault number is 0, for none, or one of the numbers.
+abbrev FaultBy : (numbers : ℕ → Type 0) → ℕ → Type 0
+FaultBy numbers fault = (fault ≡ 0) ⊎ numbers fault
+
+module _ (numbers : ℕ → Type 0) where
+  fault-cond : (test : Bool) (number other : ℕ) → numbers number → FaultBy numbers other → FaultBy numbers (cond test number other)
+  fault-cond true number other mine rest = inr mine
+  fault-cond false number other mine rest = rest
+
+  fault-unless : (test : Bool) (number : ℕ) → numbers number → FaultBy numbers (cond test 0 number)
+  fault-unless true number mine = inl refl
+  fault-unless false number mine = inr mine
+
+  module _ {A : Type 0} where
+    by-answer : (a : A) → RefusesBy numbers (answer a)
+    by-answer a number place e = let z : _≡_ {A = ℕ} 0 1 = cc e in absurd (omega (arith, z))
+
+    by-refused : (own at : ℕ) → numbers own → RefusesBy {A = A} numbers (refused own at)
+    by-refused own at mine number place e = let same : own ≡ number = cc e in rw same at mine
+
+    by-when : (condition : Bool) (own : ℕ) {next : Outcome A} → numbers own → RefusesBy numbers next → RefusesBy numbers (refuseWhen condition own next)
+    by-when true own mine rest = by-refused own 0 mine
+    by-when false own mine rest = rest
+
+    by-at : (own at : ℕ) {next : Outcome A} → FaultBy numbers own → RefusesBy numbers next → RefusesBy numbers (refuseAt own at next)
+    by-at zero at fault rest = rest
+    by-at (suc n) at (inl e) rest = absurd (omega (arith, e))
+    by-at (suc n) at (inr mine) rest = by-refused (suc n) at mine
+
+    by-entries : (first count : ℕ) (fault : ℕ → ℕ) {next : Outcome A} → ((i : ℕ) → FaultBy numbers (fault i)) → RefusesBy numbers next
+        → RefusesBy numbers (byEntryFrom first count fault next)
+    unfolding byEntryFrom
+    by-entries first zero fault each rest = rest
+    by-entries first (suc count) fault each rest = by-at (fault first) first (each first) (by-entries (suc first) count fault each rest)
+
+    by-then : {B : Type 0} (first : Outcome B) (next : B → Outcome A) → RefusesBy numbers first → ((b : B) → RefusesBy numbers (next b))
+        → RefusesBy numbers (andThen first next)
+    by-then (refused own at) next mine rest = by-refused own at (mine own at refl)
+    by-then (answer b) next mine rest = rest b
+
+-- numbers among more numbers
+widen : {A : Type 0} {few many : ℕ → Type 0} {outcome : Outcome A} → ((n : ℕ) → few n → many n) → RefusesBy few outcome → RefusesBy many outcome
+widen wider by number place e = wider number (by number place e)
+
+level-fault : (before this : Level) → FaultBy (From 1 5) (faultOfLevel before this)
+unfolding faultOfLevel
+level-fault before this =
+    fault-cond (From 1 5) (wrongFrequency before this) 4 (cond (wrongVoltage before this) 5 0) (omega arith)
+    (fault-cond (From 1 5) (wrongVoltage before this) 5 0 (omega arith) (inl refl))
+
+pub levels-by : (bytes : List ℕ) → RefusesBy (From 1 5) (readLevels bytes)
+unfolding readLevels
+levels-by bytes =
+    by-when (From 1 5) (ltb (length bytes) 2) 1 (omega arith)
+    (by-when (From 1 5) (not (leb 1 (levelCount bytes) && leb (levelCount bytes) maxLevels)) 2 (omega arith)
+    (by-when (From 1 5) (not (eqb (length bytes) (2 + 4 * levelCount bytes))) 3 (omega arith)
+    (by-entries (From 1 5) 0 (levelCount bytes) (levelFault (levelEntries bytes)) (λ i. level-fault _ _)
+    (by-answer (From 1 5) (levelEntries bytes)))))
+
+job-fault : (job : Job) → FaultBy (From 6 10) (faultOfJob job)
+unfolding faultOfJob
+job-fault job =
+    fault-cond (From 6 10) (wrongWindow job) 9 (cond (wrongJobCycles job) 10 0) (omega arith)
+    (fault-cond (From 6 10) (wrongJobCycles job) 10 0 (omega arith) (inl refl))
+
+pub jobs-by : (bytes : List ℕ) → RefusesBy (From 6 10) (readJobs bytes)
+unfolding readJobs
+jobs-by bytes =
+    by-when (From 6 10) (ltb (length bytes) 2) 6 (omega arith)
+    (by-when (From 6 10) (ltb maxJobs (jobCount bytes)) 7 (omega arith)
+    (by-when (From 6 10) (not (eqb (length bytes) (2 + 12 * jobCount bytes))) 8 (omega arith)
+    (by-entries (From 6 10) 0 (jobCount bytes) (jobFault (jobEntries bytes)) (λ j. job-fault _)
+    (by-answer (From 6 10) (jobEntries bytes)))))
+
+pub setting-by : (levels : List ℕ) (size load : ℕ) → RefusesBy (λ n. From 1 5 n ⊎ From 25 26 n) (setting levels size load)
+unfolding setting
+setting-by levels size load =
+    let numbers : ℕ → Type 0 = λ n. From 1 5 n ⊎ From 25 26 n in
+    by-then numbers (readLevels levels) _ (widen (λ n low. inl low) (levels-by levels)) λ read.
+    by-when numbers (not (leb 1 size && leb size maxDeadline)) 25 (inr (omega arith))
+    (by-when numbers (ltb (size * topFrequency read) load) 26 (inr (omega arith))
+    (by-answer numbers (settingOf (workingOf read) size load)))
+
+module _ (levels jobs : List ℕ) (past : ℕ → Type 0) where
+  levels-then : RefusesBy (λ n. From 1 10 n ⊎ past n) (readLevels levels)
+  levels-then = widen (λ n low. inl (omega (arith, low))) (levels-by levels)
+
+  jobs-then : RefusesBy (λ n. From 1 10 n ⊎ past n) (readJobs jobs)
+  jobs-then = widen (λ n low. inl (omega (arith, low))) (jobs-by jobs)
+
+pub spare-by : (levels jobs : List ℕ) (start end : ℕ) → RefusesBy (λ n. From 1 10 n ⊎ From 27 27 n) (spare levels jobs start end)
+unfolding spare
+spare-by levels jobs start end =
+    let numbers : ℕ → Type 0 = λ n. From 1 10 n ⊎ From 27 27 n in
+    by-then numbers (readLevels levels) _ (levels-then levels jobs (From 27 27)) λ read.
+    by-then numbers (readJobs jobs) _ (jobs-then levels jobs (From 27 27)) λ own.
+    by-when numbers (leb end start || ltb maxDeadline end) 27 (inr (omega arith))
+    (by-answer numbers (spareOf (topFrequency read) own start end))
+
+pub walk-by : (plan : List ℕ) → RefusesBy (From 15 15) (walk plan)
+unfolding walk
+walk-by plan = by-when (From 15 15) (wrongPlanLength plan) 15 (omega arith) (by-answer (From 15 15) (listOf (stepCount plan) (stepAt plan)))
+
+abbrev CheckNumbers : ℕ → Type 0
+CheckNumbers n = From 1 10 n ⊎ From 15 24 n
+
+module _ (top : ℕ) (jobs : List Job) (bounds plan : List ℕ) where
+  step-fault : (s : ℕ) → FaultBy CheckNumbers (stepFault top jobs bounds plan s)
+  unfolding stepFault
+  step-fault s =
+      fault-cond CheckNumbers (wrongCell top jobs bounds plan s) 17 (cond (wrongCycles top jobs bounds plan s) 18 0) (inr (omega arith))
+      (fault-cond CheckNumbers (wrongCycles top jobs bounds plan s) 18 0 (inr (omega arith)) (inl refl))
+
+  job-sum-fault : (j : ℕ) → FaultBy CheckNumbers (jobSumFault top jobs bounds plan j)
+  unfolding jobSumFault
+  job-sum-fault j = fault-unless CheckNumbers (eqb (jobSum top jobs bounds plan j) (jobOf jobs j .cycles)) 19 (inr (omega arith))
+
+  load-fault : (i : ℕ) → FaultBy CheckNumbers (loadFault top jobs bounds plan i)
+  unfolding loadFault
+  load-fault i = fault-unless CheckNumbers (leb (load jobs (sharesOf plan) i) (lengthOf bounds i * top)) 20 (inr (omega arith))
+
+  fitting-by : {A : Type 0} {next : Outcome A} → RefusesBy CheckNumbers next → RefusesBy CheckNumbers (fitting top jobs bounds plan next)
+  unfolding fitting
+  fitting-by rest =
+      by-when CheckNumbers (wrongPlanLength plan) 15 (inr (omega arith))
+      (by-when CheckNumbers (not (eqb (planIntervals plan) (intervalCount bounds))) 16 (inr (omega arith))
+      (by-entries CheckNumbers 0 (stepCount plan) (stepFault top jobs bounds plan) step-fault
+      (by-entries CheckNumbers 0 (length jobs) (jobSumFault top jobs bounds plan) job-sum-fault
+      (by-entries CheckNumbers 0 (intervalCount bounds) (loadFault top jobs bounds plan) load-fault
+      rest))))
+
+module _ (ws : List Point) (jobs : List Job) (bounds plan prices : List ℕ) where
+  entry-fault : (i : ℕ) → FaultBy CheckNumbers (entryFault ws jobs bounds plan prices i)
+  unfolding entryFault
+  entry-fault i =
+      fault-unless CheckNumbers (eqb (endAt prices i) (boundAt bounds (suc i)) && isBandNumber ws (pricesOf prices i)) 22 (inr (omega arith))
+
+  price-fault : (i : ℕ) → FaultBy CheckNumbers (priceFault ws jobs bounds plan prices i)
+  unfolding priceFault
+  price-fault i =
+      fault-unless CheckNumbers (fitsLoad ws (lengthOf bounds i) (load jobs (sharesOf plan) i) (pricesOf prices i)) 23 (inr (omega arith))
+
+  cheaper-fault : (s : ℕ) → FaultBy CheckNumbers (cheaperFault ws jobs bounds plan prices s)
+  unfolding cheaperFault
+  cheaper-fault s =
+      fault-cond CheckNumbers
+      (someBelow (intervalCount bounds)
+      (λ i. isOpen bounds (jobOf jobs (stepAt plan s .job)) i && ltb (pricesOf prices i) (pricesOf prices (stepAt plan s .interval))))
+      24 0 (inr (omega arith)) (inl refl)
+
+  pricing-by : {A : Type 0} {next : Outcome A} → RefusesBy CheckNumbers next → RefusesBy CheckNumbers (pricing ws jobs bounds plan prices next)
+  unfolding pricing
+  pricing-by rest =
+      by-when CheckNumbers (wrongPriceLength ws jobs bounds plan prices) 21 (inr (omega arith))
+      (by-entries CheckNumbers 0 (intervalCount bounds) (entryFault ws jobs bounds plan prices) entry-fault
+      (by-entries CheckNumbers 0 (intervalCount bounds) (priceFault ws jobs bounds plan prices) price-fault
+      (by-entries CheckNumbers 0 (stepCount plan) (cheaperFault ws jobs bounds plan prices) cheaper-fault
+      rest)))
+
+pub check-by : (levels jobs plan prices : List ℕ) → RefusesBy CheckNumbers (check levels jobs plan prices)
+unfolding check
+check-by levels jobs plan prices =
+    by-then CheckNumbers (readLevels levels) _ (levels-then levels jobs (From 15 24)) λ read.
+    by-then CheckNumbers (readJobs jobs) _ (jobs-then levels jobs (From 15 24)) λ own.
+    fitting-by (topFrequency read) own (boundsOf own) plan
+    (pricing-by (workingOf read) own (boundsOf own) plan prices
+    (by-answer CheckNumbers (figureOf read own plan)))
+
+-- planning's own form of outcome
+abbrev PlanNumbers : ℕ → Type 0
+PlanNumbers n = From 1 10 n ⊎ From 12 14 n
+
+abbrev PlanRefusesBy : PlanOutcome → Type 0
+PlanRefusesBy outcome = (number place : ℕ) → outcome ≡ refusal number place → PlanNumbers number
+
+after-reading : {A : Type 0} (first : Outcome A) (next : A → PlanOutcome) → RefusesBy PlanNumbers first
+    → ((a : A) → PlanRefusesBy (next a)) → PlanRefusesBy (afterReading first next)
+after-reading (refused own at) next by rest = λ number place e. let same : own ≡ number = cc e in rw same at (by own at refl)
+after-reading (answer a) next by rest = rest a
+
+unless-overfull : (top : ℕ) (jobs : List Job) (found : Option Window) {next : PlanOutcome} → PlanRefusesBy next
+    → PlanRefusesBy (unlessOverfull top jobs found next)
+unless-overfull top jobs (some window) rest = λ number place e. let z : _≡_ {A = ℕ} 0 1 = cc e in absurd (omega (arith, z))
+unless-overfull top jobs none rest = rest
+
+wanted : (own wants-length room : ℕ) {next : PlanOutcome} → PlanNumbers own → PlanRefusesBy next → PlanRefusesBy (wants own wants-length room next)
+wanted own length room {next} by rest = go (ltb room length)
+  where
+    go : (short : Bool) → PlanRefusesBy (cond short (refusal own length) next)
+    go true = λ number place e. let same : own ≡ number = cc e in rw same at by
+    go false = rest
+
+pub planning-by : (levels jobs : List ℕ) (planRoom priceRoom shareRoom : ℕ) → PlanRefusesBy (planning levels jobs planRoom priceRoom shareRoom)
+unfolding planning
+planning-by levels jobs planRoom priceRoom shareRoom =
+    after-reading (readLevels levels) _ (levels-then levels jobs (From 12 14)) λ read.
+    after-reading (readJobs jobs) _ (jobs-then levels jobs (From 12 14)) λ own.
+    unless-overfull (topFrequency read) own (earliestOverfull (topFrequency read) own)
+    (wanted 12 (4 + 6 * openPairs (boundsOf own) own) planRoom (inr (omega arith))
+    (wanted 13 (2 + 5 * intervalCount (boundsOf own)) priceRoom (inr (omega arith))
+    (wanted 14 (length own * intervalCount (boundsOf own)) shareRoom (inr (omega arith))
+    (λ number place e. let z : _≡_ {A = ℕ} 0 1 = cc e in absurd (omega (arith, z))))))

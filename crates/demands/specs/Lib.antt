@@ -1,0 +1,2 @@
+-- The three demands, for a reader who reads nothing else.
+pub mod ThreeDemands

@@ -1,0 +1,158 @@
+-- The user's three demands, each as one statement in the user's words. A reader who reads nothing else needs this file and
+-- the definitions that it names; docs/ARCHITECTURE.md gives an order to read those in. Proved in proofs/ThreeDemands.antt.
+--
+-- The operations are functions without `requires`. What comes back, for bytes of any length and content and any numbers:
+--
+--     read_levels bytes                  levelTable (readLevels bytes)
+--     read_jobs bytes                    jobTable (readJobs bytes)
+--     setting levels length load         settingAnswer (setting levels length load)
+--     spare levels jobs start end        spareAnswer (spare levels jobs start end)
+--     check levels jobs plan prices      checkAnswer (check levels jobs plan prices)
+--     step_at plan position              stepAnswer (walk plan) position
+--     plan levels jobs and the buffers   an answer that `PlanContract` holds of
+--
+-- An answer's enum has a case for each case of the outcome, with the same numbers. So what is stated here of an outcome
+-- on the right holds of what the caller gets.
+use Prim.Native.Nat.{ℕ, _+_, _*_, _≤_}
+use mathlib.Core.Path.{_≡_}
+use mathlib.Core.Logic.{_↔_, _⊎_}
+use mathlib.Core.List.{List}
+use lib.ListN.{length, take}
+use lib.IntN.{ℤ}
+use Rattle.model.specs.declared.Level.{Level}
+use Rattle.model.specs.declared.Job.{Job}
+use Rattle.model.specs.Outcome.{Outcome, refused, answer}
+use Rattle.model.specs.Levels.{readLevels}
+use Rattle.model.specs.Jobs.{readJobs}
+use Rattle.model.specs.Points.{topFrequency}
+use Rattle.model.specs.Bands.{scale}
+use Rattle.model.specs.Setting.{workingOf, setting}
+use Rattle.model.specs.Intervals.{boundsOf}
+use Rattle.model.specs.Windows.{spare}
+use Rattle.model.specs.Plans.{Gives}
+use Rattle.model.specs.Energy.{exactEnergy}
+use Rattle.model.specs.Prices.{FittingPrices}
+use Rattle.model.specs.Schedules.{Schedule, Serves, slotPowers}
+use Rattle.model.specs.LeastEnergy.{CarriedOut}
+use Rattle.model.specs.Steps.{walk, sharesOf}
+use Rattle.model.specs.PriceBytes.{pricesOf}
+use Rattle.model.specs.Checking.{check, figureOf}
+use Rattle.model.specs.Accepted.{IsPlan, IsPriceList}
+use Rattle.model.specs.Planning.{comesOut, refusal}
+use Rattle.model.specs.Demands.{ValidTables, LongEnough, CanBeServed, NeedsMore, EarliestWindow, SmallestPrices}
+use Rattle.planning.specs.declared.operation.PlanAnswer.{PlanAnswer}
+use Rattle.planning.specs.declared.operation.PlanAnswer.the-variants.{Plan, Overfull}
+use Rattle.planning.specs.MadePlans.{Buffers}
+use Rattle.planning.specs.PlanAnswers.{outcomeOf, PlanContract}
+
+-- One call of planning: what it was lent, what it left there, and its answer, with the contract that holds of every call.
+pub record Call : Type 0 where
+  pub levelBytes : List ℕ
+  pub jobBytes : List ℕ
+  pub before : Buffers
+  pub after : Buffers
+  pub answered : PlanAnswer
+  pub contract : PlanContract levelBytes jobBytes before after answered
+
+-- "a plan comes out"
+abbrev pub PlanComesOut : Call → Type 0
+PlanComesOut call = outcomeOf (call .answered) ≡ comesOut
+
+-- The bytes that a call wrote where it answers N intervals and S steps.
+abbrev pub planWritten : Call → (steps : ℕ) → List ℕ
+planWritten call steps = take (4 + 6 * steps) (call .after .plan)
+
+abbrev pub pricesWritten : Call → (intervals : ℕ) → List ℕ
+pricesWritten call intervals = take (2 + 5 * intervals) (call .after .prices)
+
+-- The numbers of document 01's refusals, from one to another.
+abbrev pub From : (first last number : ℕ) → Type 0
+From first last number = (first ≤ number) × (number ≤ last)
+
+-- An outcome is an answer or a refusal; a refusal has one of the operation's numbers.
+abbrev pub RefusesBy : {A : Type 0} → (numbers : ℕ → Type 0) → Outcome A → Type 0
+RefusesBy numbers outcome = (number place : ℕ) → outcome ≡ refused number place → numbers number
+
+-- Demand 1. "Whoever calls an operation, with bytes of any length and content, gets a result or a numbered refusal from
+-- document 01; nothing is required of the caller first, and a refused call changes nothing lent to it." Planning alone
+-- is lent anything that it may change.
+pub record DemandOne : Type 0 where
+  pub reading-levels : (bytes : List ℕ) → RefusesBy (From 1 5) (readLevels bytes)
+  pub reading-jobs : (bytes : List ℕ) → RefusesBy (From 6 10) (readJobs bytes)
+  pub setting-one : (levels : List ℕ) (length load : ℕ) → RefusesBy (λ n. From 1 5 n ⊎ From 25 26 n) (setting levels length load)
+  pub spare-of-window : (levels jobs : List ℕ) (start end : ℕ) → RefusesBy (λ n. From 1 10 n ⊎ From 27 27 n) (spare levels jobs start end)
+  pub checking : (levels jobs plan prices : List ℕ) → RefusesBy (λ n. From 1 10 n ⊎ From 15 24 n) (check levels jobs plan prices)
+  pub walking : (plan : List ℕ) → RefusesBy (From 15 15) (walk plan)
+  -- 11 is the case Overfull, with its window and spare
+  pub planning : (call : Call) (number place : ℕ) → outcomeOf (call .answered) ≡ refusal number place → From 1 10 number ⊎ From 12 14 number
+  pub changes-nothing : (call : Call) → (PlanComesOut call → ⊥) → call .after ≡ call .before
+
+-- Demand 2. "A plan gives each job exactly its cycles between release and deadline, one job at a time, by the workload and
+-- processor model of George's 2005 thesis, with the energy figure that document 01 defines."
+pub record SuchAPlan (levels : List Level) (jobs : List Job) (plan : List ℕ) (figure : ℕ) : Type 0 where
+  pub is-plan : IsPlan jobs (boundsOf jobs) plan
+  -- each job has exactly its cycles, in intervals between its release and its deadline, and no interval is overloaded
+  pub gives : Gives (topFrequency levels) jobs (boundsOf jobs) (sharesOf plan)
+  -- carried out it is a schedule over the levels: a slot has one level and one job, and every deadline is met
+  pub carried-out : CarriedOut 0 levels jobs (boundsOf jobs) (sharesOf plan)
+  pub energy-figure : figure ≡ figureOf levels jobs plan
+
+-- "the prices fit document 01's rules"
+pub record PricesFit (levels : List Level) (jobs : List Job) (plan prices : List ℕ) : Type 0 where
+  pub is-price-list : IsPriceList (boundsOf jobs) prices
+  pub fitting : FittingPrices (workingOf levels) jobs (boundsOf jobs) (sharesOf plan) (pricesOf prices)
+
+-- What the check is to accept: tables that are read, such a plan, and prices that fit.
+pub record Acceptable (levelBytes jobBytes plan prices : List ℕ) (figure : ℕ) : Type 0 where
+  pub levels : List Level
+  pub jobs : List Job
+  pub tables : ValidTables levelBytes jobBytes levels jobs
+  pub such-a-plan : SuchAPlan levels jobs plan figure
+  pub prices-fit : PricesFit levels jobs plan prices
+
+pub record DemandTwo : Type 0 where
+  -- "The planner writes only such plans."
+  pub planner : (call : Call) (levels : List Level) (jobs : List Job) → ValidTables (call .levelBytes) (call .jobBytes) levels jobs
+      → (intervals steps energy : ℕ) → call .answered ≡ Plan intervals steps energy → SuchAPlan levels jobs (planWritten call steps) energy
+  -- "The check accepts a plan and its price list exactly when the plan is such a plan and the prices fit document 01's rules."
+  pub accepts : (levelBytes jobBytes plan prices : List ℕ) (figure : ℕ)
+      → (check levelBytes jobBytes plan prices ≡ answer figure) ↔ Acceptable levelBytes jobBytes plan prices figure
+
+-- Demand 3, where a plan was written. All energies are multiplied out by all gaps, and by q where a schedule is one side.
+pub record WrittenPlan (call : Call) (levels : List Level) (jobs : List Job) (intervals steps energy : ℕ) : Type 0 where
+  -- "Every schedule over those levels that meets all deadlines, whatever whole number of slots it cuts a tick into, has at
+  -- least the exact energy of the plan written."
+  pub least : (schedule : Schedule levels jobs) → Serves schedule
+      → schedule .q * exactEnergy (workingOf levels) jobs (boundsOf jobs) (sharesOf (planWritten call steps))
+      ≤ scale (workingOf levels) * slotPowers 0 schedule
+  -- "all cycles are placed and each interval is priced, by 2 and by planning in document 01"
+  pub placed : SuchAPlan levels jobs (planWritten call steps) energy
+  pub priced : PricesFit levels jobs (planWritten call steps) (pricesWritten call intervals)
+  pub smallest : SmallestPrices (call .levelBytes) (call .jobBytes) jobs (planWritten call steps) (pricesWritten call intervals)
+  -- "and the check, lent the same tables and exactly the bytes written, accepts them and answers the same energy figure"
+  pub checked : check (call .levelBytes) (call .jobBytes) (planWritten call steps) (pricesWritten call intervals) ≡ answer energy
+
+-- "Where no plan comes out, a window does, whose own jobs need more cycles than the top frequency gives there, and then no
+-- schedule meets all deadlines."
+pub record NoPlan (call : Call) (levels : List Level) (jobs : List Job) : Type 0 where
+  pub start : ℕ
+  pub end : ℕ
+  pub spare : ℤ
+  pub window : call .answered ≡ Overfull start end spare
+  pub needs-more : NeedsMore (topFrequency levels) jobs start end
+  pub earliest : EarliestWindow (topFrequency levels) jobs start end spare
+  pub no-schedule : CanBeServed levels jobs → ⊥
+
+-- Demand 3. "Whatever valid tables are planned, with long enough buffers, a plan comes out exactly when some schedule over
+-- the same levels meets all deadlines."
+pub record DemandThree : Type 0 where
+  pub exactly-when : (call : Call) (levels : List Level) (jobs : List Job) → ValidTables (call .levelBytes) (call .jobBytes) levels jobs
+      → LongEnough jobs (length (call .before .plan)) (length (call .before .prices)) (length (call .before .shares))
+      → PlanComesOut call ↔ CanBeServed levels jobs
+  -- with every plan that comes out
+  pub written : (call : Call) (levels : List Level) (jobs : List Job) → ValidTables (call .levelBytes) (call .jobBytes) levels jobs
+      → (intervals steps energy : ℕ) → call .answered ≡ Plan intervals steps energy → WrittenPlan call levels jobs intervals steps energy
+  -- where none comes out
+  pub window-instead : (call : Call) (levels : List Level) (jobs : List Job) → ValidTables (call .levelBytes) (call .jobBytes) levels jobs
+      → LongEnough jobs (length (call .before .plan)) (length (call .before .prices)) (length (call .before .shares))
+      → (PlanComesOut call → ⊥) → NoPlan call levels jobs
