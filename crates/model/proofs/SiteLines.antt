@@ -13,7 +13,7 @@ use Rattle.model.specs.Search.{someBelow, firstFrom, leastBelow}
 use Rattle.model.specs.Points.{points, drops, dropped, selectFrom, working}
 use Rattle.model.specs.Bands.{gap, rise, scale, price}
 use Rattle.model.specs.Setting.{bandOf, settingOf, setting}
-use Rattle.model.specs.Intervals.{insertTime, boundsOf, lengthOf, isOpen}
+use Rattle.model.specs.Intervals.{insertTime, boundsOf, lengthOf, isOpen, openCount, openPairs}
 use Rattle.model.specs.Windows.{cyclesInside, spareOf, isOverfull, overfullTo, earliestStart, earliestEnd, earliestOverfull, spare}
 use Rattle.model.specs.Plans.{load}
 use Rattle.model.specs.Energy.{bandCycles, intervalEnergy, exactEnergy, bandTotal, energyFigure}
@@ -21,7 +21,8 @@ use Rattle.model.specs.Prices.{fitsLoad}
 use Rattle.model.specs.Steps.{stepAt, sharesOf}
 use Rattle.model.specs.PriceBytes.{pricesOf}
 use Rattle.model.specs.Checking.{stepFault, jobSum, jobSumFault, loadFault, fitting, entryFault, priceFault, cheaperFault, pricing, check}
+use Rattle.model.specs.Planning.{planning}
 
 pub lines-hold : (allHold pLines ≡ true) × (allHold workedLines ≡ true)
-unfolding allHold holds pLines workedLines byEntryFrom numberAt bytesOf listOf encodeEach readLevels levelAt faultOfLevel encodeLevels readJobs jobAt faultOfJob encodeJobs sum product someBelow firstFrom leastBelow points drops dropped selectFrom working gap rise scale price bandOf settingOf setting insertTime boundsOf lengthOf cyclesInside spareOf isOverfull overfullTo earliestStart earliestEnd earliestOverfull spare load bandCycles intervalEnergy exactEnergy bandTotal energyFigure isOpen fitsLoad stepAt sharesOf pricesOf stepFault jobSum jobSumFault loadFault fitting entryFault priceFault cheaperFault pricing check
+unfolding allHold holds pLines workedLines byEntryFrom numberAt bytesOf listOf encodeEach readLevels levelAt faultOfLevel encodeLevels readJobs jobAt faultOfJob encodeJobs sum product someBelow firstFrom leastBelow points drops dropped selectFrom working gap rise scale price bandOf settingOf setting insertTime boundsOf lengthOf cyclesInside spareOf isOverfull overfullTo earliestStart earliestEnd earliestOverfull spare load bandCycles intervalEnergy exactEnergy bandTotal energyFigure isOpen fitsLoad stepAt sharesOf pricesOf stepFault jobSum jobSumFault loadFault fitting entryFault priceFault cheaperFault pricing check openCount openPairs planning
 lines-hold = (refl, refl)

@@ -1,9 +1,8 @@
 -- The lines of document 01's "Sites to try" that are marked P, as one table. That every line holds is one statement,
--- proved in proofs/SiteLines.antt by computing the definitions. Lines on planning join with that operation.
+-- proved in proofs/SiteLines.antt by computing the definitions.
 use Prim.Native.Nat.{ℕ, zero, suc, _+_, _*_}
 use mathlib.Core.Bool.{Bool, true, false, _&&_}
 use mathlib.Core.List.{List, [], _∷_, map}
-use mathlib.Core.Option.{Option, none, some}
 use lib.IntN.{ℤ, pos, negsuc}
 use lib.Dec.{eqb}
 use Rattle.model.specs.declared.Level.{Level}
@@ -12,13 +11,14 @@ use Rattle.model.specs.Outcome.{Outcome, refused, answer}
 use Rattle.model.specs.Levels.{encodeLevels}
 use Rattle.model.specs.Jobs.{encodeJobs}
 use Rattle.model.specs.BuiltIn.{level, firstBuiltIn}
-use Rattle.model.specs.Points.{Point, topFrequency}
+use Rattle.model.specs.Points.{Point}
 use Rattle.model.specs.Setting.{Setting, setting, workingOf}
 use Rattle.model.specs.Intervals.{boundsOf, intervalCount}
-use Rattle.model.specs.Windows.{Window, spare, earliestOverfull}
+use Rattle.model.specs.Windows.{spare}
 use Rattle.model.specs.Bands.{scale}
 use Rattle.model.specs.Plans.{Shares}
 use Rattle.model.specs.Checking.{check}
+use Rattle.model.specs.Planning.{PlanOutcome, refusal, overfull, comesOut, planning}
 use Rattle.model.specs.Energy.{intervalEnergy, exactEnergy, energyFigure}
 
 abbrev pub job : (release deadline cycles : ℕ) → Job
@@ -37,9 +37,10 @@ pub data SiteLine : Type 0 where
   spares : List Level → List Job → (start end : ℕ) → ℤ → SiteLine
   -- these frequencies work, and no others
   works : List Level → (frequencies : List ℕ) → SiteLine
-  -- the earliest overfull window, or that the jobs fit
-  overfull : List Level → List Job → (start end : ℕ) → SiteLine
-  fits : List Level → List Job → SiteLine
+  -- planning returns 11 with this window and spare, even with buffers of length 0
+  refusesOverfull : List Level → List Job → (start end : ℕ) → ℤ → SiteLine
+  -- with buffers of these lengths planning comes out
+  plans : List Level → List Job → (planRoom priceRoom shareRoom : ℕ) → SiteLine
   -- the number of intervals, and the energy without any share, exact and reported
   intervals : List Job → (count : ℕ) → SiteLine
   idleEnergy : List Level → List Job → (energy : ℕ) → SiteLine
@@ -58,10 +59,10 @@ pLines =
     ∷ sets T 3 12 2 6 2
     ∷ refusesSetting T 3 13 26
     ∷ sets T 3 0 0 0 0
-    -- T, one job 0 1 with 4 cycles: spare 0; 5 cycles: spare −1, overfull
+    -- T, one job 0 1 with 4 cycles: spare 0; 5 cycles: spare −1, refusal 11
     ∷ spares T (job 0 1 4 ∷ []) 0 1 (pos 0)
     ∷ spares T (job 0 1 5 ∷ []) 0 1 (negsuc 0)
-    ∷ overfull T (job 0 1 5 ∷ []) 0 1
+    ∷ refusesOverfull T (job 0 1 5 ∷ []) 0 1 (negsuc 0)
     -- levels 100 10 and 200 10: only 200 works
     ∷ works (level 100 10 ∷ level 200 10 ∷ []) (200 ∷ [])
     -- 100 10, 110 20, 300 21: the middle one is dropped
@@ -69,9 +70,10 @@ pLines =
     -- no jobs: N = 0, energy 0
     ∷ intervals [] 0
     ∷ idleEnergy T [] 0
+    ∷ plans T [] 4 2 0
     ∷ accepts T [] (0 ∷ 0 ∷ 0 ∷ 0 ∷ []) (0 ∷ 0 ∷ []) 0
     -- T, two equal jobs 0 2 of 4 cycles fit; three have spare −4
-    ∷ fits T (job 0 2 4 ∷ job 0 2 4 ∷ [])
+    ∷ plans T (job 0 2 4 ∷ job 0 2 4 ∷ []) 16 7 2
     ∷ spares T (job 0 2 4 ∷ job 0 2 4 ∷ job 0 2 4 ∷ []) 0 2 (negsuc 3)
     ∷ []
 
@@ -103,7 +105,10 @@ workedLines =
     ∷ costs T 3 7 1_300
     -- first built-in table, one job 0 1 with 401 cycles: figure 4,018,415, the exact energy 105/133 higher
     ∷ needs firstBuiltIn (job 0 1 401 ∷ []) (λ i j. 401) 4_018_415 105 133
-    -- T, jobs 0 4 6 and 2 3 4: energy 2,200, and the check accepts the plan that the listing prints
+    -- T, three equal jobs 0 2 of 4 cycles: refusal 11
+    ∷ refusesOverfull T (job 0 2 4 ∷ job 0 2 4 ∷ job 0 2 4 ∷ []) 0 2 (negsuc 3)
+    -- T, jobs 0 4 6 and 2 3 4: a plan comes out, energy 2,200, and the check accepts the plan that the listing prints
+    ∷ plans T (job 0 4 6 ∷ job 2 3 4 ∷ []) 28 17 6
     ∷ needs T (job 0 4 6 ∷ job 2 3 4 ∷ []) listedShares 2_200 0 1
     ∷ accepts T (job 0 4 6 ∷ job 2 3 4 ∷ []) listedPlan listedPrices 2_200
     ∷ []
@@ -140,23 +145,26 @@ sameNumbers (m ∷ ms) (n ∷ ns) = eqb m n && sameNumbers ms ns
 sameWorking : List Point → List ℕ → Bool
 sameWorking ws frequencies = sameNumbers (map (λ point. point .frequency) ws) (0 ∷ frequencies)
 
-sameWindow : Option Window → (start end : ℕ) → Bool
-sameWindow none start end = false
-sameWindow (some window) start end = eqb (window .start) start && eqb (window .end) end
+sameOverfull : PlanOutcome → (start end : ℕ) → ℤ → Bool
+sameOverfull (refusal number place) start end z = false
+sameOverfull (overfull first last spare) start end z = eqb first start && eqb last end && sameInteger spare z
+sameOverfull comesOut start end z = false
 
-isNone : Option Window → Bool
-isNone none = true
-isNone (some window) = false
+isPlan : PlanOutcome → Bool
+isPlan (refusal number place) = false
+isPlan (overfull start end spare) = false
+isPlan comesOut = true
 
 -- The line holds, as the definitions compute.
 unfoldable pub holds : SiteLine → Bool
-unfolding sameSetting sameNumber sameRefusal sameInteger sameSpare sameNumbers sameWorking sameWindow isNone
+unfolding sameSetting sameNumber sameRefusal sameInteger sameSpare sameNumbers sameWorking sameOverfull isPlan
 holds (sets levels length load band extra gap) = sameSetting (setting (encodeLevels levels) length load) band extra gap
 holds (refusesSetting levels length load number) = sameRefusal (setting (encodeLevels levels) length load) number
 holds (spares levels jobs start end z) = sameSpare (spare (encodeLevels levels) (encodeJobs jobs) start end) z
 holds (works levels frequencies) = sameWorking (workingOf levels) frequencies
-holds (overfull levels jobs start end) = sameWindow (earliestOverfull (topFrequency levels) jobs) start end
-holds (fits levels jobs) = isNone (earliestOverfull (topFrequency levels) jobs)
+holds (refusesOverfull levels jobs start end z) = sameOverfull (planning (encodeLevels levels) (encodeJobs jobs) 0 0 0) start end z
+holds (plans levels jobs planRoom priceRoom shareRoom) =
+    isPlan (planning (encodeLevels levels) (encodeJobs jobs) planRoom priceRoom shareRoom)
 holds (intervals jobs count) = eqb (intervalCount (boundsOf jobs)) count
 holds (idleEnergy levels jobs energy) =
     eqb (exactEnergy (workingOf levels) jobs (boundsOf jobs) (λ i j. 0)) energy
