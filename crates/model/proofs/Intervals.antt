@@ -15,7 +15,7 @@ use borrow.Author.Tests.{leb-true, le-leb}
 use Rattle.model.specs.declared.Job.{Job}
 use Rattle.model.specs.Sum.{sum, onlyIf}
 use Rattle.model.specs.Jobs.{jobOf}
-use Rattle.model.specs.Intervals.{intervalCount, boundAt, lengthOf, isOpen, earliestRelease, latestDeadline, Bounds}
+use Rattle.model.specs.Intervals.{intervalCount, boundAt, lengthOf, isOpen, earliestRelease, latestDeadline, Bounds, OpenRange}
 use Rattle.model.proofs.Numbers.{lt-or-le, true-or-false, both-true, rises-between}
 use Rattle.model.proofs.Sum.{sum-cong, sum-zero, sum-split}
 
@@ -27,14 +27,6 @@ isOpen-iff bounds job i = (
   λ e. let h = both-true (leb (job .release) (boundAt bounds i)) _ e in (leb-true _ _ (h .0), leb-true _ _ (h .1)),
   λ h. rw (le-leb _ _ (h .0), le-leb _ _ (h .1)),
 )
-
--- Job j is open in the intervals from lo up to, not including, hi, and in no others.
-pub record OpenRange (jobs : List Job) (bounds : List ℕ) (j lo hi : ℕ) : Type 0 where
-  pub nonempty : lo < hi
-  pub within : hi ≤ intervalCount bounds
-  pub starts : boundAt bounds lo ≡ jobOf jobs j .release
-  pub ends : boundAt bounds hi ≡ jobOf jobs j .deadline
-  pub exactly : (i : ℕ) → i < intervalCount bounds → (isOpen bounds (jobOf jobs j) i ≡ true) ↔ ((lo ≤ i) × (i < hi))
 
 -- a step at which a sequence passes t
 pub stretch-of : (n : ℕ) (f : ℕ → ℕ) (t : ℕ) → f 0 ≤ t → t < f n → (i : ℕ) × (i < n) × (f i ≤ t) × (t < f (suc i))

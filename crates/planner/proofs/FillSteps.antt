@@ -12,10 +12,11 @@ use lib.Dec.{eqb}
 use borrow.Author.Tests.{eq-eqb, ne-eqb}
 use Rattle.model.specs.Limits.{maxFrequency, maxDeadline}
 use Rattle.model.specs.Sum.{onlyIf}
+use Rattle.model.specs.Plans.{sharesIn}
 use Rattle.planner.specs.declared.workload.Workload.{Workload}
 use Rattle.planner.specs.declared.search.Found.{Found}
 use Rattle.planner.specs.Placement.{Placing, loadOf}
-use Rattle.planner.specs.Arrays.{numbersIn, sharesIn, problemIn, KeptPast}
+use Rattle.planner.specs.Arrays.{numbersIn, problemIn, KeptPast}
 use Rattle.planner.specs.Reaching.{Reaching}
 use Rattle.planner.specs.Moves.{PathPasses, CanWalk, ToMove, CanMove, Moves}
 use Rattle.planner.specs.PlacedTables.{CanFill, Filled}

@@ -6,10 +6,11 @@ use Prim.Native.Nat.{ℕ, _+_, _*_, _<_, _≤_}
 use native.Mathlib.Omega.{arith}
 use lib.ListN.{length, getD, length-set}
 use Rattle.model.specs.Limits.{maxDeadline, maxFrequency, maxCycles}
+use Rattle.model.specs.Plans.{sharesIn}
 use Rattle.planner.specs.declared.workload.Workload.{Workload}
 use Rattle.planner.specs.declared.search.Found.{Found}
 use Rattle.planner.specs.Placement.{Open, firstOpen, Passes, Moving}
-use Rattle.planner.specs.Arrays.{numbersIn, sharesIn, problemIn, KeptPast}
+use Rattle.planner.specs.Arrays.{numbersIn, problemIn, KeptPast}
 use Rattle.planner.specs.Moves.{putAt, takenAt, ToMove, CanMove, Moves}
 use Rattle.planner.proofs.PathLimit.{first-open, passes-next}
 use Rattle.planner.proofs.PathSteps.{moving-start, moving-share, moving-step, moving-end, new-load}

@@ -7,12 +7,13 @@ use native.Mathlib.Numerals.{add-one}
 use native.Mathlib.Omega.{arith}
 use lib.ListN.{length, replicate, length-replicate}
 use Rattle.model.specs.Limits.{maxIntervals}
+use Rattle.model.specs.Plans.{sharesIn}
 use Rattle.model.proofs.Sum.{sum-zero}
 use Rattle.planner.specs.declared.workload.Workload.{Workload}
 use Rattle.planner.specs.declared.search.Found.{Found}
 use Rattle.planner.specs.Placement.{Raised, Placing}
 use Rattle.planner.specs.RangesFit.{RangesFit}
-use Rattle.planner.specs.Arrays.{numbersIn, sharesIn, problemIn, SoundWorkload, Stored, KeptPast}
+use Rattle.planner.specs.Arrays.{numbersIn, problemIn, SoundWorkload, Stored, KeptPast}
 use Rattle.planner.specs.Reaching.{CanSearch, Searched}
 use Rattle.planner.specs.PlacedTables.{PlacedTables, CanPlace, CanFill, Filled}
 use Rattle.planner.proofs.JobOrder.{placed-none, placing-start, placing-end}

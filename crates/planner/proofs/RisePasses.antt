@@ -9,11 +9,11 @@ use native.Mathlib.Omega.{arith}
 use lib.ListN.{length}
 use borrow.Author.Count.{below-none, below-more}
 use Rattle.model.specs.Limits.{maxIntervals}
-use Rattle.model.specs.Plans.{Shares}
+use Rattle.model.specs.Plans.{Shares, sharesIn}
 use Rattle.model.proofs.Numbers.{true≢false, true-or-false}
 use Rattle.planner.specs.declared.workload.Workload.{Workload}
 use Rattle.planner.specs.Placement.{Raised}
-use Rattle.planner.specs.Arrays.{numbersIn, sharesIn, problemIn}
+use Rattle.planner.specs.Arrays.{numbersIn, problemIn}
 use Rattle.planner.specs.RisingPrices.{LeastBand, HighestPrice, IsBelow, JobStep, SmallestPriced, roomLeft, CanPrice, CanRise, RisePass}
 use Rattle.planner.proofs.RisingPrices.{rising-start, rising-raised, room-falls, rising-fits}
 

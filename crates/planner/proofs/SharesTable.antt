@@ -11,9 +11,10 @@ use native.Mathlib.Omega.{arith}
 use lib.ListN.{length, getD, set, length-set}
 use lib.Seq.{getD-set-same, getD-set-other, drop-set-lt}
 use borrow.Author.Count.{below-more}
+use Rattle.model.specs.Plans.{sharesIn}
 use Rattle.model.proofs.Numbers.{lt-or-le}
 use Rattle.planner.specs.Placement.{Problem, Grown}
-use Rattle.planner.specs.Arrays.{numbersIn, sharesIn, KeptPast}
+use Rattle.planner.specs.Arrays.{numbersIn, KeptPast}
 use Rattle.planner.specs.Moves.{putAt, takenAt}
 
 -- the place of a job in an interval lies in the table

@@ -15,12 +15,12 @@ use Rattle.model.specs.Sum.{sum, onlyIf}
 use Rattle.model.specs.Jobs.{jobOf}
 use Rattle.model.specs.Points.{Point}
 use Rattle.model.specs.Bands.{bandCount, frequencyOf, Curve}
-use Rattle.model.specs.Intervals.{Bounds, intervalCount, lengthOf}
+use Rattle.model.specs.Intervals.{Bounds, intervalCount, lengthOf, OpenRange}
 use Rattle.model.specs.Windows.{isOverfull}
 use Rattle.model.specs.Plans.{Shares, load}
 use Rattle.model.specs.Prices.{PriceList, FittingPrices}
 use Rattle.model.proofs.Numbers.{lt-or-le, true≢false, both-true}
-use Rattle.model.proofs.Intervals.{OpenRange, length-positive}
+use Rattle.model.proofs.Intervals.{length-positive}
 use Rattle.model.proofs.LeastEnergy.{fitting-is-between}
 use Rattle.planner.specs.declared.workload.Workload.{Workload}
 use Rattle.planner.specs.Placement.{Priced}

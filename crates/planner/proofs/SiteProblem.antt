@@ -16,14 +16,14 @@ use Rattle.model.specs.Sum.{sum, onlyIf}
 use Rattle.model.specs.Jobs.{jobOf}
 use Rattle.model.specs.Points.{Point}
 use Rattle.model.specs.Bands.{bandCount, frequencyOf, Curve}
-use Rattle.model.specs.Intervals.{Bounds, boundAt, intervalCount, lengthOf, isOpen}
+use Rattle.model.specs.Intervals.{Bounds, boundAt, intervalCount, lengthOf, isOpen, OpenRange}
 use Rattle.model.specs.Windows.{isInside, cyclesInside, isOverfull}
 use Rattle.model.specs.Plans.{Shares, load, Gives}
 use Rattle.model.specs.Prices.{FittingPrices, isBandNumber, fitsLoad}
 use Rattle.model.proofs.Numbers.{true≢false, both-true}
 use Rattle.model.proofs.Sum.{sum-mono}
 use Rattle.model.proofs.SumMore.{onlyIf-mono}
-use Rattle.model.proofs.Intervals.{OpenRange, length-positive, lengths-add, bounds-mono}
+use Rattle.model.proofs.Intervals.{length-positive, lengths-add, bounds-mono}
 use Rattle.model.proofs.Windows.{inside-iff, overfull-iff}
 use Rattle.model.proofs.LeastEnergy.{fitting-is-between}
 use Rattle.planner.specs.Placement.{SoundProblem, Open, Priced, Placed, Placing, Reached, Scanned}

@@ -6,9 +6,10 @@ use native.Mathlib.Nat.{mul-le-mul}
 use native.Mathlib.Numerals.{add-one}
 use native.Mathlib.Omega.{arith}
 use Rattle.model.specs.Limits.{maxFrequency, maxDeadline}
+use Rattle.model.specs.Plans.{sharesIn}
 use Rattle.planner.specs.declared.workload.Workload.{Workload}
 use Rattle.planner.specs.Placement.{loadOf}
-use Rattle.planner.specs.Arrays.{numbersIn, sharesIn, problemIn, SoundWorkload, Stored}
+use Rattle.planner.specs.Arrays.{numbersIn, problemIn, SoundWorkload, Stored}
 
 -- what an interval holds at a frequency
 pub capacity-most : {work : Workload} → SoundWorkload work → (i k : ℕ) → i < work .intervals → k ≤ work .bands

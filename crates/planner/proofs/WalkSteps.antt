@@ -6,11 +6,11 @@ use Prim.Native.Nat.{ℕ, _+_, _*_, _<_, _≤_, min}
 use native.Mathlib.Omega.{arith}
 use lib.ListN.{length}
 use Rattle.model.specs.Limits.{maxJobs}
-use Rattle.model.specs.Plans.{Shares}
+use Rattle.model.specs.Plans.{Shares, sharesIn}
 use Rattle.planner.specs.declared.workload.Workload.{Workload}
 use Rattle.planner.specs.declared.search.Found.{Found}
 use Rattle.planner.specs.Placement.{Problem, firstOpen, Walking}
-use Rattle.planner.specs.Arrays.{numbersIn, sharesIn, problemIn}
+use Rattle.planner.specs.Arrays.{numbersIn, problemIn}
 use Rattle.planner.specs.Reaching.{Reaching}
 use Rattle.planner.specs.Moves.{PathPasses, CanWalk}
 use Rattle.planner.proofs.ReachedRange.{reached-few}

@@ -4,17 +4,13 @@ use mathlib.Core.Path.{_≡_}
 use mathlib.Core.List.{List}
 use lib.ListN.{length, getD, drop}
 use Rattle.model.specs.Limits.{maxLevels, maxFrequency, maxJobs, maxDeadline, maxCycles, maxIntervals}
-use Rattle.model.specs.Plans.{Shares}
+use Rattle.model.specs.Plans.{sharesIn}
 use Rattle.planner.specs.declared.workload.Workload.{Workload}
 use Rattle.planner.specs.Placement.{Problem, SoundProblem, loadOf}
 
 -- The numbers of an array by place, 0 past its end.
 abbrev pub numbersIn : List ℕ → ℕ → ℕ
 numbersIn array i = getD array i 0
-
--- The shares table has the share of job j in interval i at i × jobs + j.
-abbrev pub sharesIn : (jobs : ℕ) → List ℕ → Shares
-sharesIn jobs table i j = getD table (i * jobs + j) 0
 
 abbrev pub problemIn : Workload → Problem
 problemIn work =

@@ -6,11 +6,11 @@ use lib.ListN.{length, getD, set}
 use lib.Dec.{eqb}
 use Rattle.model.specs.Limits.{maxJobs}
 use Rattle.model.specs.Sum.{onlyIf}
-use Rattle.model.specs.Plans.{Shares}
+use Rattle.model.specs.Plans.{Shares, sharesIn}
 use Rattle.planner.specs.declared.workload.Workload.{Workload}
 use Rattle.planner.specs.declared.search.Found.{Found}
 use Rattle.planner.specs.Placement.{Problem, Passes, Placing, loadOf}
-use Rattle.planner.specs.Arrays.{numbersIn, sharesIn, problemIn, SoundWorkload}
+use Rattle.planner.specs.Arrays.{numbersIn, problemIn, SoundWorkload}
 use Rattle.planner.specs.Reaching.{Reaching}
 
 -- One number of a table grown by an amount, and one less by it.

@@ -4,11 +4,12 @@ use mathlib.Core.Path.{_≡_}
 use mathlib.Core.List.{List}
 use lib.ListN.{length}
 use Rattle.model.specs.Limits.{maxIntervals}
+use Rattle.model.specs.Plans.{sharesIn}
 use Rattle.planner.specs.declared.workload.Workload.{Workload}
 use Rattle.planner.specs.declared.search.Found.{Found}
 use Rattle.planner.specs.Placement.{Placed, Placing}
 use Rattle.planner.specs.RangesFit.{RangesFit}
-use Rattle.planner.specs.Arrays.{numbersIn, sharesIn, problemIn, SoundWorkload, Stored, KeptPast}
+use Rattle.planner.specs.Arrays.{numbersIn, problemIn, SoundWorkload, Stored, KeptPast}
 use Rattle.planner.specs.Reaching.{Reaching, HasRoom}
 
 -- The first `count` jobs are placed.

@@ -5,11 +5,11 @@ use mathlib.Core.Bool.{true, false}
 use mathlib.Core.List.{List}
 use lib.ListN.{length, getD, set, replicate}
 use Rattle.model.specs.Limits.{maxJobs, maxIntervals}
-use Rattle.model.specs.Plans.{Shares}
+use Rattle.model.specs.Plans.{Shares, sharesIn}
 use Rattle.planner.specs.declared.workload.Workload.{Workload}
 use Rattle.planner.specs.declared.search.Found.{Found}
 use Rattle.planner.specs.Placement.{Problem, SoundProblem, IsListed, OnlyOpen, loadOf, Reached, Scanned}
-use Rattle.planner.specs.Arrays.{numbersIn, sharesIn, problemIn, SoundWorkload, Stored}
+use Rattle.planner.specs.Arrays.{numbersIn, problemIn, SoundWorkload, Stored}
 
 -- Only the job being placed is reached.
 abbrev pub onlyJob : (job first last : ℕ) → Found

@@ -7,10 +7,10 @@ use mathlib.Core.List.{List}
 use lib.ListN.{length}
 use Rattle.model.specs.Limits.{maxIntervals}
 use Rattle.model.specs.Sum.{sum}
-use Rattle.model.specs.Plans.{Shares}
+use Rattle.model.specs.Plans.{Shares, sharesIn}
 use Rattle.planner.specs.declared.workload.Workload.{Workload}
 use Rattle.planner.specs.Placement.{Problem, Raised, Open, Priced, loadOf}
-use Rattle.planner.specs.Arrays.{numbersIn, sharesIn, problemIn, SoundWorkload, Stored}
+use Rattle.planner.specs.Arrays.{numbersIn, problemIn, SoundWorkload, Stored}
 
 -- The least band, of `bands`, that ends at or above a load.
 pub record LeastBand (frequency : ℕ → ℕ) (bands size load band : ℕ) : Type 0 where

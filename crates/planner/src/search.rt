@@ -3,7 +3,8 @@
 ghost use mathlib.Core.Path.{_≡_};
 ghost use Prim.Native.Nat.{_<_, _≤_, min, max};
 ghost use Rattle.model.specs.Limits.{maxJobs, maxIntervals};
-ghost use Rattle.planner.specs.Arrays.{problemIn, sharesIn};
+ghost use Rattle.model.specs.Plans.{sharesIn};
+ghost use Rattle.planner.specs.Arrays.{problemIn};
 ghost use Rattle.planner.specs.Reaching.{onlyJob, withJob, NextInterval, CanScan, Scans, CanSearch, Searched};
 use crate::workload::Workload;
 use model::MAX_INTERVALS;

@@ -14,7 +14,7 @@ use Rattle.model.specs.Points.{Point}
 use Rattle.model.specs.Bands.{Curve, bandCount, frequencyOf}
 use Rattle.model.specs.Intervals.{boundsOf, boundAt, intervalCount, openPairs}
 use Rattle.model.specs.Demands.{LongEnough}
-use Rattle.model.specs.Plans.{Gives, load}
+use Rattle.model.specs.Plans.{Gives, load, sharesIn}
 use Rattle.model.specs.Prices.{PriceList, FittingPrices}
 use Rattle.model.proofs.BoundsOf.{bounds-of, length-boundsOf}
 use Rattle.tables.specs.Column.{columnOf}
@@ -30,7 +30,7 @@ use Rattle.writing.proofs.WrittenPlan.{planOf, few-steps}
 use Rattle.writing.proofs.WrittenPrices.{length-price-list}
 use Rattle.writing.proofs.EncodedPlan.{length-plan}
 use Rattle.planner.specs.declared.workload.Workload.{Workload}
-use Rattle.planner.specs.Arrays.{numbersIn, sharesIn, problemIn, KeptPast}
+use Rattle.planner.specs.Arrays.{numbersIn, problemIn, KeptPast}
 use Rattle.planner.specs.PlacedTables.{PlacedTables}
 use Rattle.planner.specs.RisingPrices.{SmallestPriced}
 use Rattle.planning.specs.Workloads.{SiteWorkload}

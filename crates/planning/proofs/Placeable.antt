@@ -12,7 +12,7 @@ use Rattle.model.specs.Points.{Point}
 use Rattle.model.specs.Bands.{bandCount, frequencyOf, Curve}
 use Rattle.model.specs.Intervals.{Bounds, boundsOf, intervalCount}
 use Rattle.model.specs.Windows.{earliestOverfull}
-use Rattle.model.specs.Plans.{Shares, Gives}
+use Rattle.model.specs.Plans.{Shares, Gives, sharesIn}
 use Rattle.model.specs.Prices.{PriceList, FittingPrices}
 use Rattle.model.proofs.BoundsOf.{bounds-of}
 use Rattle.model.proofs.Windows.{earliestOverfull-none}
@@ -20,7 +20,7 @@ use Rattle.planner.specs.declared.workload.Workload.{Workload}
 use Rattle.planner.specs.Placement.{Problem, Placed}
 use Rattle.planner.specs.RangesFit.{RangesFit}
 use Rattle.planner.specs.SiteProblem.{problemOf}
-use Rattle.planner.specs.Arrays.{numbersIn, sharesIn, problemIn}
+use Rattle.planner.specs.Arrays.{numbersIn, problemIn}
 use Rattle.planner.specs.PlacedTables.{PlacedTables}
 use Rattle.planner.specs.RisingPrices.{SmallestPriced, CanPrice}
 use Rattle.planner.proofs.SiteProblem.{priced-fit, placed-gives}

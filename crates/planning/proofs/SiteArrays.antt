@@ -14,10 +14,10 @@ use Rattle.model.specs.Limits.{maxJobs, maxBounds, maxIntervals, maxPoints, max
 use Rattle.model.specs.Jobs.{jobOf, noJob, ValidJobs}
 use Rattle.model.specs.Points.{Point, idlingPoint}
 use Rattle.model.specs.Bands.{frequencyOf}
-use Rattle.model.specs.Intervals.{Bounds, boundsOf, boundAt, intervalCount, lengthOf}
+use Rattle.model.specs.Intervals.{Bounds, boundsOf, boundAt, intervalCount, lengthOf, OpenRange}
 use Rattle.model.proofs.Numbers.{lt-or-le}
 use Rattle.model.proofs.Search.{firstBelow-is}
-use Rattle.model.proofs.Intervals.{OpenRange, open-range, bounds-rise}
+use Rattle.model.proofs.Intervals.{open-range, bounds-rise}
 use Rattle.model.proofs.BoundsOf.{IsTimeOf, bounds-of, bound-in-jobs, length-boundsOf}
 use Rattle.tables.specs.Column.{columnOf}
 use Rattle.tables.specs.Tables.{jobsIn}

@@ -8,7 +8,7 @@ use Rattle.model.specs.declared.Job.{Job}
 use Rattle.model.specs.Points.{Point}
 use Rattle.model.specs.Bands.{Curve}
 use Rattle.model.specs.Search.{firstBelow}
-use Rattle.model.proofs.Intervals.{OpenRange}
+use Rattle.model.specs.Intervals.{OpenRange}
 use Rattle.levels.specs.declared.points.PointTable.{PointTable}
 use Rattle.levels.specs.PointTables.{pointTable, pointsOf, SmallPoints}
 use Rattle.planner.specs.declared.workload.Workload.{Workload}

@@ -7,9 +7,9 @@ ghost use Rattle.model.specs.Intervals.{boundsOf};
 ghost use Rattle.tables.specs.Tables.{jobsIn};
 ghost use Rattle.windows.specs.Answers.{boundTable};
 ghost use Rattle.planning.specs.WantedRooms.{WantedRooms};
-use crate::workload::interval_count;
 use model::MAX_JOBS;
 use windows::BoundTable;
+use windows::interval_count;
 use windows::open_pairs;
 use windows::open_sets;
 

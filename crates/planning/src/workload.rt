@@ -16,6 +16,8 @@ use model::MAX_INTERVALS;
 use model::MAX_JOBS;
 use planner::Workload;
 use windows::BoundTable;
+use windows::bound_number;
+use windows::interval_count;
 
 // The jobs in the intervals between their bounds, at the working points.
 pub(crate) fn workload_of(
@@ -48,28 +50,6 @@ pub(crate) fn workload_of(
         size,
         frequency,
     }
-}
-
-// Neighbouring bounds have an interval between them.
-pub(crate) fn interval_count(bounds: usize) -> usize
-    ensures { λ r. ⌜ r ≡ bounds - 1 ⌝ }
-{
-    if bounds == 0 { 0 } else { bounds - 1 }
-}
-
-// The number of the first bound that is not before a time; the count where there is none.
-fn bound_number(times: &[u64; MAX_BOUNDS], count: usize, time: u64) -> usize
-    requires { ⌜ count ≤ maxBounds ⌝ }
-    ensures { λ r. ⌜ r ≡ numberOf count (now (times .entry)) time ⌝ }
-{
-    let mut i = 0;
-    while i < count {
-        if time <= times[i] {
-            return i;
-        }
-        i += 1;
-    }
-    i
 }
 
 // For each job the number of the bound that is its moment, zeros past the last job.

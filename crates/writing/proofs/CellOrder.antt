@@ -11,11 +11,11 @@ use lib.ListN.{length, getD, length-append, List·getD-append}
 use borrow.Author.Tests.{lt-ltb}
 use Rattle.model.specs.Limits.{maxJobs}
 use Rattle.model.specs.Sum.{sum, onlyIf}
-use Rattle.model.specs.Plans.{Shares}
+use Rattle.model.specs.Plans.{Shares, sharesIn}
 use Rattle.model.specs.Steps.{Step, cellOf}
 use Rattle.model.proofs.Numbers.{lt-or-le}
 use Rattle.model.proofs.Sum.{sum-cong, sum-stretches}
-use Rattle.writing.specs.StepList.{joined, stepOf, stepsIn, stepsOf, sharesIn, positives}
+use Rattle.writing.specs.StepList.{joined, stepOf, stepsIn, stepsOf, positives}
 use Rattle.writing.proofs.Joined.{length-joined, joined-cong, getD-past, Each, each-append, each-joined, sumOver, sum-joined}
 
 -- what stands past the last step

@@ -24,10 +24,6 @@ stepsIn jobs shares i = joined jobs (λ j. stepOf i j (shares i j))
 unfoldable pub stepsOf : (jobs intervals : ℕ) → Shares → List Step
 stepsOf jobs intervals shares = joined intervals (stepsIn jobs shares)
 
--- A table of shares has that of job j in interval i at i × jobs + j.
-abbrev pub sharesIn : (jobs : ℕ) → List ℕ → Shares
-sharesIn jobs table i j = getD table (i * jobs + j) 0
-
 -- How many of the first `size` numbers of a table are not 0.
 abbrev pub positives : (size : ℕ) → List ℕ → ℕ
 positives size table = sum size (λ k. onlyIf (ltb 0 (getD table k 0)) 1)

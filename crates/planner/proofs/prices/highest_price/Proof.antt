@@ -5,7 +5,8 @@ use Prim.Native.Nat.{_+_, _-_, _*_, _<_, _≤_}
 use native.Mathlib.Omega.{arith}
 use lib.ListN.{length}
 use denote.Ref.{now}
-use Rattle.planner.specs.Arrays.{numbersIn, sharesIn}
+use Rattle.model.specs.Plans.{sharesIn}
+use Rattle.planner.specs.Arrays.{numbersIn}
 use Rattle.planner.specs.RisingPrices.{HighestPrice}
 use Rattle.planner.proofs.SharesTable.{place-in}
 use Rattle.planner.proofs.PriceRanges.{highest-none, highest-pass, highest-more}

@@ -8,8 +8,8 @@ use lib.ListN.{length}
 use borrow.Author.Tests.{not-true, not-false}
 use denote.Ref.{now}
 use Rattle.model.specs.Limits.{maxJobs}
+use Rattle.model.specs.Plans.{sharesIn}
 use Rattle.planner.specs.Placement.{Problem}
-use Rattle.planner.specs.Arrays.{sharesIn}
 use Rattle.planner.specs.Reaching.{withWindows, ToScan, ScanOf}
 use Rattle.planner.proofs.SharesTable.{place-below}
 use Rattle.planner.proofs.ScanSteps.{scan-start, scan-pass, scan-room, scan-reach}

@@ -5,7 +5,8 @@ use native.Mathlib.Omega.{arith}
 use borrow.Author.Needs.{needs}
 use denote.Ref.{now}
 use Rattle.model.specs.Limits.{maxIntervals}
-use Rattle.planner.specs.Arrays.{problemIn, sharesIn}
+use Rattle.model.specs.Plans.{sharesIn}
+use Rattle.planner.specs.Arrays.{problemIn}
 use Rattle.planner.specs.Reaching.{NextInterval}
 use Rattle.planner.proofs.StoredLoads.{capacity-most, stored-room, stored-full}
 use Rattle.planner.proofs.SearchSteps.{Scanning, scan-measure, scanning-start, searched-closed, searched-target, next-inside, next-to-scan, scanning-next}

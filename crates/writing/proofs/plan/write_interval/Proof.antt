@@ -5,7 +5,8 @@ use Prim.Native.Nat.{_-_, _≤_}
 use native.Mathlib.Omega.{arith}
 use lib.ListN.{length}
 use denote.Ref.{now}
-use Rattle.writing.specs.StepList.{stepOf, sharesIn}
+use Rattle.model.specs.Plans.{sharesIn}
+use Rattle.writing.specs.StepList.{stepOf}
 use Rattle.writing.proofs.PlanStores.{StepsPut, put-none, length-put, put-whole, put-room, put-next}
 use Rattle.writing.proofs.plan.write_interval.Statement.{statement}
 use Rattle.writing.proofs.plan.write_interval.Tie as tie

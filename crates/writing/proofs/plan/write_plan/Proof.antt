@@ -5,7 +5,8 @@ use native.Mathlib.Omega.{arith}
 use lib.ListN.{length}
 use borrow.Author.Needs.{needs}
 use denote.Ref.{now}
-use Rattle.writing.specs.StepList.{stepsOf, sharesIn}
+use Rattle.model.specs.Plans.{sharesIn}
+use Rattle.writing.specs.StepList.{stepsOf}
 use Rattle.writing.proofs.CellOrder.{step-total-in}
 use Rattle.writing.proofs.PlanStores.{whole-plan}
 use Rattle.writing.proofs.plan.write_plan.Statement.{statement}

@@ -10,7 +10,8 @@ use borrow.Author.Needs.{needs}
 use denote.Ref.{now}
 use Rattle.model.specs.Bytes.{bytes16, bytes32}
 use Rattle.model.specs.Steps.{cellOf}
-use Rattle.writing.specs.StepList.{stepOf, sharesIn}
+use Rattle.model.specs.Plans.{sharesIn}
+use Rattle.writing.specs.StepList.{stepOf}
 use Rattle.writing.specs.PlanBytes.{withSteps}
 use Rattle.writing.proofs.CellOrder.{stepOf-none, stepOf-some}
 use Rattle.writing.proofs.PlanStores.{with-none, with-one}

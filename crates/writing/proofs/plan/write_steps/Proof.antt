@@ -6,7 +6,8 @@ use native.Mathlib.Nat.{mul-le-mul-right}
 use native.Mathlib.Omega.{arith}
 use lib.ListN.{length}
 use denote.Ref.{now}
-use Rattle.writing.specs.StepList.{joined, stepsIn, stepsOf, sharesIn}
+use Rattle.model.specs.Plans.{sharesIn}
+use Rattle.writing.specs.StepList.{joined, stepsIn, stepsOf}
 use Rattle.writing.proofs.PlanStores.{StepsPut, put-none, length-put, put-whole, put-room, put-next}
 use Rattle.writing.proofs.plan.write_steps.Statement.{statement}
 use Rattle.writing.proofs.plan.write_steps.Tie as tie
