@@ -1,5 +1,6 @@
 -- Laws of the definitions, for the proofs of the functions.
 pub mod Walking
+pub mod Readings
 pub mod Verdicts
 pub mod Arrays
 pub mod Tallies

@@ -1,7 +1,7 @@
 -- Laws of walking: what stands at a position of a plan, and that taking the positions 0, 1, 2, .. gives exactly the
 -- steps of the walk, each once in file order.
 -- Assumes nothing.
-use mathlib.Core.Path.{_≡_, refl}
+use mathlib.Core.Path.{_≡_, refl, sym}
 use mathlib.Core.Bool.{Bool, true, false}
 use mathlib.Core.List.{List, [], _∷_}
 use Prim.Native.Nat.{ℕ, zero, suc, _+_, _<_, _≤_}
@@ -14,7 +14,7 @@ use Rattle.model.specs.Steps.{Step, stepCount, stepAt, wrongPlanLength, walk}
 use Rattle.model.proofs.Entries.{length-listOf}
 use Rattle.audit.specs.declared.steps.StepAnswer.{StepAnswer}
 use Rattle.audit.specs.declared.steps.StepAnswer.the-variants.{Step as Found, End}
-use Rattle.audit.specs.Walking.{codeStep, stepOrEnd, stepAnswer, takenFrom, WalkTakesAll}
+use Rattle.audit.specs.Walking.{codeStep, stepOrEnd, stepAnswer, numberAfter, takenFrom, WalkTakesAll}
 
 -- a position before the end has its step, and every position from the end on is the end
 pub step-found : (count : ℕ) (f : ℕ → Step) (position : ℕ) → position < count
@@ -29,6 +29,15 @@ unfolding stepOrEnd listOf
 step-past zero f position past = refl
 step-past (suc count) f zero past = absurd (omega arith)
 step-past (suc count) f (suc position) past = step-past count (λ i. f (suc i)) position (le-of-suc-le-suc past)
+
+-- so the number after it is one higher, or stays
+pub number-found : (count : ℕ) (f : ℕ → Step) (position : ℕ) → position < count
+    → position + 1 ≡ numberAfter (stepOrEnd (listOf count f) position) position
+number-found count f position below = rw (sym (step-found count f position below)) (omega arith)
+
+pub number-past : (count : ℕ) (f : ℕ → Step) (position : ℕ) → count ≤ position
+    → position ≡ numberAfter (stepOrEnd (listOf count f) position) position
+number-past count f position past = rw (sym (step-past count f position past))
 
 -- a plan of the right length has steps, any other bytes are refused
 module _ (plan : List ℕ) where

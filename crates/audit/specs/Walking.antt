@@ -26,6 +26,12 @@ abbrev pub stepAnswer : Outcome (List Step) → (position : ℕ) → StepAnswer
 stepAnswer (refused number place) position = Refused number place
 stepAnswer (answer steps) position = stepOrEnd steps position
 
+-- The step number after a position: one higher after a step. The end and a refusal stay where they are.
+abbrev pub numberAfter : StepAnswer → (position : ℕ) → ℕ
+numberAfter (Found step) position = suc position
+numberAfter End position = position
+numberAfter (Refused number place) position = position
+
 -- A position's answer, and what the positions after it give: a step goes before theirs, the end and a refusal end the walk.
 abbrev pub before : StepAnswer → Outcome (List Step) → Outcome (List Step)
 before (Found step) rest = andThen rest (λ steps. answer (modelStep step ∷ steps))

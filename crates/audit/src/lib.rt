@@ -5,12 +5,17 @@ mod checking;
 mod fitting;
 mod pricing;
 mod steps;
+mod walk;
 
 pub use checking::CheckAnswer;
 pub use checking::check;
 pub use steps::Step;
 pub use steps::StepAnswer;
-pub use steps::step_at;
+pub use walk::StepReading;
+pub use walk::Taken;
+pub use walk::next;
+pub use walk::start;
+pub use walk::step_at;
 
 // What a half of the check finds: that nothing is wrong, or the refusal's number and place.
 pub enum Verdict {

@@ -4,7 +4,7 @@ ghost use Prim.Native.Nat.{_+_, _*_, _<_};
 ghost use lib.ListN.{length};
 ghost use Rattle.model.specs.Limits.{maxJobs};
 ghost use Rattle.model.specs.Steps.{wrongPlanLength, stepCount, stepAt, walk};
-ghost use Rattle.audit.specs.Walking.{stepAnswer, codeStep};
+ghost use Rattle.audit.specs.Walking.{stepAnswer, numberAfter, codeStep};
 use model::MAX_JOBS;
 use tables::number16;
 use tables::number32;
@@ -23,8 +23,8 @@ pub enum StepAnswer {
     Refused { number: u32, place: u32 },
 }
 
-// Step number `position` of a plan, counted from 0. Any bytes and any position are answered.
-pub fn step_at(plan: &[u8], position: usize) -> StepAnswer
+// What stands at a position of a plan, counted from 0. Any bytes and any position are answered.
+pub(crate) fn answer_at(plan: &[u8], position: usize) -> StepAnswer
     ensures { λ r. ⌜ r ≡ stepAnswer (walk (now (plan .entry))) position ⌝ }
 {
     if wrong_length(plan) {
@@ -38,6 +38,19 @@ pub fn step_at(plan: &[u8], position: usize) -> StepAnswer
     } else {
         StepAnswer::End
     }
+}
+
+// The step number after a position: one higher after a step. At the end, and in bytes that are no plan, it stays.
+pub(crate) fn number_after(plan: &[u8], position: usize) -> usize
+    ensures { λ r. ⌜ r ≡ numberAfter (stepAnswer (walk (now (plan .entry))) position) position ⌝ }
+{
+    if wrong_length(plan) {
+        return position;
+    }
+    if step_count(plan) <= position {
+        return position;
+    }
+    position + 1
 }
 
 // Whether the bytes are under 4 or not 4 + 6 × the number of steps.

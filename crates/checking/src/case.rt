@@ -1,4 +1,4 @@
-// A case: a plan that is checked with its price list, or walked.
+// A case: a plan that is checked with its price list, or walked, or asked for one step.
 use crate::check;
 use crate::walk;
 use testing::encode::ROOM;
@@ -11,6 +11,7 @@ pub(crate) fn case(line: &[u8]) {
         show::words_to(line, 0);
         match line[kind] {
             b'c' => check::case(line, kind),
+            b's' => walk::step_case(&mut [0; ROOM], line, kind),
             _ => walk::case(&mut [0; ROOM], line, kind),
         }
         show::end();

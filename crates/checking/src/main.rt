@@ -2,7 +2,8 @@
 // energy figure, the steps, or the refusal.
 // The cases are the lines of the file stdin. A line to check has a name, the word check, how many bytes the plan and the
 // price list have, and after a word each the numbers of a level table, a job table, a plan and a price list. A line to
-// walk has a name, the word walk, the plan's length, and the plan.
+// walk has a name, the word walk, the plan's length, and the plan. A line with the word step has a position after the
+// length.
 // A table's numbers are the count, and then the frequencies and the voltages, or the windows and the cycles. A plan's
 // have 16 bits: N, S, the cells, and each step's cycles as a lower and an upper half. A price list's are N and then bytes:
 // four for each interval's end, and the prices.

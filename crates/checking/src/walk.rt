@@ -1,9 +1,11 @@
-// Walks the plan of a line, and prints its steps one after another, and the end or the refusal.
+// Walks the plan of a line, and prints its steps one after another, and the end or the refusal; or prints what stands at
+// one position of it.
+ghost use mathlib.Core.Path.{_≡_};
 ghost use Prim.Native.Nat.{_≤_};
 ghost use lib.ListN.{length};
+ghost use Rattle.checking.specs.Printing.{isStep};
 use audit::Step;
 use audit::StepAnswer;
-use testing::encode::ROOM;
 use testing::encode::encode;
 use testing::show;
 use testing::text::next;
@@ -18,19 +20,28 @@ pub(crate) fn case(bytes: &mut [u8], line: &[u8], kind: usize)
     walk(&bytes[..count]);
 }
 
-// A plan in so many bytes has fewer steps than that.
+pub(crate) fn step_case(bytes: &mut [u8], line: &[u8], kind: usize)
+    requires { ⌜ kind ≤ length (now line) ⌝ }
+{
+    let place = next(line, kind);
+    let position = next(line, place);
+    encode(bytes, 2, line, next(line, position));
+    let count = io::count(number(line, place) as isize, bytes);
+    print(audit::step_at(&bytes[..count], number(line, position) as usize));
+}
+
+// A step is taken from the reading that the step before left, until there is none.
 fn walk(plan: &[u8]) {
-    let mut position = 0;
-    while position < ROOM {
-        if !print(audit::step_at(plan, position)) {
-            break;
-        }
-        position += 1;
+    let mut taken = audit::next(audit::start(plan));
+    while print(taken.answer) {
+        taken = audit::next(taken.rest);
     }
 }
 
-// Prints what stands at a position, and answers whether it is a step.
-fn print(answer: StepAnswer) -> bool {
+// Prints what was taken, and answers whether it is a step.
+fn print(answer: StepAnswer) -> bool
+    ensures { λ r. ⌜ r ≡ isStep answer ⌝ }
+{
     match answer {
         StepAnswer::Step(step) => {
             print_step(step);

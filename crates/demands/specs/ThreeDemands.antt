@@ -8,7 +8,7 @@
 --     setting levels length load         settingAnswer (setting levels length load)
 --     spare levels jobs start end        spareAnswer (spare levels jobs start end)
 --     check levels jobs plan prices      checkAnswer (check levels jobs plan prices)
---     step_at plan position              stepAnswer (walk plan) position
+--     start, next and step_at            stepAnswer (walk plan) at the number of the step
 --     plan levels jobs and the buffers   an answer that `PlanContract` holds of
 --
 -- An answer's enum has a case for each case of the outcome, with the same numbers. So what is stated here of an outcome

@@ -1,4 +1,4 @@
--- `steps::step_at` meets its contract. Each way out rests on the tests that led there, by the laws of proofs/Walking.antt.
+-- `steps::answer_at` meets its contract. Each way out rests on the tests that led there, by the laws of proofs/Walking.antt.
 -- Assumes nothing.
 use mathlib.Core.Path.{sym, _∙_, ap}
 use native.Mathlib.Omega.{arith}
@@ -6,8 +6,8 @@ use borrow.Author.Needs.{needs}
 use Rattle.model.proofs.Faults.{plan-length}
 use Rattle.audit.specs.declared.steps.StepAnswer.the-variants.{Step as Found}
 use Rattle.audit.proofs.Walking.{step-found, step-past, walk-refused, walk-answered}
-use Rattle.audit.proofs.steps.step_at.Statement.{statement}
-use Rattle.audit.proofs.steps.step_at.Tie as tie
+use Rattle.audit.proofs.steps.answer_at.Statement.{statement}
+use Rattle.audit.proofs.steps.answer_at.Tie as tie
 
 wrong-length-requires : tie.Need-wrong-length-requires
 wrong-length-requires c κs = search needs
@@ -37,8 +37,8 @@ returns-3 c =
     rw (walk-answered _ (sym (right .before .wrong-length .ensures) ∙ right .if1 .left))
     (step-past _ _ _ (omega (arith, counted .step-count .ensures .0)))
 
-pub step-at-spec : {M : Type 1} → statement M
-step-at-spec =
+pub answer-at-spec : {M : Type 1} → statement M
+answer-at-spec =
     tie.close
     (tie.spec
     wrong-length-requires
