@@ -1,21 +1,18 @@
--- Laws of bounds and jobs that stand in arrays: the bounds one by one, the length of an interval, and which pairs are open.
+-- Laws of bounds that stand in an array: the bounds one by one, the length of an interval, and which jobs are open in it.
 -- Assumes nothing.
 use mathlib.Core.Path.{_≡_}
-use mathlib.Core.Bool.{_&&_}
 use mathlib.Core.List.{List}
 use Prim.Native.Nat.{ℕ, suc, _+_, _-_, _*_, _<_, _≤_}
 use native.Mathlib.Nat.{mul-le-mul}
 use native.Mathlib.Numerals.{add-one}
 use native.Mathlib.Omega.{arith}
 use lib.ListN.{length, getD}
-use lib.Dec.{leb}
+use Rattle.model.specs.declared.Job.{Job}
 use Rattle.model.specs.Limits.{maxDeadline, maxFrequency}
 use Rattle.model.specs.Intervals.{intervalCount, boundAt, lengthOf, isOpen}
-use Rattle.model.specs.Jobs.{jobOf}
 use Rattle.model.proofs.Entries.{length-listOf, getD-listOf}
-use Rattle.tables.specs.Tables.{jobsIn}
-use Rattle.tables.proofs.Read.{job-in}
 use Rattle.energy.specs.Figures.{SmallBounds}
+use Rattle.audit.specs.TestedJobs.{openBetween}
 use Rattle.audit.specs.FirstHalf.{boundsIn}
 
 module _ (count : ℕ) (times : List ℕ) where
@@ -38,12 +35,10 @@ module _ (count : ℕ) (times : List ℕ) where
   unfolding lengthOf
   length-in i below = rw (end-in i below, bound-in i (omega arith))
 
-  pub open-in : (jobs : ℕ) (releases deadlines cycles : List ℕ) (i j : ℕ) → i + 1 < count → j < jobs
-      → isOpen (boundsIn count times) (jobOf (jobsIn jobs releases deadlines cycles) j) i
-      ≡ (leb (getD releases j 0) (getD times i 0) && leb (getD times (i + 1) 0) (getD deadlines j 0))
+  pub open-in : (job : Job) (i : ℕ) → i + 1 < count
+      → isOpen (boundsIn count times) job i ≡ openBetween (job .release) (job .deadline) times i
   unfolding isOpen
-  open-in jobs releases deadlines cycles i j below job =
-      rw (job-in jobs releases deadlines cycles j job, end-in i below, bound-in i (omega arith))
+  open-in job i below = rw (end-in i below, bound-in i (omega arith))
 
   module _ (small : SmallBounds count times) (i : ℕ) (below : i + 1 < count) where
     pub bounds-rise : getD times i 0 < getD times (i + 1) 0

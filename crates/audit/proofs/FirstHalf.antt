@@ -1,7 +1,7 @@
--- The first half over plain arrays, one law for each way out of the code: the refusals 15 and 16, what the verdicts on the
+-- The first half over what was found of the jobs, one law for each way out of the code: the refusals 15 and 16, what the verdicts on the
 -- steps, the job sums and the loads say, and that the loads added by step are the plan's.
 -- Assumes nothing.
-use mathlib.Core.Path.{_≡_, refl, sym, _∙_}
+use mathlib.Core.Path.{_≡_, sym, _∙_}
 use mathlib.Core.Bool.{true, false, cond}
 use mathlib.Core.Logic.{_⊎_, inl, inr}
 use mathlib.Core.List.{List}
@@ -25,21 +25,29 @@ use Rattle.model.proofs.Outcome.{byEntry-answered}
 use Rattle.model.proofs.Steps.{load-of-steps}
 use Rattle.model.proofs.Faults.{SoundCell, step-sound}
 use Rattle.tables.specs.Column.{columnOf}
-use Rattle.tables.specs.Tables.{jobsIn}
 use Rattle.tables.proofs.Column.{column-at}
-use Rattle.tables.proofs.Read.{length-jobsIn, job-in}
 use Rattle.audit.specs.declared.Verdict.{Verdict}
 use Rattle.audit.specs.declared.Verdict.the-variants.{Passed, Refused}
 use Rattle.audit.specs.Verdicts.{verdictOf, passed}
-use Rattle.audit.specs.FirstHalf.{boundsIn, tallyOf, jobSums, intervalLoads, sumFaultIn, loadFaultIn, loadsOf, fittedOf}
+use Rattle.audit.specs.declared.records.JobTests.{JobTests}
+use Rattle.audit.specs.TestedJobs.{testsOf}
+use Rattle.audit.specs.FirstHalf.{boundsIn, tallyOf, jobSums, planSums, intervalLoads, stepFaultIn, sumFaultIn, loadFaultIn, loadsOf, fittedOf}
 use Rattle.audit.proofs.Verdicts.{byEntry-cong, entries-refused, entries-passed}
 use Rattle.audit.proofs.Tallies.{tally-at}
 use Rattle.audit.proofs.BoundsIn.{intervals-in}
+use Rattle.audit.proofs.TestedJobs.{summed-found}
+use Rattle.audit.proofs.StepFaults.{sound-interval, same-fault}
 
--- the faults of a step do not hang on the top frequency
-any-top : (top : ℕ) (jobs : List Job) (bounds plan : List ℕ) (s : ℕ) → stepFault 0 jobs bounds plan s ≡ stepFault top jobs bounds plan s
-unfolding stepFault
-any-top top jobs bounds plan s = refl
+-- where no step has a fault each has an interval
+pub interval-inside : (sets cycles : List ℕ) (count bounds : ℕ) (plan : List ℕ) (steps : Verdict)
+    → steps ≡ verdictOf (byEntry (stepCount plan) (stepFaultIn sets cycles count bounds plan) passed) → steps ≡ Passed → bounds ≤ maxBounds
+    → (s : ℕ) → s < stepCount plan → stepAt plan s .interval < maxIntervals
+interval-inside sets cycles count bounds plan steps went sound few s below =
+    omega (
+      arith,
+      sound-interval sets cycles count bounds plan s
+          (byEntry-answered _ passed (stepCount plan) (entries-passed passed (stepCount plan) _ steps went sound) .0 s below),
+    )
 
 -- the loads added by step are the plan's, where each step has an interval and a job
 pub loads-added : (jobs : List Job) (bounds plan : List ℕ)
@@ -57,10 +65,9 @@ loads-added jobs bounds plan interval job = listOf-cong maxIntervals _ _ (λ i i
         rw (le-ltb i (intervalCount bounds) past)
         (sum-zero (stepCount plan) (λ s below. rw (ne-eqb (stepAt plan s .interval) i (λ e. omega (arith, interval s below)))))
 
-module _ (top count : ℕ) (releases deadlines cycles : List ℕ) (bounds : ℕ) (times plan : List ℕ) where
-  abbrev jobs : List Job
-  jobs = jobsIn count releases deadlines cycles
-
+module _
+    (top : ℕ) (tests : JobTests) (count bounds : ℕ) (times plan : List ℕ) (few : count ≤ maxJobs) (few-bounds : bounds ≤ maxBounds)
+    (jobs : List Job) (counted : length jobs ≡ count) (tested : tests ≡ testsOf jobs times bounds (planSums plan)) where
   abbrev bs : List ℕ
   bs = boundsIn bounds times
 
@@ -84,13 +91,20 @@ module _ (top count : ℕ) (releases deadlines cycles : List ℕ) (bounds : ℕ)
     wrong-intervals-refused other = rw (right, intervals-in bounds times, ne-eqb (planIntervals plan) (bounds - 1) other)
 
     module _ (intervals : planIntervals plan ≡ bounds - 1) where
-      past-lengths : outcome ≡ byEntry (stepCount plan) (stepFault 0 jobs bs plan) afterSteps
+      -- the faults of the steps, as the code has them
+      abbrev faultIn : ℕ → ℕ
+      faultIn = stepFaultIn (tests .sets) (tests .cycles) count bounds plan
+
+      same-step : (s : ℕ) → stepFault top jobs bs plan s ≡ faultIn s
+      same-step s = rw (tested, ← counted) (same-fault jobs times bounds (planSums plan) (rw counted few) few-bounds top plan s)
+
+      past-lengths : outcome ≡ byEntry (stepCount plan) faultIn afterSteps
       unfolding fitting
       past-lengths =
           rw (right, eq-eqb (planIntervals plan) (intervalCount bs) (intervals ∙ sym (intervals-in bounds times)))
-          (byEntry-cong (stepCount plan) _ _ afterSteps (λ s below. sym (any-top top jobs bs plan s)))
+          (byEntry-cong (stepCount plan) _ _ afterSteps (λ s below. same-step s))
 
-      module _ (steps : Verdict) (went : steps ≡ verdictOf (byEntry (stepCount plan) (stepFault 0 jobs bs plan) passed)) where
+      module _ (steps : Verdict) (went : steps ≡ verdictOf (byEntry (stepCount plan) faultIn passed)) where
         pub steps-refused : (number place : ℕ) → steps ≡ Refused number place → refused number place ≡ outcome
         steps-refused number place e = sym (past-lengths ∙ entries-refused afterSteps (stepCount plan) _ steps went number place e)
 
@@ -100,23 +114,26 @@ module _ (top count : ℕ) (releases deadlines cycles : List ℕ) (bounds : ℕ)
 
           cell-sound : (s : ℕ) → s < stepCount plan → SoundCell jobs bs plan s
           cell-sound s below =
-              step-sound 0 jobs bs plan s .0
-              (byEntry-answered _ passed (stepCount plan) (entries-passed passed (stepCount plan) _ steps went sound) .0 s below) .0
+              step-sound top jobs bs plan s .0
+              (same-step s ∙ byEntry-answered _ passed (stepCount plan) (entries-passed passed (stepCount plan) _ steps went sound) .0 s below) .0
 
-          pub interval-inside : bounds ≤ maxBounds → (s : ℕ) → s < stepCount plan → stepAt plan s .interval < maxIntervals
-          interval-inside few s below = omega (arith, cell-sound s below .interval, intervals-in bounds times)
+          module _ (sums : Verdict) (summed : sums ≡ verdictOf (byEntry count (sumFaultIn (tests .summed)) passed)) where
+            are-sums : planSums plan ≡ jobSums plan
+            unfolding planSums
+            are-sums = rw right
 
-          module _ (few : count ≤ maxJobs) (sums : Verdict)
-              (summed : sums ≡ verdictOf (byEntry count (sumFaultIn (jobSums plan) cycles) passed)) where
-            same-sums : afterSteps ≡ byEntry count (sumFaultIn (jobSums plan) cycles) afterSums
+            same-sum : (j : ℕ) → j < length jobs → jobSumFault top jobs bs plan j ≡ sumFaultIn (tests .summed) j
             unfolding jobSumFault jobSum
-            same-sums =
-                rw (length-jobsIn count releases deadlines cycles)
-                (byEntry-cong count _ _ afterSums
-                (λ j below. rw (
+            same-sum j below =
+                rw (
+                  tested,
+                  summed-found jobs times bounds (planSums plan) (length jobs) j below,
+                  are-sums,
                   tally-at maxJobs (λ s. stepAt plan s .job) (λ s. stepAt plan s .cycles) (stepCount plan) j (omega arith),
-                  job-in count releases deadlines cycles j below,
-                )))
+                )
+
+            same-sums : afterSteps ≡ byEntry count (sumFaultIn (tests .summed)) afterSums
+            same-sums = byEntry-cong (length jobs) _ _ afterSums same-sum ∙ rw counted
 
             pub sums-refused : (number place : ℕ) → sums ≡ Refused number place → refused number place ≡ outcome
             sums-refused number place e =
@@ -124,8 +141,7 @@ module _ (top count : ℕ) (releases deadlines cycles : List ℕ) (bounds : ℕ)
 
             module _ (whole : sums ≡ Passed) (loads : List ℕ)
                 (added : loads ≡ intervalLoads plan)
-                (loaded : Verdict) (went-through : loaded ≡ verdictOf (byEntry (bounds - 1) (loadFaultIn top bs loads) passed))
-                (few-bounds : bounds ≤ maxBounds) where
+                (loaded : Verdict) (went-through : loaded ≡ verdictOf (byEntry (bounds - 1) (loadFaultIn top bs loads) passed)) where
               past-sums : outcome ≡ afterSums
               past-sums = past-steps ∙ same-sums ∙ entries-passed afterSums count _ sums summed whole
 

@@ -3,7 +3,9 @@ pub mod Walking
 pub mod Readings
 pub mod Verdicts
 pub mod Arrays
+pub mod Rows
 pub mod Tallies
+pub mod TestedJobs
 pub mod SeenSets
 pub mod BoundsIn
 pub mod StepFaults

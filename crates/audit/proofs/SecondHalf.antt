@@ -2,7 +2,7 @@
 -- on the prices against the loads and on the steps against the cheapest prices say.
 -- Assumes nothing.
 use mathlib.Core.Path.{_≡_, sym, _∙_, ap}
-use mathlib.Core.Bool.{true, false, not, _&&_}
+use mathlib.Core.Bool.{Bool, true, false, not, _&&_}
 use mathlib.Core.List.{List}
 use Prim.Native.Nat.{ℕ, _+_, _-_, _*_, _<_, _≤_}
 use native.Mathlib.Omega.{arith}
@@ -23,9 +23,7 @@ use Rattle.model.proofs.Steps.{load-of-steps}
 use Rattle.model.proofs.Faults.{price-length, entry-fault}
 use Rattle.model.proofs.Tests.{in-range}
 use Rattle.tables.specs.Column.{columnOf}
-use Rattle.tables.specs.Tables.{jobsIn}
 use Rattle.tables.proofs.Column.{column-at}
-use Rattle.tables.proofs.Read.{length-jobsIn}
 use Rattle.levels.specs.declared.points.PointTable.{PointTable}
 use Rattle.levels.specs.PointTables.{pointsOf}
 use Rattle.levels.proofs.PointTables.{length-pointsOf}
@@ -33,21 +31,21 @@ use Rattle.audit.specs.declared.Verdict.{Verdict}
 use Rattle.audit.specs.declared.Verdict.the-variants.{Passed, Refused}
 use Rattle.audit.specs.Verdicts.{verdictOf, passed}
 use Rattle.energy.specs.Figures.{SmallBounds}
+use Rattle.audit.specs.TestedJobs.{isMarked, openSetsBelow}
 use Rattle.audit.specs.FirstHalf.{boundsIn}
-use Rattle.audit.specs.SecondHalf.{Planned, BandNumbers, wrongLengthIn, entryFaultIn, priceFaultIn, openBetween, cheapestFor, cheaperFaultIn}
+use Rattle.audit.specs.SecondHalf.{Planned, BandNumbers, wrongLengthIn, entryFaultIn, priceFaultIn, cheapestFor, cheaperFaultIn}
 use Rattle.audit.proofs.Verdicts.{byEntry-cong, entries-refused, entries-passed}
 use Rattle.audit.proofs.Tallies.{tally-at}
 use Rattle.audit.proofs.BoundsIn.{intervals-in, end-in, length-in, open-in}
+use Rattle.audit.proofs.TestedJobs.{open-has}
 use Rattle.audit.proofs.LeastPrices.{least-below, someBelow-cong}
 
-module _ (working : PointTable) (count : ℕ) (releases deadlines cycles : List ℕ) (bounds : ℕ) (times plan loads prices : List ℕ)
+module _ (working : PointTable) (sets : List ℕ) (count bounds : ℕ) (times plan loads prices : List ℕ)
     (small : SmallBounds bounds times) (few : count ≤ maxJobs) (planned : Planned count bounds plan loads)
-    (intervals : ℕ) (counted : intervals ≡ bounds - 1) where
+    (intervals : ℕ) (counted : intervals ≡ bounds - 1)
+    (jobs : List Job) where
   abbrev ws : List Point
   ws = pointsOf working
-
-  abbrev jobs : List Job
-  jobs = jobsIn count releases deadlines cycles
 
   abbrev bs : List ℕ
   bs = boundsIn bounds times
@@ -65,7 +63,7 @@ module _ (working : PointTable) (count : ℕ) (releases deadlines cycles : List 
   -- the faults of the steps, as the code has them
   abbrev dearerFault : (numbers : List ℕ) → ℕ → ℕ
   dearerFault numbers =
-      cheaperFaultIn (columnOf maxJobs count (cheapestFor (working .count - 1) releases deadlines times bounds numbers)) numbers plan
+      cheaperFaultIn (columnOf maxJobs count (cheapestFor (working .count - 1) sets bounds numbers)) numbers plan
 
   all-intervals : intervalCount bs ≡ intervals
   all-intervals = intervals-in bounds times ∙ sym counted
@@ -117,10 +115,12 @@ module _ (working : PointTable) (count : ℕ) (releases deadlines cycles : List 
                 high = λ i below. in-range (getD numbers i 0) (working .count - 1) (in-bands i (omega arith)) .1;
               }
 
-          module _ (fits : Verdict) (tested : fits ≡ verdictOf (byEntry (bounds - 1) (priceFaultIn ws times loads numbers) passed)) where
+          module _
+              (jobs-counted : length jobs ≡ count) (opened : sets ≡ openSetsBelow jobs count times bounds)
+              (fits : Verdict) (tested : fits ≡ verdictOf (byEntry (bounds - 1) (priceFaultIn ws times loads numbers) passed)) where
             loaded : (i : ℕ) → i < intervals → load jobs (sharesOf plan) i ≡ getD loads i 0
             loaded i below =
-                load-of-steps plan jobs (λ s inside. rw (length-jobsIn count releases deadlines cycles) (planned .step-job s inside)) i
+                load-of-steps plan jobs (λ s inside. rw jobs-counted (planned .step-job s inside)) i
                 ∙ rw (planned .loaded)
                 (sym (tally-at maxIntervals _ _ (stepCount plan) i (omega (arith, small .few))))
 
@@ -145,16 +145,18 @@ module _ (working : PointTable) (count : ℕ) (releases deadlines cycles : List 
                 let job : j < count = planned .step-job s inside in
                 let interval : stepAt plan s .interval < bounds - 1 = planned .step-interval s inside in
                 let p : ℕ = getD numbers (stepAt plan s .interval) 0 in
-                let tests = openBetween (getD releases j 0) (getD deadlines j 0) times in
+                let tests : ℕ → Bool = λ i. isMarked sets i j in
                 rw (
-                  column-at maxJobs (cheapestFor (working .count - 1) releases deadlines times bounds numbers) count j (omega arith) job,
+                  column-at maxJobs (cheapestFor (working .count - 1) sets bounds numbers) count j (omega arith) job,
                   least-below (working .count - 1) (bounds - 1) tests (λ i. getD numbers i 0) p (band-numbers .high _ interval),
                   intervals-in bounds times,
                   someBelow-cong (bounds - 1)
                       (λ i. isOpen bs (jobOf jobs j) i && ltb (pricesOf prices i) (pricesOf prices (stepAt plan s .interval)))
                       (λ i. tests i && ltb (getD numbers i 0) p)
                       (λ i below. rw (
-                        open-in bounds times count releases deadlines cycles i j (omega arith) job,
+                        open-in bounds times (jobOf jobs j) i (omega arith),
+                        opened,
+                        open-has jobs times bounds count i j below (omega (arith, small .few)) job,
                         price-at i (omega arith),
                         price-at (stepAt plan s .interval) (omega arith),
                       )),

@@ -17,13 +17,10 @@ use Rattle.model.specs.Steps.{cellOf, cellAt}
 use Rattle.model.proofs.Entries.{getD-listOf}
 use Rattle.model.proofs.Sum.{sum-cong, sum-zero, sum-update}
 use Rattle.model.proofs.Search.{someBelow-next}
-use Rattle.model.proofs.OpenSets.{bits-below, bits-at}
-use Rattle.audit.specs.FirstHalf.{isMarked}
+use Rattle.model.proofs.OpenSets.{bits-below}
+use Rattle.audit.specs.TestedJobs.{isMarked}
 use Rattle.audit.proofs.Arrays.{zeros-hold, store-holds}
-
-bit-is-one : (t : Bool) → eqb (onlyIf t 1) 1 ≡ t
-bit-is-one true = refl
-bit-is-one false = refl
+use Rattle.audit.proofs.TestedJobs.{set-has}
 
 module _ (plan : List ℕ) where
   -- a step before s has the cell of an interval and a job
@@ -46,11 +43,7 @@ module _ (plan : List ℕ) where
       → isMarked (seenSets s) interval job ≡ isSeen s interval job
   unfolding seenSets seenSet
   marked-seen s interval job inside below =
-      rw (
-        getD-listOf {A = ℕ} maxIntervals (seenSet s) interval 0 inside,
-        bits-at (isSeen s interval) maxJobs job below,
-      )
-      (bit-is-one (isSeen s interval job))
+      rw (getD-listOf {A = ℕ} maxIntervals (seenSet s) interval 0 inside) (set-has (isSeen s interval) maxJobs job below)
 
   module _ (s interval job : ℕ) (here : cellAt plan s ≡ cellOf interval job) (below : job < maxJobs) where
     -- one step more has its own cell and no other

@@ -1,22 +1,22 @@
 -- The first half of the check over plain arrays.
-use Prim.Native.Nat.{ℕ, _*_, _/_, _%_, _^_}
+use Prim.Native.Nat.{ℕ, _-_, _*_}
 use mathlib.Core.Bool.{Bool, not, cond, _||_, _&&_}
-use mathlib.Core.List.{List, []}
+use mathlib.Core.List.{List}
 use lib.ListN.{getD, replicate}
-use lib.Dec.{leb, eqb}
+use lib.Dec.{ltb, leb, eqb}
 use Rattle.model.specs.declared.Job.{Job}
 use Rattle.model.specs.Limits.{maxIntervals, maxJobs}
 use Rattle.model.specs.Outcome.{Outcome, refused, answer}
 use Rattle.model.specs.Entries.{listOf}
 use Rattle.model.specs.Sum.{sum, onlyIf}
-use Rattle.model.specs.Jobs.{jobOf}
+use Rattle.model.specs.Search.{someBelow}
 use Rattle.model.specs.Intervals.{intervalCount, lengthOf}
 use Rattle.model.specs.Plans.{load}
-use Rattle.model.specs.Steps.{Step, stepCount, stepAt, sharesOf}
-use Rattle.model.specs.Checking.{isOpenPair}
+use Rattle.model.specs.Steps.{Step, stepCount, cellAt, stepAt, wrongPlanLength, sharesOf}
 use Rattle.tables.specs.Column.{columnOf}
 use Rattle.audit.specs.declared.Verdict.the-variants.{Passed, Refused}
 use Rattle.audit.specs.declared.fitting.Fitted.{Fitted}
+use Rattle.audit.specs.TestedJobs.{hasJob, isMarked}
 
 -- The bounds that stand in an array, the first `count` of them.
 unfoldable pub boundsIn : (count : ℕ) → (times : List ℕ) → List ℕ
@@ -42,19 +42,34 @@ jobSums plan = tallyOf maxJobs (stepCount plan) (λ s. stepAt plan s .job) (λ s
 abbrev pub intervalLoads : (plan : List ℕ) → List ℕ
 intervalLoads plan = tallyOf maxIntervals (stepCount plan) (λ s. stepAt plan s .interval) (λ s. stepAt plan s .cycles)
 
--- The set of an interval has a job: bit number equal to job number.
-abbrev pub isMarked : (sets : List ℕ) → (interval job : ℕ) → Bool
-isMarked sets interval job = eqb (getD sets interval 0 / 2 ^ job % 2) 1
+-- The cycles of each job's steps where the plan has the right length, otherwise zeros.
+unfoldable pub planSums : (plan : List ℕ) → List ℕ
+planSums plan = cond (wrongPlanLength plan) (replicate maxJobs 0) (jobSums plan)
 
--- Refusals 17 and 18 at a step, where the pairs of the steps before it are marked; 0 for none.
-unfoldable pub faultOfStep : List Job → (bounds seen : List ℕ) → Step → ℕ
-faultOfStep jobs bounds seen step =
-    cond (not (isOpenPair 0 jobs bounds [] step) || isMarked seen (step .interval) (step .job)) 17
-    (cond (not (leb 1 (step .cycles) && leb (step .cycles) (jobOf jobs (step .job) .cycles))) 18 0)
+-- The pair of a step exists and is open, over the open sets of the intervals.
+abbrev pub openPairIn : (sets : List ℕ) → (count bounds : ℕ) → Step → Bool
+openPairIn sets count bounds step =
+    ltb (step .interval) (bounds - 1) && ltb (step .job) count && isMarked sets (step .interval) (step .job)
 
--- Refusal 19 at a job, over sums in an array; 0 for none.
-abbrev pub sumFaultIn : (sums cycles : List ℕ) → (job : ℕ) → ℕ
-sumFaultIn sums cycles j = cond (eqb (getD sums j 0) (getD cycles j 0)) 0 19
+-- Refusal 17 at a step whose cell is present earlier or not, and 18; 0 for none.
+abbrev pub faultWhere : (sets cycles : List ℕ) → (count bounds : ℕ) → (earlier : Bool) → Step → ℕ
+faultWhere sets cycles count bounds earlier step =
+    cond (not (openPairIn sets count bounds step) || earlier) 17
+    (cond (not (leb 1 (step .cycles) && leb (step .cycles) (getD cycles (step .job) 0))) 18 0)
+
+-- The same where the pairs of the steps before it are marked.
+unfoldable pub faultOfStep : (sets cycles : List ℕ) → (count bounds : ℕ) → (seen : List ℕ) → Step → ℕ
+faultOfStep sets cycles count bounds seen step =
+    faultWhere sets cycles count bounds (isMarked seen (step .interval) (step .job)) step
+
+-- The same over a plan's cells.
+unfoldable pub stepFaultIn : (sets cycles : List ℕ) → (count bounds : ℕ) → (plan : List ℕ) → (step : ℕ) → ℕ
+stepFaultIn sets cycles count bounds plan s =
+    faultWhere sets cycles count bounds (someBelow s (λ r. eqb (cellAt plan r) (cellAt plan s))) (stepAt plan s)
+
+-- Refusal 19 at a job, over the set of those whose steps add to their cycles; 0 for none.
+abbrev pub sumFaultIn : (summed : ℕ) → (job : ℕ) → ℕ
+sumFaultIn summed j = cond (hasJob summed j) 0 19
 
 -- Refusal 20 at an interval, over loads in an array; 0 for none.
 abbrev pub loadFaultIn : (top : ℕ) → (bounds loads : List ℕ) → (interval : ℕ) → ℕ

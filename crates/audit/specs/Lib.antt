@@ -2,6 +2,7 @@
 pub mod Walking
 pub mod Readings
 pub mod Verdicts
+pub mod TestedJobs
 pub mod FirstHalf
 pub mod SecondHalf
 pub mod Answers

@@ -9,6 +9,7 @@ use Rattle.model.specs.Points.{Point}
 use Rattle.model.specs.Prices.{fitsLoad}
 use Rattle.model.specs.Steps.{stepCount, stepAt}
 use Rattle.model.specs.PriceBytes.{priceIntervals, endAt}
+use Rattle.audit.specs.TestedJobs.{isMarked}
 use Rattle.audit.specs.FirstHalf.{intervalLoads}
 
 -- A plan whose steps each have one of the jobs and one of the intervals between the bounds, and the loads that they make.
@@ -38,10 +39,6 @@ abbrev pub priceFaultIn : List Point → (times loads numbers : List ℕ) → (i
 priceFaultIn ws times loads numbers i =
     cond (fitsLoad ws (getD times (i + 1) 0 - getD times i 0) (getD loads i 0) (getD numbers i 0)) 0 23
 
--- A job with this release and deadline is open in interval i between the times.
-abbrev pub openBetween : (release deadline : ℕ) → (times : List ℕ) → (i : ℕ) → Bool
-openBetween release deadline times i = leb release (getD times i 0) && leb (getD times (i + 1) 0) deadline
-
 -- The smallest price of the first `count` intervals that pass the test; `most` where none does or none has a smaller price.
 unfoldable pub cheapestBelow : (most count : ℕ) → (test : ℕ → Bool) → (price : ℕ → ℕ) → ℕ
 cheapestBelow most zero test price = most
@@ -50,9 +47,8 @@ cheapestBelow most (suc count) test price =
     cond (test count) (min (price count) rest) rest
 
 -- The smallest price of the intervals that job j is open in, the number of bands where it is open in none.
-abbrev pub cheapestFor : (bands : ℕ) → (releases deadlines times : List ℕ) → (bounds : ℕ) → (numbers : List ℕ) → (j : ℕ) → ℕ
-cheapestFor bands releases deadlines times bounds numbers j =
-    cheapestBelow bands (bounds - 1) (openBetween (getD releases j 0) (getD deadlines j 0) times) (λ i. getD numbers i 0)
+abbrev pub cheapestFor : (bands : ℕ) → (sets : List ℕ) → (bounds : ℕ) → (numbers : List ℕ) → (j : ℕ) → ℕ
+cheapestFor bands sets bounds numbers j = cheapestBelow bands (bounds - 1) (λ i. isMarked sets i j) (λ i. getD numbers i 0)
 
 -- Refusal 24 at a step: its job has a cheaper interval than the step's; 0 for none.
 abbrev pub cheaperFaultIn : (cheapest numbers plan : List ℕ) → (s : ℕ) → ℕ

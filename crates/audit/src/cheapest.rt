@@ -1,37 +1,34 @@
 // The cheapest open interval of each job, and the steps held against it: refusal 24.
 ghost use mathlib.Core.Path.{_≡_};
-ghost use Prim.Native.Nat.{ℕ, _+_, _-_, _*_, _<_, _≤_, min};
-ghost use lib.ListN.{length, getD};
+ghost use Prim.Native.Nat.{ℕ, _+_, _*_, _<_, _≤_, min};
+ghost use lib.ListN.{length};
 ghost use Rattle.model.specs.Limits.{maxJobs, maxBounds, maxIntervals};
 ghost use Rattle.model.specs.Outcome.{byEntry};
 ghost use Rattle.model.specs.Steps.{stepCount, stepAt};
 ghost use Rattle.tables.specs.Column.{columnOf};
 ghost use Rattle.audit.specs.Verdicts.{verdictOf, passed};
-ghost use Rattle.audit.specs.SecondHalf.{openBetween, cheapestBelow, cheapestFor, cheaperFaultIn};
+ghost use Rattle.audit.specs.SecondHalf.{cheapestFor, cheaperFaultIn};
 use crate::Verdict;
-use crate::cells::is_open;
+use crate::cells::is_marked;
 use crate::steps::decode_step;
 use crate::steps::step_count;
-use model::MAX_BOUNDS;
 use model::MAX_INTERVALS;
 use model::MAX_JOBS;
 
 // Goes through the steps one after another.
 pub(crate) fn check_cheapest(
     bands: u64,
-    releases: &[u64; MAX_JOBS],
-    deadlines: &[u64; MAX_JOBS],
+    sets: &[u64; MAX_INTERVALS],
     count: usize,
-    times: &[u64; MAX_BOUNDS],
     bounds: usize,
     plan: &[u8],
     numbers: &[u64; MAX_INTERVALS],
 ) -> Verdict
     requires { ⌜ (count ≤ maxJobs) × (bounds ≤ maxBounds) × (length (now plan) ≡ 4 + 6 * stepCount (now plan)) ⌝ }
     requires { ⌜ ((s : ℕ) → s < stepCount (now plan) → stepAt (now plan) s .interval < maxIntervals) ⌝ }
-    ensures { λ r. ⌜ r ≡ verdictOf (byEntry (stepCount (now (plan .entry))) (cheaperFaultIn (columnOf maxJobs count (cheapestFor bands (now (releases .entry)) (now (deadlines .entry)) (now (times .entry)) bounds (now (numbers .entry)))) (now (numbers .entry)) (now (plan .entry))) passed) ⌝ }
+    ensures { λ r. ⌜ r ≡ verdictOf (byEntry (stepCount (now (plan .entry))) (cheaperFaultIn (columnOf maxJobs count (cheapestFor bands (now (sets .entry)) bounds (now (numbers .entry)))) (now (numbers .entry)) (now (plan .entry))) passed) ⌝ }
 {
-    let cheapest = cheapest_prices(bands, releases, deadlines, count, times, bounds, numbers);
+    let cheapest = cheapest_prices(bands, sets, count, bounds, numbers);
     let steps = step_count(plan);
     let mut s = 0;
     while s < steps {
@@ -52,20 +49,18 @@ pub(crate) fn check_cheapest(
 // The smallest price of each job's open intervals; zeros past the last job.
 fn cheapest_prices(
     bands: u64,
-    releases: &[u64; MAX_JOBS],
-    deadlines: &[u64; MAX_JOBS],
+    sets: &[u64; MAX_INTERVALS],
     count: usize,
-    times: &[u64; MAX_BOUNDS],
     bounds: usize,
     numbers: &[u64; MAX_INTERVALS],
 ) -> [u64; MAX_JOBS]
     requires { ⌜ (count ≤ maxJobs) × (bounds ≤ maxBounds) ⌝ }
-    ensures { λ r. ⌜ r ≡ columnOf maxJobs count (cheapestFor bands (now (releases .entry)) (now (deadlines .entry)) (now (times .entry)) bounds (now (numbers .entry))) ⌝ }
+    ensures { λ r. ⌜ r ≡ columnOf maxJobs count (cheapestFor bands (now (sets .entry)) bounds (now (numbers .entry))) ⌝ }
 {
     let mut cheapest = [0u64; MAX_JOBS];
     let mut j = 0;
     while j < count {
-        cheapest[j] = cheapest_price(bands, releases[j], deadlines[j], times, bounds, numbers);
+        cheapest[j] = cheapest_price(bands, j, sets, bounds, numbers);
         j += 1;
     }
     cheapest
@@ -74,19 +69,18 @@ fn cheapest_prices(
 // The smallest price of the intervals that a job is open in; the number of bands where it is open in none.
 fn cheapest_price(
     bands: u64,
-    release: u64,
-    deadline: u64,
-    times: &[u64; MAX_BOUNDS],
+    job: usize,
+    sets: &[u64; MAX_INTERVALS],
     bounds: usize,
     numbers: &[u64; MAX_INTERVALS],
 ) -> u64
-    requires { ⌜ bounds ≤ maxBounds ⌝ }
-    ensures { λ r. ⌜ r ≡ cheapestBelow bands (bounds - 1) (openBetween release deadline (now (times .entry))) (λ i. getD (now (numbers .entry)) i 0) ⌝ }
+    requires { ⌜ (job < maxJobs) × (bounds ≤ maxBounds) ⌝ }
+    ensures { λ r. ⌜ r ≡ cheapestFor bands (now (sets .entry)) bounds (now (numbers .entry)) job ⌝ }
 {
     let mut least = bands;
     let mut i = 0;
     while i + 1 < bounds {
-        if is_open(release, deadline, times[i], times[i + 1]) {
+        if is_marked(sets[i], job) {
             least = smaller(numbers[i], least);
         }
         i += 1;

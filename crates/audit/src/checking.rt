@@ -10,7 +10,10 @@ ghost use Rattle.levels.specs.PointTables.{pointsOf, SmallPoints};
 ghost use Rattle.audit.specs.Answers.{checkAnswer, checkedTables, checkedJobs};
 use crate::Verdict;
 use crate::fitting::fit;
+use crate::fitting::plan_sums;
 use crate::pricing::price;
+use crate::records::job_records;
+use crate::records::tests_of;
 use energy::energy_figure;
 use levels::PointTable;
 use levels::working_levels;
@@ -70,7 +73,8 @@ fn check_jobs(working: PointTable, top: u64, jobs: &[u8], plan: &[u8], prices: &
     }
 }
 
-// The check where both tables were read: the two halves, and then the energy figure.
+// The check where both tables were read: the jobs become records, which are lent to the pass over them; then the two
+// halves, and the energy figure.
 fn check_tables(
     working: PointTable,
     top: u64,
@@ -88,32 +92,17 @@ fn check_tables(
     let table = bounds_of(releases, deadlines, count);
     let bounds = table.count;
     let times = table.times;
-    let fitted = fit(
-        top,
-        releases,
-        deadlines,
-        cycles,
-        count,
-        &times,
-        bounds,
-        plan,
-    );
+    let jobs = job_records(releases, deadlines, cycles);
+    let sums = plan_sums(plan);
+    let tests = tests_of(jobs, count, &times, bounds, &sums);
+    let fitted = fit(top, tests, count, &times, bounds, plan);
     let first = fitted.verdict;
     if let Verdict::Refused { number, place } = first {
         return CheckAnswer::Refused { number, place };
     }
     let loads = fitted.loads;
-    let second = price(
-        working,
-        releases,
-        deadlines,
-        count,
-        &times,
-        bounds,
-        plan,
-        &loads,
-        prices,
-    );
+    let sets = tests.sets;
+    let second = price(working, &sets, count, &times, bounds, plan, &loads, prices);
     if let Verdict::Refused { number, place } = second {
         return CheckAnswer::Refused { number, place };
     }

@@ -1,17 +1,21 @@
 // The first half of the check, refusals 15 to 20: the plan fits the jobs.
 ghost use mathlib.Core.Path.{_≡_};
 ghost use Prim.Native.Nat.{ℕ, _+_, _-_, _*_, _<_, _≤_};
+ghost use mathlib.Core.List.{List};
 ghost use lib.ListN.{length};
+ghost use Rattle.model.specs.declared.Job.{Job};
 ghost use Rattle.model.specs.Limits.{maxFrequency, maxJobs, maxIntervals};
 ghost use Rattle.model.specs.Outcome.{answer, refused, byEntry};
 ghost use Rattle.model.specs.Steps.{stepCount, stepAt};
 ghost use Rattle.model.specs.Checking.{fitting};
-ghost use Rattle.tables.specs.Tables.{jobsIn};
 ghost use Rattle.energy.specs.Figures.{SmallBounds};
 ghost use Rattle.audit.specs.Verdicts.{verdictOf, passed};
-ghost use Rattle.audit.specs.FirstHalf.{boundsIn, jobSums, intervalLoads, sumFaultIn, loadFaultIn, loadsOf, fittedOf};
+ghost use Rattle.audit.specs.TestedJobs.{testsOf};
+ghost use Rattle.audit.specs.FirstHalf.{boundsIn, jobSums, planSums, intervalLoads, sumFaultIn, loadFaultIn, loadsOf, fittedOf};
 use crate::Verdict;
 use crate::cells::check_steps;
+use crate::cells::is_marked;
+use crate::records::JobTests;
 use crate::steps::decode_step;
 use crate::steps::step_count;
 use crate::steps::wrong_length;
@@ -27,19 +31,17 @@ pub(crate) struct Fitted {
     pub loads: [u64; MAX_INTERVALS],
 }
 
-// Checks a plan against decoded jobs and their bounds.
+// Checks a plan against what was found of the jobs, and their bounds.
 pub(crate) fn fit(
     top: u64,
-    releases: &[u64; MAX_JOBS],
-    deadlines: &[u64; MAX_JOBS],
-    cycles: &[u64; MAX_JOBS],
+    tests: JobTests,
     count: usize,
     times: &[u64; MAX_BOUNDS],
     bounds: usize,
     plan: &[u8],
 ) -> Fitted
     requires { ⌜ (top ≤ maxFrequency) × (count ≤ maxJobs) × SmallBounds bounds (now times) ⌝ }
-    ensures { λ r. ⌜ r ≡ fittedOf (fitting top (jobsIn count (now (releases .entry)) (now (deadlines .entry)) (now (cycles .entry))) (boundsIn bounds (now (times .entry))) (now (plan .entry)) (answer (loadsOf (jobsIn count (now (releases .entry)) (now (deadlines .entry)) (now (cycles .entry))) (boundsIn bounds (now (times .entry))) (now (plan .entry))))) ⌝ }
+    ensures { λ r. ⌜ ((jobs : List Job) → length jobs ≡ count → tests ≡ testsOf jobs (now (times .entry)) bounds (planSums (now (plan .entry))) → r ≡ fittedOf (fitting top jobs (boundsIn bounds (now (times .entry))) (now (plan .entry)) (answer (loadsOf jobs (boundsIn bounds (now (times .entry))) (now (plan .entry)))))) ⌝ }
 {
     if wrong_length(plan) {
         return unfit(15, 0);
@@ -47,11 +49,13 @@ pub(crate) fn fit(
     if number16(plan, 0) as usize != interval_count(bounds) {
         return unfit(16, 0);
     }
-    let steps = check_steps(releases, deadlines, cycles, count, times, bounds, plan);
+    let sets = tests.sets;
+    let cycles = tests.cycles;
+    let steps = check_steps(&sets, &cycles, count, bounds, plan);
     if let Verdict::Refused { number, place } = steps {
         return unfit(number, place);
     }
-    let sums = check_sums(cycles, count, plan);
+    let sums = check_sums(tests.summed, count);
     if let Verdict::Refused { number, place } = sums {
         return unfit(number, place);
     }
@@ -82,15 +86,14 @@ pub(crate) fn interval_count(bounds: usize) -> usize
     if bounds == 0 { 0 } else { bounds - 1 }
 }
 
-// Goes through the jobs one after another: refusal 19.
-fn check_sums(cycles: &[u64; MAX_JOBS], count: usize, plan: &[u8]) -> Verdict
-    requires { ⌜ (count ≤ maxJobs) × (length (now plan) ≡ 4 + 6 * stepCount (now plan)) ⌝ }
-    ensures { λ r. ⌜ r ≡ verdictOf (byEntry count (sumFaultIn (jobSums (now (plan .entry))) (now (cycles .entry))) passed) ⌝ }
+// Goes through the jobs one after another: refusal 19, over the set of the jobs whose steps add to their cycles.
+fn check_sums(summed: u64, count: usize) -> Verdict
+    requires { ⌜ count ≤ maxJobs ⌝ }
+    ensures { λ r. ⌜ r ≡ verdictOf (byEntry count (sumFaultIn summed) passed) ⌝ }
 {
-    let sums = job_sums(plan);
     let mut j = 0;
     while j < count {
-        if sums[j] != cycles[j] {
+        if !is_marked(summed, j) {
             return Verdict::Refused {
                 number: 19,
                 place: j as u32,
@@ -99,6 +102,16 @@ fn check_sums(cycles: &[u64; MAX_JOBS], count: usize, plan: &[u8]) -> Verdict
         j += 1;
     }
     Verdict::Passed
+}
+
+// The cycles of each job's steps, added; zeros where the plan has not the length that its step count says.
+pub(crate) fn plan_sums(plan: &[u8]) -> [u64; MAX_JOBS]
+    ensures { λ r. ⌜ r ≡ planSums (now (plan .entry)) ⌝ }
+{
+    if wrong_length(plan) {
+        return [0; MAX_JOBS];
+    }
+    job_sums(plan)
 }
 
 // The cycles of each job's steps, added.

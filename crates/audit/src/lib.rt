@@ -4,6 +4,7 @@ mod cheapest;
 mod checking;
 mod fitting;
 mod pricing;
+mod records;
 mod steps;
 mod walk;
 

@@ -2,19 +2,20 @@
 ghost use mathlib.Core.Path.{_≡_};
 ghost use mathlib.Core.Bool.{cond, _&&_};
 ghost use mathlib.Core.List.{List};
-ghost use Prim.Native.Nat.{ℕ, _+_, _-_, _*_, _<_, _≤_};
+ghost use Prim.Native.Nat.{_+_, _-_, _*_, _<_, _≤_};
 ghost use lib.ListN.{length, getD};
 ghost use lib.Dec.{leb, eqb};
+ghost use Rattle.model.specs.declared.Job.{Job};
 ghost use Rattle.model.specs.Limits.{maxJobs, maxDeadline, maxIntervals};
 ghost use Rattle.model.specs.Outcome.{byEntry};
 ghost use Rattle.model.specs.Bands.{Curve};
 ghost use Rattle.model.specs.Prices.{fitsLoad};
 ghost use Rattle.model.specs.Checking.{pricing};
 ghost use Rattle.tables.specs.Column.{columnOf};
-ghost use Rattle.tables.specs.Tables.{jobsIn};
 ghost use Rattle.levels.specs.PointTables.{pointsOf, SmallPoints};
 ghost use Rattle.energy.specs.Figures.{SmallBounds};
 ghost use Rattle.audit.specs.Verdicts.{verdictOf, passed};
+ghost use Rattle.audit.specs.TestedJobs.{openSetsBelow};
 ghost use Rattle.audit.specs.FirstHalf.{boundsIn};
 ghost use Rattle.audit.specs.SecondHalf.{Planned, BandNumbers, wrongLengthIn, entryFaultIn, priceFaultIn};
 use crate::Verdict;
@@ -23,15 +24,13 @@ use crate::fitting::interval_count;
 use levels::PointTable;
 use model::MAX_BOUNDS;
 use model::MAX_INTERVALS;
-use model::MAX_JOBS;
 use tables::number16;
 use tables::number32;
 
-// Checks a price list against a plan that fits, with the loads of its intervals.
+// Checks a price list against a plan that fits, with the open sets and the loads of its intervals.
 pub(crate) fn price(
     working: PointTable,
-    releases: &[u64; MAX_JOBS],
-    deadlines: &[u64; MAX_JOBS],
+    sets: &[u64; MAX_INTERVALS],
     count: usize,
     times: &[u64; MAX_BOUNDS],
     bounds: usize,
@@ -42,7 +41,7 @@ pub(crate) fn price(
     requires { ⌜ SmallPoints working × Curve (pointsOf working) ⌝ }
     requires { ⌜ SmallBounds bounds (now times) × (count ≤ maxJobs) ⌝ }
     requires { ⌜ Planned count bounds (now plan) (now loads) ⌝ }
-    ensures { λ r. ⌜ ((cycles : List ℕ) → r ≡ verdictOf (pricing (pointsOf working) (jobsIn count (now (releases .entry)) (now (deadlines .entry)) cycles) (boundsIn bounds (now (times .entry))) (now (plan .entry)) (now (prices .entry)) passed)) ⌝ }
+    ensures { λ r. ⌜ ((jobs : List Job) → length jobs ≡ count → now (sets .entry) ≡ openSetsBelow jobs count (now (times .entry)) bounds → r ≡ verdictOf (pricing (pointsOf working) jobs (boundsIn bounds (now (times .entry))) (now (plan .entry)) (now (prices .entry)) passed)) ⌝ }
 {
     let intervals = interval_count(bounds);
     if wrong_price_length(prices, intervals) {
@@ -61,16 +60,7 @@ pub(crate) fn price(
     if let Verdict::Refused { number, place } = fits {
         return Verdict::Refused { number, place };
     }
-    check_cheapest(
-        bands,
-        releases,
-        deadlines,
-        count,
-        times,
-        bounds,
-        plan,
-        &numbers,
-    )
+    check_cheapest(bands, sets, count, bounds, plan, &numbers)
 }
 
 // Whether the bytes are under 2, have another number of intervals or are not 2 + 5 × that number.

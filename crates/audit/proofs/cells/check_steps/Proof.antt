@@ -5,9 +5,7 @@ use Prim.Native.Nat.{ℕ, _-_, _≤_, _<_}
 use native.Mathlib.Omega.{arith}
 use denote.Ref.{now}
 use borrow.Author.Count.{below-none, below-more}
-use Rattle.model.specs.Checking.{stepFault}
-use Rattle.tables.specs.Tables.{jobsIn}
-use Rattle.audit.specs.FirstHalf.{boundsIn}
+use Rattle.audit.specs.FirstHalf.{stepFaultIn}
 use Rattle.audit.proofs.StepFaults.{turn-fault, turn-room, turn-marked}
 use Rattle.audit.proofs.SeenSets.{seenSets, seen-none}
 use Rattle.audit.proofs.Verdicts.{verdict-stops, verdict-passes}
@@ -15,13 +13,13 @@ use Rattle.audit.proofs.cells.check_steps.Statement.{statement}
 use Rattle.audit.proofs.cells.check_steps.Tie as tie
 
 abbrev Inv-loop : tie.InvT-loop
-Inv-loop releases deadlines cycles count times bounds plan steps seen₀ s₀ seen s =
+Inv-loop sets cycles count bounds plan steps seen₀ s₀ seen s =
     (s ≤ steps)
     × (seen ≡ seenSets plan s)
-    × ((k : ℕ) → k < s → stepFault 0 (jobsIn count releases deadlines cycles) (boundsIn bounds times) plan k ≡ 0)
+    × ((k : ℕ) → k < s → stepFaultIn sets cycles count bounds plan k ≡ 0)
 
 abbrev μ-loop : tie.MeasureT-loop
-μ-loop releases deadlines cycles count times bounds plan steps seen₀ s₀ seen s = steps - s
+μ-loop sets cycles count bounds plan steps seen₀ s₀ seen s = steps - s
 
 step-count-requires : tie.Need-step-count-requires Inv-loop μ-loop
 step-count-requires c κs = c .before .pre .2
@@ -39,19 +37,16 @@ step-fault-requires c κs = (omega arith, omega arith, omega arith)
 here : (c : tie.After-step-fault Inv-loop μ-loop)
     → let start = c .before .before .before .before .before .before .before in
     c .step-fault .result
-    ≡ stepFault 0
-    (jobsIn (start .args .count) (now (start .args .releases)) (now (start .args .deadlines)) (now (start .args .cycles)))
-    (boundsIn (start .args .bounds) (now (start .args .times)))
-    (now (start .args .plan))
+    ≡ stepFaultIn (now (start .args .sets)) (now (start .args .cycles)) (start .args .count) (start .args .bounds) (now (start .args .plan))
     (c .before .before .before .before .loop .s)
 here c =
     let decoded = c .before .before in
     turn-fault
-    _ _ _ _ _ _ _ _ _ _ _
+    _ _ _ _ _ _ _ _ _
     (omega arith) (omega arith) (decoded .before .before .loop .inv .1) (decoded .decode-step .ensures .0) (c .step-fault .ensures)
 
-cast-t15 : tie.Need-cast-t15 Inv-loop μ-loop
-cast-t15 c = omega arith
+cast-t13 : tie.Need-cast-t13 Inv-loop μ-loop
+cast-t13 c = omega arith
 
 returns : tie.Need-returns Inv-loop μ-loop
 returns c = verdict-stops _ _ _ _ (c .before .before .before .before .before .loop .inv .2) (omega arith) (here (c .before)) (c .if1 .taken)
@@ -61,7 +56,7 @@ mark-requires c κs =
     let found = c .before .before in
     let decoded = found .before .before in
     turn-room
-    _ _ _ _ _ _ _ _ _ _ _
+    _ _ _ _ _ _ _ _ _
     (omega arith) (omega arith) (decoded .before .before .loop .inv .1) (decoded .decode-step .ensures .0) (found .step-fault .ensures)
     (c .before .if1 .left)
 
@@ -79,7 +74,7 @@ loop-again c =
     let inv = decoded .before .before .loop .inv in (
       omega arith,
       turn-marked
-          _ _ _ _ _ _ _ _ _ _ _
+          _ _ _ _ _ _ _ _ _
           (omega arith) (omega arith) (inv .1) (decoded .decode-step .ensures .0) (found .step-fault .ensures)
           (sound .if1 .left) _ (c .mark .ensures),
       below-more _ _ (inv .2) (sym (here found) ∙ sound .if1 .left),
@@ -98,7 +93,7 @@ check-steps-spec =
     loop-holds
     decode-step-requires
     step-fault-requires
-    cast-t15
+    cast-t13
     returns
     mark-requires
     add-s

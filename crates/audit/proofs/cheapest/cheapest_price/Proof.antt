@@ -5,17 +5,18 @@ use mathlib.Core.Logic.{⊎-elim}
 use Prim.Native.Nat.{_-_, _≤_}
 use native.Mathlib.Omega.{arith}
 use lib.ListN.{getD}
-use Rattle.audit.specs.SecondHalf.{openBetween, cheapestBelow}
+use Rattle.audit.specs.TestedJobs.{isMarked}
+use Rattle.audit.specs.SecondHalf.{cheapestBelow}
 use Rattle.audit.proofs.LeastPrices.{least-none, least-more, least-same}
 use Rattle.audit.proofs.cheapest.cheapest_price.Statement.{statement}
 use Rattle.audit.proofs.cheapest.cheapest_price.Tie as tie
 
 abbrev Inv-loop : tie.InvT-loop
-Inv-loop bands release deadline times bounds numbers least₀ i₀ least i =
-    (i ≤ bounds - 1) × (least ≡ cheapestBelow bands i (openBetween release deadline times) (λ k. getD numbers k 0))
+Inv-loop bands job sets bounds numbers least₀ i₀ least i =
+    (i ≤ bounds - 1) × (least ≡ cheapestBelow bands i (λ k. isMarked sets k job) (λ k. getD numbers k 0))
 
 abbrev μ-loop : tie.MeasureT-loop
-μ-loop bands release deadline times bounds numbers least₀ i₀ least i = bounds - i
+μ-loop bands job sets bounds numbers least₀ i₀ least i = bounds - i
 
 loop-holds : tie.Need-loop-holds Inv-loop μ-loop
 loop-holds c = (omega arith, least-none _ _ _)
@@ -23,23 +24,14 @@ loop-holds c = (omega arith, least-none _ _ _)
 add-loop : tie.Need-add-loop Inv-loop μ-loop
 add-loop c = omega arith
 
-mul-is-open : tie.Need-mul-is-open Inv-loop μ-loop
-mul-is-open c = omega arith
+mul-is-marked : tie.Need-mul-is-marked Inv-loop μ-loop
+mul-is-marked c = omega arith
 
-element-copy-out-is-open : tie.Need-element-copy-out-is-open Inv-loop μ-loop
-element-copy-out-is-open c = omega arith
+element-copy-out-is-marked : tie.Need-element-copy-out-is-marked Inv-loop μ-loop
+element-copy-out-is-marked c = omega arith
 
-add-is-open : tie.Need-add-is-open Inv-loop μ-loop
-add-is-open c = omega arith
-
-mul-is-open-2 : tie.Need-mul-is-open-2 Inv-loop μ-loop
-mul-is-open-2 c = omega arith
-
-element-copy-out-is-open-2 : tie.Need-element-copy-out-is-open-2 Inv-loop μ-loop
-element-copy-out-is-open-2 c = omega arith
-
-is-open-requires : tie.Need-is-open-requires Inv-loop μ-loop
-is-open-requires c κs = tt
+is-marked-requires : tie.Need-is-marked-requires Inv-loop μ-loop
+is-marked-requires c κs = omega arith
 
 mul-smaller : tie.Need-mul-smaller Inv-loop μ-loop
 mul-smaller c = omega arith
@@ -58,8 +50,8 @@ loop-less c = omega arith
 
 loop-again : tie.Need-loop-again Inv-loop μ-loop
 loop-again c =
-    let tested = sym (c .before .is-open .ensures) in
-    let inv = c .before .before .before .before .before .loop .inv in (
+    let tested = sym (c .before .is-marked .ensures) in
+    let inv = c .before .before .before .before .loop .inv in (
       omega arith,
       ⊎-elim
           (λ w. least-more _ _ _ _ _ _ (inv .1) (tested ∙ w .0 .taken) (w .3 ∙ w .2 .ensures))
@@ -78,12 +70,9 @@ cheapest-price-spec =
     μ-loop
     loop-holds
     add-loop
-    mul-is-open
-    element-copy-out-is-open
-    add-is-open
-    mul-is-open-2
-    element-copy-out-is-open-2
-    is-open-requires
+    mul-is-marked
+    element-copy-out-is-marked
+    is-marked-requires
     mul-smaller
     element-copy-out-smaller
     smaller-requires

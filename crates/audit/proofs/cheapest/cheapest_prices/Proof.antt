@@ -11,29 +11,17 @@ use Rattle.audit.proofs.cheapest.cheapest_prices.Statement.{statement}
 use Rattle.audit.proofs.cheapest.cheapest_prices.Tie as tie
 
 abbrev Inv-loop : tie.InvT-loop
-Inv-loop bands releases deadlines count times bounds numbers cheapest₀ j₀ cheapest j =
-    (j ≤ count) × (cheapest ≡ columnOf maxJobs j (cheapestFor bands releases deadlines times bounds numbers))
+Inv-loop bands sets count bounds numbers cheapest₀ j₀ cheapest j =
+    (j ≤ count) × (cheapest ≡ columnOf maxJobs j (cheapestFor bands sets bounds numbers))
 
 abbrev μ-loop : tie.MeasureT-loop
-μ-loop bands releases deadlines count times bounds numbers cheapest₀ j₀ cheapest j = count - j
+μ-loop bands sets count bounds numbers cheapest₀ j₀ cheapest j = count - j
 
 loop-holds : tie.Need-loop-holds Inv-loop μ-loop
 loop-holds c = (omega arith, column-none maxJobs _)
 
-mul-cheapest-price : tie.Need-mul-cheapest-price Inv-loop μ-loop
-mul-cheapest-price c = omega arith
-
-element-copy-out-cheapest-price : tie.Need-element-copy-out-cheapest-price Inv-loop μ-loop
-element-copy-out-cheapest-price c = omega arith
-
-mul-cheapest-price-2 : tie.Need-mul-cheapest-price-2 Inv-loop μ-loop
-mul-cheapest-price-2 c = omega arith
-
-element-copy-out-cheapest-price-2 : tie.Need-element-copy-out-cheapest-price-2 Inv-loop μ-loop
-element-copy-out-cheapest-price-2 c = omega arith
-
 cheapest-price-requires : tie.Need-cheapest-price-requires Inv-loop μ-loop
-cheapest-price-requires c κs = omega arith
+cheapest-price-requires c κs = (omega arith, omega arith)
 
 mul-cheapest : tie.Need-mul-cheapest Inv-loop μ-loop
 mul-cheapest c = omega arith
@@ -48,7 +36,7 @@ loop-less : tie.Need-loop-less Inv-loop μ-loop
 loop-less c = omega arith
 
 loop-again : tie.Need-loop-again Inv-loop μ-loop
-loop-again c = (omega arith, column-more maxJobs _ _ _ _ (omega arith) (c .before .before .before .before .loop .inv .1) (c .cheapest-price .ensures))
+loop-again c = (omega arith, column-more maxJobs _ _ _ _ (omega arith) (c .before .before .loop .inv .1) (c .cheapest-price .ensures))
 
 returns : tie.Need-returns Inv-loop μ-loop
 returns c = column-whole maxJobs _ _ _ _ (c .before .loop .inv .0) (c .loop-test .left) (c .before .loop .inv .1)
@@ -60,10 +48,6 @@ cheapest-prices-spec =
     Inv-loop
     μ-loop
     loop-holds
-    mul-cheapest-price
-    element-copy-out-cheapest-price
-    mul-cheapest-price-2
-    element-copy-out-cheapest-price-2
     cheapest-price-requires
     mul-cheapest
     array-write-cheapest

@@ -25,11 +25,11 @@ module _ (cheapest numbers plan : List ℕ) (s : ℕ) (step : Step) (decoded : s
   not-dearer most = rw (le-ltb (getD cheapest (stepAt plan s .job) 0) (getD numbers (stepAt plan s .interval) 0) (rw decoded at most))
 
 abbrev Inv-loop : tie.InvT-loop
-Inv-loop bands releases deadlines count times bounds plan numbers cheapest steps s₀ s =
+Inv-loop bands sets count bounds plan numbers cheapest steps s₀ s =
     (s ≤ steps) × ((k : ℕ) → k < s → cheaperFaultIn cheapest numbers plan k ≡ 0)
 
 abbrev μ-loop : tie.MeasureT-loop
-μ-loop bands releases deadlines count times bounds plan numbers cheapest steps s₀ s = steps - s
+μ-loop bands sets count bounds plan numbers cheapest steps s₀ s = steps - s
 
 cheapest-prices-requires : tie.Need-cheapest-prices-requires Inv-loop μ-loop
 cheapest-prices-requires c κs = (omega arith, omega arith)
@@ -64,8 +64,8 @@ mul-if1-2 c = omega (arith, inside c)
 element-copy-out-if1 : tie.Need-element-copy-out-if1 Inv-loop μ-loop
 element-copy-out-if1 c = omega (arith, inside c)
 
-cast-t25 : tie.Need-cast-t25 Inv-loop μ-loop
-cast-t25 c = omega arith
+cast-t23 : tie.Need-cast-t23 Inv-loop μ-loop
+cast-t23 c = omega arith
 
 returns : tie.Need-returns Inv-loop μ-loop
 returns c =
@@ -110,7 +110,7 @@ check-cheapest-spec =
     array-read-if1
     mul-if1-2
     element-copy-out-if1
-    cast-t25
+    cast-t23
     returns
     add-s
     loop-less

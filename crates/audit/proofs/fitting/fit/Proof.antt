@@ -22,8 +22,13 @@ unfit-requires c κs = search needs
 
 returns : tie.Need-returns
 returns c =
+    let start = c .before .before .before .before in
+    λ jobs jobs-counted tested.
     c .unfit .ensures
-    ∙ ap fittedOf (wrong-length-refused _ _ _ _ _ _ _ _ (sym (c .before .before .wrong-length .ensures) ∙ c .before .if1 .taken))
+    ∙ ap fittedOf
+    (wrong-length-refused
+    _ _ _ _ _ _ (start .pre .1) (start .pre .2 .few) jobs jobs-counted tested
+    (sym (c .before .before .wrong-length .ensures) ∙ c .before .if1 .taken))
 
 -- past the refusal 15 the plan has the right length, and past 16 the right number of intervals
 right : (c : tie.Else1) → wrongPlanLength (now (c .before .before .before .args .plan)) ≡ false
@@ -48,14 +53,19 @@ unfit-requires-2 c κs = search needs
 
 returns-2 : tie.Need-returns-2
 returns-2 c =
-    let counted = c .before .before .before in
+    let numbered = c .before .before .before in
+    let start = numbered .before .before .before .before in
+    λ jobs jobs-counted tested.
     c .unfit2 .ensures
     ∙ ap fittedOf
-    (wrong-intervals-refused _ _ _ _ _ _ _ _ (right (counted .before))
-    (λ e. c .before .if2 .taken (counted .number16 .ensures .0 ∙ e ∙ sym (c .before .before .interval-count .ensures))))
+    (wrong-intervals-refused
+    _ _ _ _ _ _ (start .pre .1) (start .pre .2 .few) jobs jobs-counted tested (right (numbered .before))
+    (λ e. c .before .if2 .taken (numbered .number16 .ensures .0 ∙ e ∙ sym (c .before .before .interval-count .ensures))))
 
 check-steps-requires : tie.Need-check-steps-requires
-check-steps-requires c κs = (omega arith, c .before .before .before .before .before .before .pre .2 .few, size (c .before .before .before))
+check-steps-requires c κs =
+    let counted = c .before .before .before .before in
+    (omega arith, counted .before .before .before .before .before .before .pre .2 .few, size (counted .before .before .before))
 
 enum-known-steps : tie.Need-enum-known-steps
 enum-known-steps c = search needs
@@ -66,18 +76,20 @@ unfit-requires-3 c κs = search needs
 returns-3 : tie.Need-returns-3
 returns-3 c =
     let steps = c .before .before .before .before in
-    let counted = steps .before in
+    let counted = steps .before .before .before .before .before in
+    let start = counted .before .before .before .before .before .before in
+    λ jobs jobs-counted tested.
     c .unfit3 .ensures
     ∙ ap fittedOf
     (steps-refused
-    _ _ _ _ _ _ _ _
+    _ _ _ _ _ _ (start .pre .1) (start .pre .2 .few) jobs jobs-counted tested
     (right (counted .before .before .before)) (intervals counted) _ (steps .check-steps .ensures) _ _ (c .before .before .steps .given .1))
 
 enum-told : tie.Need-enum-told
 enum-told c = search needs
 
 check-sums-requires : tie.Need-check-sums-requires
-check-sums-requires c κs = (omega arith, size (c .before .before .before .before .before .before))
+check-sums-requires c κs = omega arith
 
 enum-known-sums : tie.Need-enum-known-sums
 enum-known-sums c = search needs
@@ -90,14 +102,15 @@ returns-4 c =
     let summed = c .before .before .before .before in
     let sound = summed .before in
     let steps = sound .before .before in
-    let counted = steps .before in
+    let counted = steps .before .before .before .before .before in
     let start = counted .before .before .before .before .before .before in
+    λ jobs jobs-counted tested.
     c .unfit4 .ensures
     ∙ ap fittedOf
     (sums-refused
-    _ _ _ _ _ _ _ _
+    _ _ _ _ _ _ (start .pre .1) (start .pre .2 .few) jobs jobs-counted tested
     (right (counted .before .before .before)) (intervals counted) _ (steps .check-steps .ensures) (sound .enum-told .given .1)
-    (start .pre .1) _ (summed .check-sums .ensures) _ _ (c .before .before .sums .given .1))
+    _ (summed .check-sums .ensures) _ _ (c .before .before .sums .given .1))
 
 enum-told-2 : tie.Need-enum-told-2
 enum-told-2 c = search needs
@@ -106,12 +119,10 @@ interval-loads-requires : tie.Need-interval-loads-requires
 interval-loads-requires c κs =
     let sound = c .before .before .before in
     let steps = sound .before .before in
-    let counted = steps .before in (
+    let counted = steps .before .before .before .before .before in
+    let start = counted .before .before .before .before .before .before in (
       size (counted .before .before .before),
-      interval-inside
-          0 _ _ _ _ _ _ _
-          (right (counted .before .before .before)) (intervals counted) _ (steps .check-steps .ensures) (sound .enum-told .given .1)
-          (c .before .before .before .before .before .before .before .before .before .before .before .before .pre .2 .few),
+      interval-inside _ _ _ _ _ _ (steps .check-steps .ensures) (sound .enum-told .given .1) (start .pre .2 .few),
     )
 
 check-loads-requires : tie.Need-check-loads-requires
@@ -131,15 +142,16 @@ returns-5 c =
     let summed = whole .before .before in
     let sound = summed .before in
     let steps = sound .before .before in
-    let counted = steps .before in
+    let counted = steps .before .before .before .before .before in
     let start = counted .before .before .before .before .before .before in
+    λ jobs jobs-counted tested.
     c .unfit5 .ensures
     ∙ ap fittedOf
     (loads-refused
-    _ _ _ _ _ _ _ _
+    _ _ _ _ _ _ (start .pre .1) (start .pre .2 .few) jobs jobs-counted tested
     (right (counted .before .before .before)) (intervals counted) _ (steps .check-steps .ensures) (sound .enum-told .given .1)
-    (start .pre .1) _ (summed .check-sums .ensures) (whole .enum-told2 .given .1)
-    _ (added .interval-loads .ensures) _ (loaded .check-loads .ensures) (start .pre .2 .few) _ _ (c .before .before .loaded .given .1))
+    _ (summed .check-sums .ensures) (whole .enum-told2 .given .1)
+    _ (added .interval-loads .ensures) _ (loaded .check-loads .ensures) _ _ (c .before .before .loaded .given .1))
 
 enum-told-3 : tie.Need-enum-told-3
 enum-told-3 c = search needs
@@ -152,13 +164,14 @@ returns-6 c =
     let summed = whole .before .before in
     let sound = summed .before in
     let steps = sound .before .before in
-    let counted = steps .before in
+    let counted = steps .before .before .before .before .before in
     let start = counted .before .before .before .before .before .before in
+    λ jobs jobs-counted tested.
     plan-fits
-    _ _ _ _ _ _ _ _
+    _ _ _ _ _ _ (start .pre .1) (start .pre .2 .few) jobs jobs-counted tested
     (right (counted .before .before .before)) (intervals counted) _ (steps .check-steps .ensures) (sound .enum-told .given .1)
-    (start .pre .1) _ (summed .check-sums .ensures) (whole .enum-told2 .given .1)
-    _ (added .interval-loads .ensures) _ (loaded .check-loads .ensures) (start .pre .2 .few) (c .enum-told3 .given .1)
+    _ (summed .check-sums .ensures) (whole .enum-told2 .given .1)
+    _ (added .interval-loads .ensures) _ (loaded .check-loads .ensures) (c .enum-told3 .given .1)
 
 pub fit-spec : {M : Type 1} → statement M
 fit-spec =

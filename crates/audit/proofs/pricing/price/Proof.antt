@@ -24,10 +24,10 @@ wrong-price-length-requires c κs = search needs
 returns : tie.Need-returns
 returns c =
     let start = c .before .before .before .before .before in
-    λ cycles.
+    λ jobs jobs-counted opened.
     wrong-length-refused
-    _ _ _ _ cycles _ _ _ _ _
-    (start .pre .1 .0 .0) (start .pre .1 .0 .1) (start .pre .1 .1) _ (c .before .before .interval-count .ensures)
+    _ (now (start .args .sets)) _ _ _ _ _ _
+    (start .pre .1 .0 .0) (start .pre .1 .0 .1) (start .pre .1 .1) _ (c .before .before .interval-count .ensures) jobs
     (sym (c .before .wrong-price-length .ensures) ∙ c .if1 .taken)
 
 -- past the refusal 21 the price list has an entry for each interval
@@ -46,8 +46,8 @@ sized c =
     let small = start .pre .1 .0 .0 in (
       omega (arith, small .few),
       price-size
-          (a .working) _ (now (a .releases)) (now (a .deadlines)) [] _ _ _ _ (now (a .prices))
-          small (start .pre .1 .0 .1) (start .pre .1 .1) _ (c .before .before .interval-count .ensures) (right c),
+          (a .working) (now (a .sets)) _ _ _ _ _ (now (a .prices))
+          small (start .pre .1 .0 .1) (start .pre .1 .1) _ (c .before .before .interval-count .ensures) [] (right c),
     )
 
 price-numbers-requires : tie.Need-price-numbers-requires
@@ -70,10 +70,10 @@ returns-2 c =
     let filled = entered .before .before .before in
     let sound = filled .before in
     let start = sound .before .before .before .before .before in
-    λ cycles.
+    λ jobs jobs-counted opened.
     entries-refuse
-    _ _ _ _ cycles _ _ _ _ _
-    (start .pre .1 .0 .0) (start .pre .1 .0 .1) (start .pre .1 .1) _ (sound .before .before .interval-count .ensures) (right sound)
+    _ (now (start .args .sets)) _ _ _ _ _ _
+    (start .pre .1 .0 .0) (start .pre .1 .0 .1) (start .pre .1 .1) _ (sound .before .before .interval-count .ensures) jobs (right sound)
     _ (filled .price-numbers .ensures) _ (entered .check-entries .ensures) _ _ (c .before .entries .given .1)
 
 enum-told : tie.Need-enum-told
@@ -91,8 +91,8 @@ check-fits-requires c κs =
       (
         start .pre .1 .0 .0,
         band-numbers
-            (a .working) _ (now (a .releases)) (now (a .deadlines)) [] _ _ _ _ _
-            (start .pre .1 .0 .0) (start .pre .1 .0 .1) (start .pre .1 .1) _ (sound .before .before .interval-count .ensures) (right sound)
+            (a .working) (now (a .sets)) _ _ _ _ _ _
+            (start .pre .1 .0 .0) (start .pre .1 .0 .1) (start .pre .1 .1) _ (sound .before .before .interval-count .ensures) [] (right sound)
             _ (filled .price-numbers .ensures) _ (entered .check-entries .ensures) (numbered .enum-told .given .1),
       ),
     )
@@ -108,12 +108,12 @@ returns-3 c =
     let filled = entered .before .before .before in
     let sound = filled .before in
     let start = sound .before .before .before .before .before in
-    λ cycles.
+    λ jobs jobs-counted opened.
     fits-refuse
-    _ _ _ _ cycles _ _ _ _ _
-    (start .pre .1 .0 .0) (start .pre .1 .0 .1) (start .pre .1 .1) _ (sound .before .before .interval-count .ensures) (right sound)
+    _ _ _ _ _ _ _ _
+    (start .pre .1 .0 .0) (start .pre .1 .0 .1) (start .pre .1 .1) _ (sound .before .before .interval-count .ensures) jobs (right sound)
     _ (filled .price-numbers .ensures) _ (entered .check-entries .ensures) (numbered .enum-told .given .1)
-    _ (fits .check-fits .ensures) _ _ (c .before .fits2 .given .1)
+    jobs-counted opened _ (fits .check-fits .ensures) _ _ (c .before .fits2 .given .1)
 
 enum-told-2 : tie.Need-enum-told-2
 enum-told-2 c = search needs
@@ -134,12 +134,12 @@ returns-4 c =
     let filled = entered .before .before .before in
     let sound = filled .before in
     let start = sound .before .before .before .before .before in
-    λ cycles.
+    λ jobs jobs-counted opened.
     cheapest-decides
-    _ _ _ _ cycles _ _ _ _ _
-    (start .pre .1 .0 .0) (start .pre .1 .0 .1) (start .pre .1 .1) _ (sound .before .before .interval-count .ensures) (right sound)
+    _ _ _ _ _ _ _ _
+    (start .pre .1 .0 .0) (start .pre .1 .0 .1) (start .pre .1 .1) _ (sound .before .before .interval-count .ensures) jobs (right sound)
     _ (filled .price-numbers .ensures) _ (entered .check-entries .ensures) (numbered .enum-told .given .1)
-    _ (fits .check-fits .ensures) (passed .enum-told2 .given .1) _ (c .check-cheapest .ensures)
+    jobs-counted opened _ (fits .check-fits .ensures) (passed .enum-told2 .given .1) _ (c .check-cheapest .ensures)
 
 pub price-spec : {M : Type 1} → statement M
 price-spec =

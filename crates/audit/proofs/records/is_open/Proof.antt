@@ -1,7 +1,7 @@
--- `cells::is_open` meets its contract. Each way out rests on the test that led there. Assumes nothing.
+-- `records::is_open` meets its contract. Each way out rests on the test that led there. Assumes nothing.
 use borrow.Author.Tests.{le-leb, lt-leb}
-use Rattle.audit.proofs.cells.is_open.Statement.{statement}
-use Rattle.audit.proofs.cells.is_open.Tie as tie
+use Rattle.audit.proofs.records.is_open.Statement.{statement}
+use Rattle.audit.proofs.records.is_open.Tie as tie
 
 returns : tie.Need-returns
 returns c = rw (lt-leb _ _ (c .if1 .taken))

@@ -1,0 +1,172 @@
+-- Laws of what the check finds of the jobs: before the first record and after one more, that there is room for the next,
+-- and that the sets and the cycles found are those of the jobs.
+-- Assumes nothing.
+use mathlib.Core.Path.{_≡_, refl, sym, _∙_, ap}
+use mathlib.Core.Bool.{Bool, true, false, cond, _&&_}
+use mathlib.Core.Logic.{_⊎_, inl, inr}
+use mathlib.Core.List.{List}
+use Prim.Native.Nat.{ℕ, _+_, _-_, _^_, _<_, _≤_}
+use native.Mathlib.Omega.{arith}
+use lib.ListN.{length, getD, set, take, replicate, length-take, List·getD-eq-default}
+use lib.Seq.{ext-getD, getD-take}
+use lib.Pow.{pow-pos, pow-mono}
+use lib.Dec.{ltb, eqb}
+use borrow.Author.Tests.{lt-ltb, le-ltb}
+use Rattle.model.specs.declared.Job.{Job}
+use Rattle.model.specs.Limits.{maxIntervals, maxJobs}
+use Rattle.model.specs.Entries.{listOf}
+use Rattle.model.specs.Sum.{sum, onlyIf}
+use Rattle.model.specs.Jobs.{noJob, jobOf}
+use Rattle.model.proofs.Numbers.{lt-or-le}
+use Rattle.model.proofs.Entries.{getD-listOf, listOf-cong, listOf-getD}
+use Rattle.model.proofs.Sum.{sum-next}
+use Rattle.model.proofs.OpenSets.{bits-below, bits-at}
+use Rattle.tables.specs.Column.{columnOf}
+use Rattle.tables.specs.Tables.{jobsIn}
+use Rattle.tables.proofs.Column.{length-column, column-at, column-past, column-none, column-more}
+use Rattle.tables.proofs.Read.{length-jobsIn, job-in}
+use Rattle.audit.specs.declared.records.JobTests.{JobTests}
+use Rattle.audit.specs.TestedJobs.{setOf, hasJob, isMarked, openBetween, openSetsBelow, addsUp, testsBelow, noTests, SmallTests, withOpen, withJob}
+use Rattle.audit.proofs.Arrays.{zeros-hold, store-holds}
+
+bit-is-one : (t : Bool) → eqb (onlyIf t 1) 1 ≡ t
+bit-is-one true = refl
+bit-is-one false = refl
+
+-- the set of the jobs that pass a test has those and no others
+pub set-has : (test : ℕ → Bool) (count j : ℕ) → j < count → hasJob (setOf count test) j ≡ test j
+set-has test count j below = rw (bits-at test count j below) (bit-is-one (test j))
+
+-- a set of jobs below j has room for job j
+pub bit-room : (j set bit : ℕ) → j < maxJobs → set < 2 ^ j → bit ≤ 2 ^ j → set + bit < 2 ^ 64
+bit-room j set bit below small high = omega (arith, pow-mono {i = j} {j = 63} (omega arith))
+
+-- findings that agree part by part
+abbrev made : List ℕ → ℕ → List ℕ → JobTests
+made sets summed cycles = record { sets = sets; summed = summed; cycles = cycles }
+
+pub same-tests : {a a′ : List ℕ} {b b′ : ℕ} {c c′ : List ℕ} → a ≡ a′ → b ≡ b′ → c ≡ c′ → made a b c ≡ made a′ b′ c′
+same-tests p q r = λ i. made (p i) (q i) (r i)
+
+-- the first records of a whole array are the jobs that the arrays have
+pub first-records : (count : ℕ) (releases deadlines cycles : List ℕ) → count ≤ maxJobs
+    → take count (jobsIn maxJobs releases deadlines cycles) ≡ jobsIn count releases deadlines cycles
+first-records count releases deadlines cycles few =
+    let all : ℕ = length (jobsIn maxJobs releases deadlines cycles) in
+    let full : all ≡ maxJobs = length-jobsIn maxJobs releases deadlines cycles in
+    let size : length (take count (jobsIn maxJobs releases deadlines cycles)) ≡ count = length-take count _ ∙ omega (arith, full) in
+    ext-getD noJob _ _ (size ∙ sym (length-jobsIn count releases deadlines cycles))
+    (λ j below. let inside : j < count = omega (arith, size) in
+    getD-take count _ j noJob inside
+    ∙ job-in maxJobs releases deadlines cycles j (omega arith)
+    ∙ sym (job-in count releases deadlines cycles j inside))
+
+-- One set after another, as the code fills them.
+module _ (sets : List ℕ) (j release deadline : ℕ) (times : List ℕ) where
+  abbrev added : (intervals i : ℕ) → ℕ
+  added intervals i = getD sets i 0 + onlyIf (ltb i intervals && openBetween release deadline times i) (2 ^ j)
+
+  pub open-none : length sets ≡ maxIntervals → sets ≡ withOpen sets j release deadline times 0
+  unfolding withOpen
+  open-none size =
+      sym (listOf-getD sets 0)
+      ∙ ap (λ (n : ℕ). listOf n (λ i. getD sets i 0)) size
+      ∙ listOf-cong maxIntervals _ (added 0) (λ i inside. rw (le-ltb i 0 (omega arith)) (omega arith))
+
+  -- the set of an interval that comes later is as it was
+  pub open-later : (i : ℕ) → i < maxIntervals → getD (withOpen sets j release deadline times i) i 0 ≡ getD sets i 0
+  unfolding withOpen
+  open-later i inside = getD-listOf maxIntervals (added i) i 0 inside ∙ rw (le-ltb i i (omega arith)) (omega arith)
+
+  pub open-more : (next : List ℕ) (i bit : ℕ) → i < maxIntervals → next ≡ withOpen sets j release deadline times i
+      → bit ≡ onlyIf (openBetween release deadline times i) (2 ^ j)
+      → set next i (getD next i 0 + bit) ≡ withOpen sets j release deadline times (i + 1)
+  unfolding withOpen
+  open-more next i bit inside filled is-bit =
+      rw (filled, is-bit)
+      (store-holds maxIntervals (added i) (added (i + 1)) i _ inside
+      (rw (getD-listOf maxIntervals (added i) i 0 inside, le-ltb i i (omega arith), lt-ltb i (i + 1) (omega arith)) (omega arith))
+      (λ k within other. kept k (lt-or-le k i) other))
+    where
+      kept : (k : ℕ) → (k < i) ⊎ (i ≤ k) → (k ≡ i → ⊥) → added (i + 1) k ≡ added i k
+      kept k (inl before) other = rw (lt-ltb k i before, lt-ltb k (i + 1) (omega arith))
+      kept k (inr after) other = let past : i < k = omega arith in rw (le-ltb k i after, le-ltb k (i + 1) (omega arith))
+
+module _ (jobs : List Job) (times : List ℕ) (bounds : ℕ) where
+  abbrev opened : (i j : ℕ) → Bool
+  opened i j = openBetween (jobOf jobs j .release) (jobOf jobs j .deadline) times i
+
+  open-set : (count i : ℕ) → i < bounds - 1 → i < maxIntervals → getD (openSetsBelow jobs count times bounds) i 0 ≡ setOf count (opened i)
+  unfolding openSetsBelow
+  open-set count i below inside = column-at maxIntervals (λ i. setOf count (opened i)) (bounds - 1) i inside below
+
+  no-set : (count i : ℕ) → bounds - 1 ≤ i → i < maxIntervals → getD (openSetsBelow jobs count times bounds) i 0 ≡ 0
+  unfolding openSetsBelow
+  no-set count i past inside = column-past maxIntervals (λ i. setOf count (opened i)) (bounds - 1) i inside past
+
+  sets-length : (count : ℕ) → length (openSetsBelow jobs count times bounds) ≡ maxIntervals
+  unfolding openSetsBelow
+  sets-length count = length-column maxIntervals (λ i. setOf count (opened i)) (bounds - 1)
+
+  -- a job is in the set of an interval exactly when it is open there
+  pub open-has : (count i j : ℕ) → i < bounds - 1 → i < maxIntervals → j < count
+      → isMarked (openSetsBelow jobs count times bounds) i j ≡ opened i j
+  open-has count i j below inside job = rw (open-set count i below inside) (set-has (opened i) count j job)
+
+  sets-none : replicate maxIntervals 0 ≡ openSetsBelow jobs 0 times bounds
+  unfolding openSetsBelow columnOf sum
+  sets-none = zeros-hold maxIntervals _ (λ i inside. either (ltb i (bounds - 1)))
+    where
+      either : (t : Bool) → _≡_ {A = ℕ} (cond t 0 0) 0
+      either true = refl
+      either false = refl
+
+  set-small : (j i : ℕ) → getD (openSetsBelow jobs j times bounds) i 0 < 2 ^ j
+  set-small j i = go (lt-or-le i maxIntervals) (lt-or-le i (bounds - 1))
+    where
+      go : (i < maxIntervals) ⊎ (maxIntervals ≤ i) → (i < bounds - 1) ⊎ (bounds - 1 ≤ i) → getD (openSetsBelow jobs j times bounds) i 0 < 2 ^ j
+      go (inl inside) (inl below) = rw (open-set j i below inside) (bits-below (opened i) j)
+      go (inl inside) (inr past) = rw (no-set j i past inside) (pow-pos j)
+      go (inr outside) either =
+          rw (List·getD-eq-default (openSetsBelow jobs j times bounds) 0 {n = i} (rw (sets-length j) outside)) (pow-pos j)
+
+  sets-more : (j : ℕ)
+      → withOpen (openSetsBelow jobs j times bounds) j (jobOf jobs j .release) (jobOf jobs j .deadline) times (bounds - 1)
+      ≡ openSetsBelow jobs (j + 1) times bounds
+  unfolding withOpen openSetsBelow columnOf
+  sets-more j = listOf-cong maxIntervals _ _ (λ i inside. at i inside (lt-or-le i (bounds - 1)))
+    where
+      at : (i : ℕ) → i < maxIntervals → (i < bounds - 1) ⊎ (bounds - 1 ≤ i)
+          → getD (openSetsBelow jobs j times bounds) i 0 + onlyIf (ltb i (bounds - 1) && opened i j) (2 ^ j)
+          ≡ cond (ltb i (bounds - 1)) (setOf (j + 1) (opened i)) 0
+      at i inside (inl below) = rw (open-set j i below inside, lt-ltb i (bounds - 1) below, sum-next)
+      at i inside (inr past) = rw (no-set j i past inside, le-ltb i (bounds - 1) past)
+
+  module _ (sums : List ℕ) where
+    pub tests-none : noTests ≡ testsBelow jobs 0 times bounds sums
+    unfolding testsBelow sum
+    tests-none = same-tests sets-none refl (column-none maxJobs (λ j. jobOf jobs j .cycles))
+
+    pub tests-small : (j : ℕ) → SmallTests j (testsBelow jobs j times bounds sums)
+    unfolding testsBelow
+    tests-small j = record { small-sets = record { size = sets-length j; small = set-small j }; small-summed = bits-below (addsUp jobs sums) j }
+
+    pub tests-more : (j : ℕ) → j < maxJobs
+        → withJob (testsBelow jobs j times bounds sums) j (jobOf jobs j) times bounds sums ≡ testsBelow jobs (j + 1) times bounds sums
+    unfolding testsBelow withJob
+    tests-more j inside =
+        same-tests (sets-more j) (sym (sum-next j (λ k. onlyIf (addsUp jobs sums k) (2 ^ k))))
+        (column-more maxJobs (λ k. jobOf jobs k .cycles) (columnOf maxJobs j (λ k. jobOf jobs k .cycles)) j (jobOf jobs j .cycles) inside refl refl)
+
+    -- what was found of the jobs, part by part
+    pub sets-found : (count : ℕ) → testsBelow jobs count times bounds sums .sets ≡ openSetsBelow jobs count times bounds
+    unfolding testsBelow
+    sets-found count = refl
+
+    pub summed-found : (count j : ℕ) → j < count → hasJob (testsBelow jobs count times bounds sums .summed) j ≡ addsUp jobs sums j
+    unfolding testsBelow
+    summed-found count j below = set-has (addsUp jobs sums) count j below
+
+    pub cycles-found : (count j : ℕ) → j < count → j < maxJobs → getD (testsBelow jobs count times bounds sums .cycles) j 0 ≡ jobOf jobs j .cycles
+    unfolding testsBelow
+    cycles-found count j below inside = column-at maxJobs (λ k. jobOf jobs k .cycles) count j inside below

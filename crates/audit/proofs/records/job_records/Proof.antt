@@ -1,0 +1,115 @@
+-- `records::job_records` meets its contract. The loop's invariant: the records passed are those of the arrays. Assumes nothing.
+use mathlib.Core.Path.{_≡_, sym, _∙_}
+use mathlib.Core.List.{List}
+use Prim.Native.Nat.{ℕ, _+_, _-_, _<_, _≤_}
+use native.Mathlib.Decide.{ℕ-discrete}
+use native.Mathlib.Omega.{arith}
+use lib.ListN.{length, getD, set, length-set, length-replicate}
+use lib.Seq.{ext-getD, getD-set-same, getD-set-other}
+use denote.Ref.{now}
+use borrow.Author.Count.{below-none}
+use Rattle.model.specs.declared.Job.{Job}
+use Rattle.model.specs.Limits.{maxJobs}
+use Rattle.model.specs.Jobs.{noJob, jobOf}
+use Rattle.model.proofs.Entries.{length-listOf, getD-listOf}
+use Rattle.tables.specs.Tables.{jobsIn}
+use Rattle.audit.proofs.records.job_records.Statement.{statement}
+use Rattle.audit.proofs.records.job_records.Tie as tie
+
+module _ (releases deadlines cycles : List ℕ) where
+  abbrev entry : ℕ → Job
+  entry k = record { release = getD releases k 0; deadline = getD deadlines k 0; cycles = getD cycles k 0 }
+
+  abbrev Filled : ℕ → List Job → Type 0
+  Filled j jobs = (k : ℕ) → k < j → jobOf jobs k ≡ entry k
+
+  filled-more : (jobs : List Job) (j : ℕ) → length jobs ≡ maxJobs → j < maxJobs → Filled j jobs → Filled (j + 1) (set jobs j (entry j))
+  filled-more jobs j size inside before k below = at (ℕ-discrete k j)
+    where
+      at : Dec (k ≡ j) → jobOf (set jobs j (entry j)) k ≡ entry k
+      at (yes same) = rw same (getD-set-same jobs j (entry j) noJob (omega (arith, size)))
+      at (no other) = getD-set-other jobs j k (entry j) noJob other ∙ before k (omega arith)
+
+  filled-all : (jobs : List Job) (j : ℕ) → length jobs ≡ maxJobs → maxJobs ≤ j → Filled j jobs → jobs ≡ jobsIn maxJobs releases deadlines cycles
+  unfolding jobsIn
+  filled-all jobs j size past before =
+      ext-getD noJob _ _ (size ∙ sym (length-listOf maxJobs entry))
+      (λ k below. let inside : k < maxJobs = omega (arith, size) in before k (omega arith) ∙ sym (getD-listOf maxJobs entry k noJob inside))
+
+abbrev Inv-loop : tie.InvT-loop
+Inv-loop releases deadlines cycles jobs₀ j₀ jobs j = (j ≤ maxJobs) × (length jobs ≡ maxJobs) × Filled releases deadlines cycles j jobs
+
+abbrev μ-loop : tie.MeasureT-loop
+μ-loop releases deadlines cycles jobs₀ j₀ jobs j = maxJobs - j
+
+loop-holds : tie.Need-loop-holds Inv-loop μ-loop
+loop-holds c = (omega arith, length-replicate maxJobs noJob, below-none _)
+
+mul-t8 : tie.Need-mul-t8 Inv-loop μ-loop
+mul-t8 c = omega arith
+
+element-copy-out-t11 : tie.Need-element-copy-out-t11 Inv-loop μ-loop
+element-copy-out-t11 c = omega arith
+
+mul-t12 : tie.Need-mul-t12 Inv-loop μ-loop
+mul-t12 c = omega arith
+
+element-copy-out-t15 : tie.Need-element-copy-out-t15 Inv-loop μ-loop
+element-copy-out-t15 c = omega arith
+
+mul-t16 : tie.Need-mul-t16 Inv-loop μ-loop
+mul-t16 c = omega arith
+
+element-copy-out-t19 : tie.Need-element-copy-out-t19 Inv-loop μ-loop
+element-copy-out-t19 c = omega arith
+
+mul-jobs : tie.Need-mul-jobs Inv-loop μ-loop
+mul-jobs c = omega arith
+
+array-set-from-jobs : tie.Need-array-set-from-jobs Inv-loop μ-loop
+array-set-from-jobs c = omega arith
+
+add-j : tie.Need-add-j Inv-loop μ-loop
+add-j c = omega arith
+
+loop-less : tie.Need-loop-less Inv-loop μ-loop
+loop-less c = omega arith
+
+loop-again : tie.Need-loop-again Inv-loop μ-loop
+loop-again c =
+    let turn = c .before .before .before .before in
+    let a = turn .before .args in
+    let inv = turn .loop .inv in
+    let jobs : List Job = turn .loop .jobs in
+    let next : Job = entry (now (a .releases)) (now (a .deadlines)) (now (a .cycles)) (turn .loop .j) in (
+      omega arith,
+      length-set jobs (turn .loop .j) next ∙ inv .1,
+      filled-more (now (a .releases)) (now (a .deadlines)) (now (a .cycles)) jobs (turn .loop .j) (inv .1) (omega arith) (inv .2),
+    )
+
+returns : tie.Need-returns Inv-loop μ-loop
+returns c =
+    let turn = c .before in
+    let a = turn .before .args in
+    filled-all (now (a .releases)) (now (a .deadlines)) (now (a .cycles)) (turn .loop .jobs) (turn .loop .j)
+    (turn .loop .inv .1) (omega arith) (turn .loop .inv .2)
+
+pub job-records-spec : {M : Type 1} → statement M
+job-records-spec =
+    tie.close
+    (tie.spec
+    Inv-loop
+    μ-loop
+    loop-holds
+    mul-t8
+    element-copy-out-t11
+    mul-t12
+    element-copy-out-t15
+    mul-t16
+    element-copy-out-t19
+    mul-jobs
+    array-set-from-jobs
+    add-j
+    loop-less
+    loop-again
+    returns)
