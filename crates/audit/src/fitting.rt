@@ -23,6 +23,7 @@ use model::MAX_BOUNDS;
 use model::MAX_INTERVALS;
 use model::MAX_JOBS;
 use tables::number16;
+use windows::interval_count;
 
 // The answer of the first half, with the loads of the intervals beside it: zeros past the last interval, and zeros
 // alone where the plan is refused.
@@ -77,13 +78,6 @@ fn unfit(number: u32, place: u32) -> Fitted
         verdict: Verdict::Refused { number, place },
         loads: [0; MAX_INTERVALS],
     }
-}
-
-// Neighbouring bounds have an interval between them.
-pub(crate) fn interval_count(bounds: usize) -> usize
-    ensures { λ r. ⌜ r ≡ bounds - 1 ⌝ }
-{
-    if bounds == 0 { 0 } else { bounds - 1 }
 }
 
 // Goes through the jobs one after another: refusal 19, over the set of the jobs whose steps add to their cycles.
