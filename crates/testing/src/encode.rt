@@ -40,7 +40,7 @@ pub fn encode(bytes: &mut [u8], width: usize, line: &[u8], place: usize) -> Enco
 }
 
 // Puts a number at a place in so many bytes, and answers the place after them.
-fn put(bytes: &mut [u8], place: usize, width: usize, number: u32) -> usize
+pub fn put(bytes: &mut [u8], place: usize, width: usize, number: u32) -> usize
     requires { ⌜ place ≤ length (now bytes) ⌝ }
     ensures { λ r. ⌜ r ≤ length (now (bytes .exit)) ⌝ }
 {
