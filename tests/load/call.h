@@ -1,0 +1,25 @@
+/* What the comparisons share: lending tables, saying what differs, counting. */
+#ifndef CALL_H
+#define CALL_H
+
+#include "compare.h"
+#include "guarded.h"
+
+enum { LEVELS, JOBS, PLAN, PRICES, TABLES };
+
+/* Maps the room that tables are lent from. */
+void call_start(void);
+
+void call_begin(void);
+/* Lends a copy of the table, read only, at either end of its room. */
+struct paper_bytes call_lend(struct numbers *numbers, unsigned which, const struct table *table);
+/* Whether everything looked at since the beginning was right. */
+bool call_agrees(void);
+/* Counts a call and the number it answered. */
+void call_count(uint32_t number);
+/* Prints the tables where something was not right. */
+void call_report(const char *operation);
+/* Counts the call and reports it. */
+void call_end(const char *operation, uint32_t number);
+
+#endif

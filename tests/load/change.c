@@ -1,0 +1,166 @@
+#include "change.h"
+
+static unsigned any_step(struct numbers *numbers, const struct plan *plan)
+{
+    return (unsigned)below(numbers, plan->steps);
+}
+
+static void remove_step(struct plan *plan, unsigned s)
+{
+    plan->steps--;
+    plan->cell[s] = plan->cell[plan->steps];
+    plan->cycles[s] = plan->cycles[plan->steps];
+}
+
+/* Another interval, another job, another step's cell, a job or interval that the site does not have, any cell. */
+static void change_cell(struct numbers *numbers, const struct paper_site *site, struct plan *plan)
+{
+    unsigned s = any_step(numbers, plan), other = any_step(numbers, plan), cell = plan->cell[s], n = site->intervals.count;
+    plan->cell[s] = (uint16_t)ONE_OF(numbers, cell + 64, cell - 64, cell + 1, cell - 1, plan->cell[other],
+        cell / 64 * 64 + site->jobs.count, n * 64 + cell % 64, any_number(numbers));
+}
+
+static void change_cycles(struct numbers *numbers, const struct paper_site *site, struct plan *plan)
+{
+    unsigned s = any_step(numbers, plan);
+    uint64_t cycles = plan->cycles[s], whole = site->jobs.cycles[plan->cell[s] % 64];
+    plan->cycles[s] = (uint32_t)ONE_OF(numbers, 0, cycles + 1, cycles - 1, whole, whole + 1, UINT32_MAX, any_number(numbers));
+}
+
+static void swap_steps(struct numbers *numbers, struct plan *plan, bool cells, bool cycles)
+{
+    unsigned a = any_step(numbers, plan), b = any_step(numbers, plan);
+    uint16_t cell = plan->cell[a];
+    uint32_t number = plan->cycles[a];
+    if (cells) {
+        plan->cell[a] = plan->cell[b];
+        plan->cell[b] = cell;
+    }
+    if (cycles) {
+        plan->cycles[a] = plan->cycles[b];
+        plan->cycles[b] = number;
+    }
+}
+
+/* The step of this cell, or the number of steps. */
+static unsigned find(const struct plan *plan, unsigned cell)
+{
+    unsigned s = 0;
+    while (s < plan->steps && plan->cell[s] != cell)
+        s++;
+    return s;
+}
+
+/* Moves cycles of a step to another interval where its job is open. The job's sum stays. */
+static void move_cycles(struct numbers *numbers, const struct paper_site *site, struct plan *plan)
+{
+    unsigned s = any_step(numbers, plan), job = plan->cell[s] % 64;
+    if (site->intervals.count == 0 || plan->cycles[s] == 0)
+        return;
+    unsigned to = (unsigned)below(numbers, site->intervals.count);
+    uint64_t part = one_in(numbers, 2) ? plan->cycles[s] : between(numbers, 1, plan->cycles[s]);
+    if (!paper_open(&site->intervals, to, job) || to == plan->cell[s] / 64u)
+        return;
+    unsigned target = find(plan, to * 64 + job);
+    plan->cycles[s] -= (uint32_t)part;
+    if (target < plan->steps)
+        plan->cycles[target] += (uint32_t)part;
+    else
+        plan_add_step(plan, to, job, part);
+    if (plan->cycles[s] == 0)
+        remove_step(plan, s);
+}
+
+/* Exchanges cycles between two intervals where two jobs have steps, so that all loads and sums stay. */
+static void exchange_cycles(struct numbers *numbers, const struct paper_site *site, struct plan *plan)
+{
+    unsigned a = any_step(numbers, plan), b = any_step(numbers, plan);
+    unsigned a_job = plan->cell[a] % 64, b_job = plan->cell[b] % 64, a_at = plan->cell[a] / 64, b_at = plan->cell[b] / 64;
+    uint32_t part = plan->cycles[a] < plan->cycles[b] ? plan->cycles[a] : plan->cycles[b];
+    bool apart = a_job != b_job && a_at != b_at;
+    if (!apart || !paper_open(&site->intervals, b_at, a_job) || !paper_open(&site->intervals, a_at, b_job))
+        return;
+    unsigned to_b = find(plan, b_at * 64 + a_job), to_a = find(plan, a_at * 64 + b_job);
+    if (to_a == plan->steps || to_b == plan->steps || part < 2)
+        return;
+    part = (uint32_t)between(numbers, 1, part - 1);
+    plan->cycles[a] -= part;
+    plan->cycles[to_b] += part;
+    plan->cycles[b] -= part;
+    plan->cycles[to_a] += part;
+}
+
+/* Puts the same step at the end again: once, or as often as a step count can say. */
+static void repeat_step(struct numbers *numbers, struct plan *plan)
+{
+    unsigned s = any_step(numbers, plan), times = one_in(numbers, 64) ? 65535 : 1;
+    while (times-- > 0)
+        plan_add_step(plan, plan->cell[s] / 64, plan->cell[s] % 64, plan->cycles[s]);
+}
+
+/* One more, one less, the same in the low byte, or any number. */
+static void change_intervals(struct numbers *numbers, struct plan *plan)
+{
+    uint64_t n = plan->intervals;
+    plan->intervals = (uint16_t)ONE_OF(numbers, n + 1, n - 1, n + 256, 0, PAPER_INTERVALS, any_number(numbers));
+}
+
+static void change_step(struct numbers *numbers, const struct paper_site *site, struct plan *plan)
+{
+    switch (below(numbers, 10)) {
+    case 0:
+        change_cell(numbers, site, plan);
+        break;
+    case 1:
+        change_cycles(numbers, site, plan);
+        break;
+    case 2:
+        swap_steps(numbers, plan, true, true);
+        break;
+    case 3:
+        swap_steps(numbers, plan, true, false);
+        break;
+    case 4:
+        exchange_cycles(numbers, site, plan);
+        break;
+    case 5:
+        change_intervals(numbers, plan);
+        break;
+    case 6:
+        remove_step(plan, any_step(numbers, plan));
+        break;
+    case 7:
+        repeat_step(numbers, plan);
+        break;
+    default:
+        move_cycles(numbers, site, plan);
+    }
+}
+
+/* A plan without steps gets one. */
+void change_plan(struct numbers *numbers, const struct paper_site *site, struct plan *plan)
+{
+    if (plan->steps > 0)
+        change_step(numbers, site, plan);
+    else
+        plan_add_step(plan, 0, (unsigned)below(numbers, 2), 1);
+}
+
+void change_prices(struct numbers *numbers, const struct paper_site *site, struct prices *prices)
+{
+    if (prices->intervals == 0)
+        return;
+    unsigned i = (unsigned)below(numbers, prices->intervals), other = (unsigned)below(numbers, prices->intervals);
+    uint64_t end = prices->end[i], price = prices->price[i], m = site->points.m;
+    switch (below(numbers, 4)) {
+    case 0:
+        prices->end[i] = (uint32_t)ONE_OF(numbers, end + 1, end - 1, 0, prices->end[other], UINT32_MAX, any_number(numbers));
+        break;
+    case 1:
+        prices->price[i] = prices->price[other];
+        prices->price[other] = (uint8_t)price;
+        break;
+    default:
+        prices->price[i] = (uint8_t)ONE_OF(numbers, price + 1, price + 1, price - 1, 0, 1, m, m + 1, 255);
+    }
+}

@@ -1,0 +1,49 @@
+#include "compare.h"
+
+#include <inttypes.h>
+#include <stdio.h>
+
+#include "call.h"
+
+void compare_setting(struct numbers *numbers, const struct table *levels, uint32_t length, uint64_t load)
+{
+    call_begin();
+    struct paper_bytes l = call_lend(numbers, LEVELS, levels);
+    struct ramyearly_setting_answer found = ramyearly_setting(l.at, l.length, length, load), wanted = paper_setting(l, length, load);
+    same("number", found.number, wanted.number);
+    same("place", found.place, wanted.place);
+    same("band", found.band, wanted.band);
+    same("gap", found.gap, wanted.gap);
+    same("extra", (int64_t)found.extra, (int64_t)wanted.extra);
+    if (!call_agrees())
+        printf("  length %" PRIu32 ", load %" PRIu64 "\n", length, load);
+    call_end("the setting", found.number);
+}
+
+void compare_spare(struct numbers *numbers, const struct table *levels, const struct table *jobs, uint32_t start, uint32_t end)
+{
+    call_begin();
+    struct paper_bytes l = call_lend(numbers, LEVELS, levels), j = call_lend(numbers, JOBS, jobs);
+    struct ramyearly_spare_answer found = ramyearly_spare(l.at, l.length, j.at, j.length, start, end);
+    struct ramyearly_spare_answer wanted = paper_spare(l, j, start, end);
+    same("number", found.number, wanted.number);
+    same("place", found.place, wanted.place);
+    same("spare", found.spare, wanted.spare);
+    if (!call_agrees())
+        printf("  start %" PRIu32 ", end %" PRIu32 "\n", start, end);
+    call_end("the spare", found.number);
+}
+
+void compare_check(struct numbers *numbers, const struct table *levels, const struct table *jobs, const struct table *plan, const struct table *prices)
+{
+    call_begin();
+    struct paper_bytes l = call_lend(numbers, LEVELS, levels), j = call_lend(numbers, JOBS, jobs);
+    struct paper_bytes p = call_lend(numbers, PLAN, plan), r = call_lend(numbers, PRICES, prices);
+    struct ramyearly_check_answer found = ramyearly_check(l.at, l.length, j.at, j.length, p.at, p.length, r.at, r.length);
+    struct ramyearly_check_answer wanted = paper_check(l, j, p, r);
+    same("number", found.number, wanted.number);
+    same("place", found.place, wanted.place);
+    same("energy", (int64_t)found.energy, (int64_t)wanted.energy);
+    tally->accepted += found.number == 0;
+    call_end("the check", found.number);
+}

@@ -1,0 +1,40 @@
+/* One call of the archive, held against the paper. Every field of the answer must agree, and every byte that was lent. */
+#ifndef COMPARE_H
+#define COMPARE_H
+
+#include "numbers.h"
+#include "table.h"
+
+enum { REFUSALS = 27 };
+
+/* What was counted. by_number[0] counts the answers. */
+struct tally {
+    uint64_t calls, plans, accepted, disagreements, by_number[REFUSALS + 1];
+};
+
+/* Calls are counted here. */
+extern struct tally *tally;
+/* Called after a disagreement was printed. */
+extern void (*on_disagreement)(void);
+
+/* Maps the memory that is lent. Once, before all calls. */
+void compare_start(void);
+
+void compare_setting(struct numbers *numbers, const struct table *levels, uint32_t length, uint64_t load);
+void compare_spare(struct numbers *numbers, const struct table *levels, const struct table *jobs, uint32_t start, uint32_t end);
+void compare_check(struct numbers *numbers, const struct table *levels, const struct table *jobs, const struct table *plan, const struct table *prices);
+
+/* What planning is lent: bytes, bytes, and 32-bit numbers. */
+struct buffer_lengths {
+    size_t plan, prices, shares;
+};
+
+/* Answers whether a plan came out. Then it stands in the two tables; it was judged by both checks, its shares and prices were
+ * looked at. */
+bool compare_plan(struct numbers *numbers, const struct table *levels, const struct table *jobs, struct buffer_lengths lengths,
+    struct table *plan, struct table *prices);
+
+/* Says it when a number is not the right one. */
+void same(const char *what, int64_t found, int64_t wanted);
+
+#endif

@@ -1,0 +1,135 @@
+#include <stdio.h>
+
+#include "call.h"
+
+static struct guarded plan_buffer, prices_buffer, shares_buffer;
+
+void compare_start(void)
+{
+    call_start();
+    plan_buffer = guarded_buffer(TABLE_ROOM);
+    prices_buffer = guarded_buffer(TABLE_ROOM);
+    shares_buffer = guarded_buffer(TABLE_ROOM);
+}
+
+/* The three buffers of one call of planning, marked before it. */
+struct buffers {
+    struct part plan, prices, shares;
+    uint8_t mark;
+};
+
+static struct buffers mark_buffers(struct numbers *numbers, struct buffer_lengths lengths)
+{
+    uint8_t choice = any_byte(numbers);
+    struct buffers buffers = {
+        guarded_part(&plan_buffer, lengths.plan, choice & 1),
+        guarded_part(&prices_buffer, lengths.prices, choice & 2),
+        guarded_part(&shares_buffer, lengths.shares * sizeof(uint32_t), choice & 4),
+        choice
+    };
+    guarded_mark(&plan_buffer, buffers.plan, buffers.mark);
+    guarded_mark(&prices_buffer, buffers.prices, buffers.mark);
+    guarded_mark(&shares_buffer, buffers.shares, buffers.mark);
+    return buffers;
+}
+
+/* Past what was written, and beside the buffers, nothing has changed. */
+static void rest_stays(const struct buffers *buffers, size_t plan, size_t prices, size_t shares)
+{
+    same("the plan buffer's rest stays", guarded_marked_from(&plan_buffer, buffers->plan, plan, buffers->mark), 1);
+    same("the price buffer's rest stays", guarded_marked_from(&prices_buffer, buffers->prices, prices, buffers->mark), 1);
+    same("the shares' rest stays", guarded_marked_from(&shares_buffer, buffers->shares, shares * sizeof(uint32_t), buffers->mark), 1);
+}
+
+/* The shares are the plan's cycles, and 0 where it has no step. */
+static void shares_match(const struct paper_site *site, struct paper_bytes plan, const uint32_t *shares)
+{
+    static uint32_t wanted[PAPER_INTERVALS * PAPER_JOBS];
+    unsigned n = site->jobs.count, count = site->intervals.count * n, steps = paper_number(plan, 2, 2);
+    for (unsigned i = 0; i < count; i++)
+        wanted[i] = 0;
+    for (unsigned s = 0; s < steps; s++) {
+        unsigned cell = paper_number(plan, 4 + 2 * s, 2);
+        wanted[cell / 64 * n + cell % 64] = paper_number(plan, 4 + 2 * steps + 4 * s, 4);
+    }
+    for (unsigned i = 0; i < count; i++)
+        if (shares[i] != wanted[i])
+            same("a share", shares[i], wanted[i]);
+}
+
+static void smallest_prices(const struct paper_site *site, struct paper_bytes plan, struct paper_bytes prices)
+{
+    uint8_t price[PAPER_INTERVALS];
+    unsigned n = site->intervals.count;
+    paper_smallest_prices(site, plan, price);
+    for (unsigned i = 0; i < n; i++)
+        same("a price, smallest", prices.at[2 + 4 * n + i], price[i]);
+}
+
+static void keep(struct table *table, struct paper_bytes bytes)
+{
+    table->length = bytes.length;
+    for (size_t i = 0; i < bytes.length; i++)
+        table->at[i] = bytes.at[i];
+}
+
+/* A plan came out. Its numbers are looked at first, so that nothing is read past what was written. */
+static void judge_plan(const struct buffers *buffers, struct paper_bytes l, struct paper_bytes j, struct ramyearly_plan_answer found,
+    struct table *plan, struct table *prices)
+{
+    struct paper_site site;
+    paper_read_site(l, j, &site);
+    same("no more steps than open pairs", found.steps <= paper_pairs(&site.intervals), 1);
+    if (!call_agrees())
+        return;
+    struct paper_bytes p = { plan_buffer.lent + buffers->plan.start, 4 + 6 * (size_t)found.steps };
+    struct paper_bytes r = { prices_buffer.lent + buffers->prices.start, 2 + 5 * (size_t)found.intervals };
+    const uint32_t *shares = (const uint32_t *)(const void *)(shares_buffer.lent + buffers->shares.start);
+    rest_stays(buffers, p.length, r.length, (size_t)site.jobs.count * found.intervals);
+    struct ramyearly_check_answer by_paper = paper_check(l, j, p, r);
+    same("the paper's check of the plan: number", by_paper.number, 0);
+    same("the paper's check of the plan: place", by_paper.place, 0);
+    same("the paper's check of the plan: energy", (int64_t)by_paper.energy, (int64_t)found.energy);
+    struct ramyearly_check_answer by_archive = ramyearly_check(l.at, l.length, j.at, j.length, p.at, p.length, r.at, r.length);
+    call_count(by_archive.number);
+    same("the archive's check of the plan: number", by_archive.number, 0);
+    same("the archive's check of the plan: place", by_archive.place, 0);
+    same("the archive's check of the plan: energy", (int64_t)by_archive.energy, (int64_t)found.energy);
+    if (!call_agrees())
+        return;
+    shares_match(&site, p, shares);
+    smallest_prices(&site, p, r);
+    tally->plans++;
+    keep(plan, p);
+    keep(prices, r);
+}
+
+bool compare_plan(struct numbers *numbers, const struct table *levels, const struct table *jobs, struct buffer_lengths lengths,
+    struct table *plan, struct table *prices)
+{
+    call_begin();
+    struct paper_bytes l = call_lend(numbers, LEVELS, levels), j = call_lend(numbers, JOBS, jobs);
+    struct buffers buffers = mark_buffers(numbers, lengths);
+    struct ramyearly_plan_answer found = ramyearly_plan(l.at, l.length, j.at, j.length,
+        plan_buffer.lent + buffers.plan.start, lengths.plan, prices_buffer.lent + buffers.prices.start, lengths.prices,
+        (uint32_t *)(void *)(shares_buffer.lent + buffers.shares.start), lengths.shares);
+    struct ramyearly_plan_answer wanted = paper_planning(l, j, lengths.plan, lengths.prices, lengths.shares);
+    same("number", found.number, wanted.number);
+    same("place", found.place, wanted.place);
+    same("intervals", found.intervals, wanted.intervals);
+    same("start", found.start, wanted.start);
+    same("end", found.end, wanted.end);
+    same("spare", found.spare, wanted.spare);
+    if (wanted.number) {
+        same("steps", found.steps, 0);
+        same("energy", (int64_t)found.energy, 0);
+        rest_stays(&buffers, 0, 0, 0);
+    } else if (call_agrees()) {
+        judge_plan(&buffers, l, j, found, plan, prices);
+    }
+    if (!call_agrees())
+        printf("  buffers of %zu bytes, %zu bytes and %zu numbers\n", lengths.plan, lengths.prices, lengths.shares);
+    bool planned = found.number == 0 && call_agrees();
+    call_end("planning", found.number);
+    return planned;
+}

@@ -1,0 +1,131 @@
+/* Calls the archive many times with made tables and holds every answer against the paper.
+ *
+ *     driver [SEED [CALLS]]       runs cases until that many calls are made
+ *     driver --case SEED NUMBER   runs one case again
+ */
+#define _POSIX_C_SOURCE 200809L
+#include <inttypes.h>
+#include <sanitizer/common_interface_defs.h>
+#include <signal.h>
+#include <stdio.h>
+#include <stdlib.h>
+#include <string.h>
+#include <unistd.h>
+
+#include "groups.h"
+
+/* A call that takes longer than this is counted as one that does not return. */
+enum { SECONDS = 60 };
+
+static uint64_t seed, case_number;
+
+static void print_case(void)
+{
+    printf("in case %" PRIu64 " of seed %" PRIu64 "\n", case_number, seed);
+    fflush(stdout);
+}
+
+static void stop(void)
+{
+    print_case();
+    exit(1);
+}
+
+/* A byte beside a buffer was touched, or a call does not return. */
+static void stopped(int signal_number)
+{
+    printf("stopped by signal %d\n", signal_number);
+    print_case();
+    _exit(1);
+}
+
+static void catch_signals(void)
+{
+    struct sigaction action = { .sa_handler = stopped };
+    const int caught[] = { SIGSEGV, SIGBUS, SIGILL, SIGFPE, SIGABRT, SIGALRM };
+    for (unsigned i = 0; i < sizeof caught / sizeof *caught; i++)
+        sigaction(caught[i], &action, NULL);
+    __sanitizer_set_death_callback(print_case);
+}
+
+static void one_case(void)
+{
+    struct numbers numbers = numbers_of_seed(seed, case_number);
+    alarm(SECONDS);
+    run_case(&numbers);
+}
+
+static struct tally total(void)
+{
+    struct tally all = { .calls = 0 };
+    for (unsigned g = 0; g < GROUPS; g++) {
+        const struct tally *one = &groups[g].tally;
+        all.calls += one->calls;
+        all.plans += one->plans;
+        all.accepted += one->accepted;
+        all.disagreements += one->disagreements;
+        for (unsigned i = 0; i <= REFUSALS; i++)
+            all.by_number[i] += one->by_number[i];
+    }
+    return all;
+}
+
+static void print_line(const char *name, const struct tally *t)
+{
+    printf("%-15s %9" PRIu64 " calls %9" PRIu64 " answered %9" PRIu64 " refused %8" PRIu64 " plans %8" PRIu64 " accepted\n",
+        name, t->calls, t->by_number[0], t->calls - t->by_number[0], t->plans, t->accepted);
+}
+
+/* Answers whether each refusal occurred. */
+static bool print_refusals(const struct tally *t)
+{
+    bool all = true;
+    for (unsigned i = 1; i <= REFUSALS; i++) {
+        printf("%s%2u: %-7" PRIu64 "%s", i % 9 == 1 ? "  " : " ", i, t->by_number[i], i % 9 == 0 ? "\n" : "");
+        all = all && t->by_number[i] > 0;
+    }
+    return all;
+}
+
+static int run(uint64_t calls)
+{
+    for (case_number = 0; total().calls < calls; case_number++)
+        one_case();
+    struct tally all = total();
+    for (unsigned g = 0; g < GROUPS; g++)
+        print_line(groups[g].name, &groups[g].tally);
+    print_line("all", &all);
+    printf("refusals by number:\n");
+    if (!print_refusals(&all)) {
+        printf("load: a refusal never occurred\n");
+        return 1;
+    }
+    printf("load: every answer agrees with document 01\n");
+    return 0;
+}
+
+static uint64_t number_in(const char *text)
+{
+    return strtoull(text, NULL, 10);
+}
+
+int main(int count, char **words)
+{
+    bool single = count == 4 && strcmp(words[1], "--case") == 0;
+    if (!single && count > 3) {
+        fprintf(stderr, "driver [SEED [CALLS]] or driver --case SEED NUMBER\n");
+        return 2;
+    }
+    on_disagreement = stop;
+    catch_signals();
+    compare_start();
+    if (single) {
+        seed = number_in(words[2]);
+        case_number = number_in(words[3]);
+        one_case();
+        printf("case %" PRIu64 " of seed %" PRIu64 " agrees\n", case_number, seed);
+        return 0;
+    }
+    seed = count > 1 ? number_in(words[1]) : 1;
+    return run(count > 2 ? number_in(words[2]) : 1000000);
+}

@@ -1,0 +1,242 @@
+#include "groups.h"
+
+#include "call.h"
+#include "change.h"
+#include "damage.h"
+#include "other.h"
+#include "sites.h"
+
+/* The tables of the case, and a plan and price list in the making. */
+static struct table levels, jobs, plan, prices, changed_plan, changed_prices;
+static struct plan steps, changed_steps;
+static struct prices list, changed_list;
+
+static void make_tables(const struct paper_site *site)
+{
+    levels_table(&levels, &site->levels);
+    jobs_table(&jobs, &site->jobs);
+}
+
+static uint32_t any_length(struct numbers *numbers)
+{
+    if (one_in(numbers, 8))
+        return (uint32_t)ONE_OF(numbers, 0, PAPER_TIME + 1, UINT32_MAX, any_number(numbers));
+    return (uint32_t)(one_in(numbers, 2) ? between(numbers, 1, 10) : ONE_OF(numbers, 1, 999999, PAPER_TIME, between(numbers, 1, PAPER_TIME)));
+}
+
+/* Loads at the end of a level, dropped or not, and one to either side. */
+static void settings(struct numbers *numbers)
+{
+    struct paper_levels given = any_levels(numbers);
+    levels_table(&levels, &given);
+    for (unsigned i = 0; i < 4; i++) {
+        uint32_t length = any_length(numbers);
+        uint64_t end = (uint64_t)length * given.frequency[below(numbers, given.count)];
+        uint64_t load = one_in(numbers, 3) ? below(numbers, end + 1) : ONE_OF(numbers, 0, 1, end, end - 1, end + 1, UINT64_MAX, any_number(numbers));
+        compare_setting(numbers, &levels, length, load);
+    }
+}
+
+/* A release, a deadline, one beside them, a limit, or any number. */
+static uint32_t any_time(struct numbers *numbers, const struct paper_jobs *given)
+{
+    if (given->count == 0 || one_in(numbers, 6))
+        return (uint32_t)ONE_OF(numbers, 0, PAPER_TIME, PAPER_TIME + 1, UINT32_MAX, any_number(numbers));
+    unsigned j = (unsigned)below(numbers, given->count);
+    uint64_t time = one_in(numbers, 2) ? given->release[j] : given->deadline[j];
+    return (uint32_t)ONE_OF(numbers, time, time, time, time - 1, time + 1);
+}
+
+static void ask_spares(struct numbers *numbers, const struct paper_site *site, unsigned times)
+{
+    while (times-- > 0) {
+        uint32_t start = any_time(numbers, &site->jobs), end = any_time(numbers, &site->jobs);
+        bool turn = start > end && !one_in(numbers, 8);
+        compare_spare(numbers, &levels, &jobs, turn ? end : start, turn ? start : end);
+    }
+}
+
+static void spares(struct numbers *numbers)
+{
+    struct paper_site site = any_site(numbers, small_shape(numbers));
+    make_tables(&site);
+    ask_spares(numbers, &site, 4);
+}
+
+/* One of the four functions, with tables as they stand. */
+static void call_any(struct numbers *numbers)
+{
+    uint64_t load = below(numbers, 100);
+    switch (below(numbers, 4)) {
+    case 0:
+        compare_setting(numbers, &levels, 10, load);
+        break;
+    case 1:
+        compare_spare(numbers, &levels, &jobs, 0, (uint32_t)load);
+        break;
+    case 2:
+        compare_check(numbers, &levels, &jobs, &plan, &prices);
+        break;
+    default:
+        compare_plan(numbers, &levels, &jobs, (struct buffer_lengths) { 1000, 300, 500 }, &changed_plan, &changed_prices);
+    }
+}
+
+/* Most have one fault, some two or three, to try which one is named. */
+static void damaged(struct numbers *numbers)
+{
+    struct paper_site site = any_site(numbers, small_shape(numbers));
+    make_tables(&site);
+    any_plan(numbers, &site, &steps);
+    band_prices(&site, &steps, &list);
+    plan_table(&plan, &steps);
+    prices_table(&prices, &list);
+    for (unsigned faults = (unsigned)ONE_OF(numbers, 1, 1, 1, 2, 3); faults > 0; faults--)
+        if (one_in(numbers, 2))
+            damage_levels(numbers, &levels);
+        else
+            damage_jobs(numbers, &jobs);
+    call_any(numbers);
+}
+
+static void random_bytes(struct numbers *numbers)
+{
+    struct paper_site site = any_site(numbers, small_shape(numbers));
+    make_tables(&site);
+    if (one_in(numbers, 2))
+        any_bytes(numbers, &levels, 34, PAPER_LEVELS);
+    if (one_in(numbers, 2))
+        any_bytes(numbers, &jobs, 40, 3);
+    any_bytes(numbers, &plan, 40, site.intervals.count);
+    any_bytes(numbers, &prices, 40, site.intervals.count);
+    call_any(numbers);
+}
+
+/* Mostly enough, often just so; sometimes one too few, or any smaller number. */
+static size_t any_buffer(struct numbers *numbers, size_t wanted)
+{
+    if (wanted > 0 && one_in(numbers, 6))
+        return (size_t)ONE_OF(numbers, wanted - 1, below(numbers, wanted));
+    return wanted + (size_t)ONE_OF(numbers, 0, 0, 1, 70);
+}
+
+static struct buffer_lengths any_buffers(struct numbers *numbers, const struct paper_site *site)
+{
+    struct buffer_lengths lengths;
+    lengths.plan = any_buffer(numbers, 4 + 6 * (size_t)paper_pairs(&site->intervals));
+    lengths.prices = any_buffer(numbers, 2 + 5 * (size_t)site->intervals.count);
+    lengths.shares = any_buffer(numbers, (size_t)site->jobs.count * site->intervals.count);
+    return lengths;
+}
+
+static struct buffer_lengths enough(const struct paper_site *site)
+{
+    unsigned n = site->intervals.count;
+    return (struct buffer_lengths) { 4 + 6 * (size_t)paper_pairs(&site->intervals), 2 + 5 * (size_t)n, (size_t)site->jobs.count * n };
+}
+
+static void planning(struct numbers *numbers)
+{
+    struct paper_site site = any_site(numbers, small_shape(numbers));
+    make_tables(&site);
+    for (unsigned i = 0; i < 2; i++) {
+        struct buffer_lengths lengths = any_buffers(numbers, &site);
+        compare_plan(numbers, &levels, &jobs, lengths, &plan, &prices);
+    }
+}
+
+/* Checks the plan in steps and list with one change, or two. */
+static void check_changed(struct numbers *numbers, const struct paper_site *site)
+{
+    plan_copy(&changed_steps, &steps);
+    changed_list = list;
+    for (unsigned changes = (unsigned)ONE_OF(numbers, 0, 1, 1, 1, 1, 2); changes > 0; changes--)
+        if (one_in(numbers, 3))
+            change_prices(numbers, site, &changed_list);
+        else
+            change_plan(numbers, site, &changed_steps);
+    plan_table(&changed_plan, &changed_steps);
+    prices_table(&changed_prices, &changed_list);
+    if (one_in(numbers, 8))
+        damage_bytes(numbers, &changed_plan);
+    if (one_in(numbers, 8))
+        damage_bytes(numbers, &changed_prices);
+    compare_check(numbers, &levels, &jobs, &changed_plan, &changed_prices);
+}
+
+static void changed_from_planned(struct numbers *numbers, const struct paper_site *site, unsigned times)
+{
+    make_tables(site);
+    if (!compare_plan(numbers, &levels, &jobs, enough(site), &plan, &prices))
+        return;
+    plan_of_table(&steps, &plan);
+    prices_of_table(&list, &prices);
+    while (times-- > 0)
+        check_changed(numbers, site);
+}
+
+static void changed_plans(struct numbers *numbers)
+{
+    struct paper_site site = any_site(numbers, small_shape(numbers));
+    changed_from_planned(numbers, &site, 6);
+}
+
+static void other_plans(struct numbers *numbers)
+{
+    struct paper_site site = any_site(numbers, small_shape(numbers));
+    make_tables(&site);
+    for (unsigned i = 0; i < 4; i++) {
+        if (one_in(numbers, 4))
+            first_plan(&site, &steps);
+        else
+            any_plan(numbers, &site, &steps);
+        band_prices(&site, &steps, &list);
+        check_changed(numbers, &site);
+    }
+}
+
+/* A plan comes out exactly when the search finds a placement, and none has less exact energy. */
+static void tiny_sites(struct numbers *numbers)
+{
+    struct paper_site site = tiny_site(numbers);
+    uint64_t least;
+    bool found = paper_search(&site, &least);
+    make_tables(&site);
+    bool planned = compare_plan(numbers, &levels, &jobs, enough(&site), &plan, &prices);
+    same("a plan came out", planned, found);
+    if (planned && found) {
+        struct paper_loads loads = paper_loads(bytes_of(&plan));
+        same("exact energy times all gaps", (int64_t)paper_exact(&site, &loads), (int64_t)least);
+    }
+    call_report("the search");
+}
+
+static void large_sites(struct numbers *numbers)
+{
+    struct paper_site site = any_site(numbers, large_shape(numbers));
+    changed_from_planned(numbers, &site, 8);
+    ask_spares(numbers, &site, 4);
+}
+
+struct group groups[GROUPS] = {
+    { .name = "settings", .run = settings, .weight = 30 },
+    { .name = "spares", .run = spares, .weight = 24 },
+    { .name = "damaged tables", .run = damaged, .weight = 64 },
+    { .name = "random bytes", .run = random_bytes, .weight = 24 },
+    { .name = "planning", .run = planning, .weight = 40 },
+    { .name = "changed plans", .run = changed_plans, .weight = 36 },
+    { .name = "other plans", .run = other_plans, .weight = 20 },
+    { .name = "tiny sites", .run = tiny_sites, .weight = 12 },
+    { .name = "large sites", .run = large_sites, .weight = 6 },
+};
+
+void run_case(struct numbers *numbers)
+{
+    unsigned choice = (unsigned)below(numbers, WEIGHTS), g = 0;
+    while (choice >= groups[g].weight) {
+        choice -= groups[g].weight;
+        g++;
+    }
+    tally = &groups[g].tally;
+    groups[g].run(numbers);
+}

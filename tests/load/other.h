@@ -1,0 +1,15 @@
+/* Plans that nobody made least, and price lists for them, as an impostor would send them. */
+#ifndef OTHER_H
+#define OTHER_H
+
+#include "numbers.h"
+#include "table.h"
+
+/* A plan that gives each job its cycles, in open intervals of any choice. */
+void any_plan(struct numbers *numbers, const struct paper_site *site, struct plan *plan);
+/* A plan that puts each job in its first interval. */
+void first_plan(const struct paper_site *site, struct plan *plan);
+/* The band of each load as the price, m where it is overloaded. */
+void band_prices(const struct paper_site *site, const struct plan *plan, struct prices *prices);
+
+#endif

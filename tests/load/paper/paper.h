@@ -1,0 +1,110 @@
+/* Document 01 in plain C, written from the page alone, to be held against the archive. It reads tables, judges plans and
+ * says when planning must refuse. It does not plan. Nothing here is meant to be fast: each function follows the words of
+ * the page. */
+#ifndef PAPER_H
+#define PAPER_H
+
+#include <stdbool.h>
+#include <stddef.h>
+#include <stdint.h>
+
+#include "ramyearly.h"
+
+enum {
+    PAPER_LEVELS = 8,
+    PAPER_JOBS = 64,
+    PAPER_BOUNDS = 2 * PAPER_JOBS,
+    PAPER_INTERVALS = PAPER_BOUNDS - 1,
+    PAPER_TIME = 1000000,
+    PAPER_CYCLES = 1000000000,
+    PAPER_FREQUENCY = 1000,
+    PAPER_VOLTAGE = 500
+};
+
+struct paper_bytes {
+    const uint8_t *at;
+    size_t length;
+};
+
+/* Number 0: nothing is refused. */
+struct paper_refusal {
+    uint32_t number, place;
+};
+
+struct paper_levels {
+    unsigned count;
+    uint32_t frequency[PAPER_LEVELS], voltage[PAPER_LEVELS];
+};
+
+struct paper_jobs {
+    unsigned count;
+    uint32_t release[PAPER_JOBS], deadline[PAPER_JOBS], cycles[PAPER_JOBS];
+};
+
+/* Points 0 to m: idling, then the working levels. */
+struct paper_points {
+    unsigned m;
+    int64_t frequency[PAPER_LEVELS + 1], power[PAPER_LEVELS + 1];
+};
+
+/* Interval i goes from bound i to bound i + 1; bit j of open[i] says that job j is open there. */
+struct paper_intervals {
+    unsigned count;
+    uint32_t bound[PAPER_BOUNDS];
+    uint64_t open[PAPER_INTERVALS];
+};
+
+/* Both tables, decoded, with what follows from them. */
+struct paper_site {
+    struct paper_levels levels;
+    struct paper_jobs jobs;
+    struct paper_points points;
+    struct paper_intervals intervals;
+};
+
+/* The cycles of each interval. */
+struct paper_loads {
+    uint64_t at[PAPER_INTERVALS];
+};
+
+/* tables.c */
+uint32_t paper_number(struct paper_bytes bytes, size_t at, unsigned width);
+struct paper_refusal paper_refuse(uint32_t number, uint32_t place);
+struct paper_refusal paper_read_levels(struct paper_bytes bytes, struct paper_levels *levels);
+struct paper_refusal paper_read_jobs(struct paper_bytes bytes, struct paper_jobs *jobs);
+
+/* levels.c */
+struct paper_points paper_points(const struct paper_levels *levels);
+uint32_t paper_top(const struct paper_levels *levels);
+unsigned paper_band(const struct paper_points *points, uint64_t length, uint64_t load);
+struct ramyearly_setting_answer paper_setting(struct paper_bytes levels, uint32_t length, uint64_t load);
+
+/* intervals.c */
+struct paper_intervals paper_intervals(const struct paper_jobs *jobs);
+bool paper_open(const struct paper_intervals *intervals, unsigned interval, unsigned job);
+uint64_t paper_length(const struct paper_intervals *intervals, unsigned interval);
+struct paper_refusal paper_read_site(struct paper_bytes levels, struct paper_bytes jobs, struct paper_site *site);
+
+/* windows.c */
+int64_t paper_spare_of(const struct paper_site *site, uint32_t start, uint32_t end);
+bool paper_overfull(const struct paper_site *site, uint32_t *start, uint32_t *end);
+struct ramyearly_spare_answer paper_spare(struct paper_bytes levels, struct paper_bytes jobs, uint32_t start, uint32_t end);
+
+/* energy.c */
+uint64_t paper_figure(const struct paper_site *site, const struct paper_loads *loads);
+uint64_t paper_gaps(const struct paper_points *points);
+uint64_t paper_exact(const struct paper_site *site, const struct paper_loads *loads);
+
+/* check.c */
+struct paper_loads paper_loads(struct paper_bytes plan);
+struct ramyearly_check_answer paper_check(struct paper_bytes levels, struct paper_bytes jobs, struct paper_bytes plan, struct paper_bytes prices);
+
+/* planning.c */
+unsigned paper_pairs(const struct paper_intervals *intervals);
+struct ramyearly_plan_answer paper_planning(struct paper_bytes levels, struct paper_bytes jobs, size_t plan, size_t prices, size_t shares);
+void paper_smallest_prices(const struct paper_site *site, struct paper_bytes plan, uint8_t price[PAPER_INTERVALS]);
+
+/* search.c */
+bool paper_search(const struct paper_site *site, uint64_t *least);
+
+#endif

@@ -1,0 +1,29 @@
+/* Valid level and job tables of many shapes. */
+#ifndef SITES_H
+#define SITES_H
+
+#include "numbers.h"
+#include "paper/paper.h"
+
+struct paper_levels any_levels(struct numbers *numbers);
+
+/* How many jobs at most, and how late their deadlines are. */
+struct shape {
+    unsigned jobs;
+    uint32_t horizon;
+};
+
+struct shape small_shape(struct numbers *numbers);
+struct shape large_shape(struct numbers *numbers);
+
+/* Jobs that can be served: their cycles are taken from what the intervals have left, and often fill a band exactly. */
+struct paper_jobs fitting_jobs(struct numbers *numbers, struct shape shape, const struct paper_levels *levels);
+/* Jobs with any cycles; many have an overfull window. */
+struct paper_jobs any_jobs(struct numbers *numbers, struct shape shape, const struct paper_levels *levels);
+
+/* A site that the search can go through whole. */
+struct paper_site tiny_site(struct numbers *numbers);
+/* Mostly small, mostly fitting. */
+struct paper_site any_site(struct numbers *numbers, struct shape shape);
+
+#endif
