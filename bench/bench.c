@@ -1,0 +1,318 @@
+/* The benchmark: times the proved functions and their peers on the same sites in the same run, and holds every optimum
+ * against ours.
+ *
+ *   bench times            a line of comma-separated values for each site
+ *   bench stack            the deepest stack of planning and checking over all sites
+ *   bench one FAMILY JOBS SEED    one call each, for counting instructions */
+#define _GNU_SOURCE
+#include "peer.h"
+#include "plain.h"
+#include "ramyearly.h"
+
+#include <stdio.h>
+#include <stdlib.h>
+#include <string.h>
+#include <time.h>
+#include <ucontext.h>
+
+enum { SEEDS = 5, REPEATS = 7, SAMPLE = 100000 /* nanoseconds */, STACK = 1 << 20 };
+
+static const int sizes[] = { 1, 2, 4, 8, 16, 32, 64 };
+enum { SIZES = sizeof sizes / sizeof *sizes };
+
+static const struct peer *const peers[] = {
+#ifdef WITH_LEMON
+    &lemon_peer,
+#endif
+#ifdef WITH_GLPK
+    &glpk_peer,
+#endif
+#ifdef WITH_CLP
+    &clp_peer,
+#endif
+    NULL
+};
+enum { PEERS = sizeof peers / sizeof *peers - 1 };
+
+struct buffers {
+    uint8_t plan[4 + 6 * MAX_PAIRS], prices[2 + 5 * MAX_INTERVALS];
+    uint32_t shares[MAX_JOBS * MAX_INTERVALS];
+};
+
+static struct site site;
+static struct network network;
+static struct buffers ours, theirs;
+static struct ramyearly_plan_answer planned;
+static struct totals loads_by_band;
+static uint64_t loads[MAX_INTERVALS];
+static volatile uint64_t kept;
+
+static void plan(void)
+{
+    planned = ramyearly_plan(site.level_bytes, site.level_length, site.job_bytes, site.job_length,
+        ours.plan, sizeof ours.plan, ours.prices, sizeof ours.prices, ours.shares, sizeof ours.shares / sizeof *ours.shares);
+}
+
+static void plain(void)
+{
+    kept = plain_plan(site.level_bytes, site.level_length, site.job_bytes, site.job_length,
+        theirs.plan, sizeof theirs.plan, theirs.prices, sizeof theirs.prices, theirs.shares, sizeof theirs.shares / sizeof *theirs.shares).energy;
+}
+
+static struct ramyearly_check_answer checked(void)
+{
+    return ramyearly_check(site.level_bytes, site.level_length, site.job_bytes, site.job_length,
+        ours.plan, 4 + 6 * planned.steps, ours.prices, 2 + 5 * planned.intervals);
+}
+
+static void check(void)
+{
+    kept = checked().energy;
+}
+
+/* The settings of all intervals. */
+static void settings(void)
+{
+    for (uint32_t i = 0; i < planned.intervals; i++)
+        kept = ramyearly_setting(site.level_bytes, site.level_length, network.size[i], loads[i]).extra;
+}
+
+static void spare(void)
+{
+    kept = ramyearly_spare(site.level_bytes, site.level_length, site.job_bytes, site.job_length, site.release[0], site.deadline[0]).spare;
+}
+
+static void nothing(void)
+{
+}
+
+static void wrong(const char *who, const char *what)
+{
+    fprintf(stderr, "bench: %s %d jobs, seed %d: %s: %s\n", site.family, site.jobs, site.seed, who, what);
+    exit(1);
+}
+
+/* Processor time of this thread, in nanoseconds: what else runs on the machine does not count. */
+static double now(void)
+{
+    struct timespec t;
+    clock_gettime(CLOCK_THREAD_CPUTIME_ID, &t);
+    return (double)t.tv_sec * 1e9 + (double)t.tv_nsec;
+}
+
+static double time_calls(void (*call)(void), long count)
+{
+    double start = now();
+    for (long i = 0; i < count; i++)
+        call();
+    return now() - start;
+}
+
+static double time_peer(const struct peer *peer, long count)
+{
+    double sum = 0, start = now();
+    for (long i = 0; i < count; i++) {
+        if (peer->reset) {
+            peer->reset();
+            start = now();
+        }
+        if (!peer->solve())
+            wrong(peer->name, "no optimum");
+        if (peer->reset)
+            sum += now() - start;
+    }
+    return peer->reset ? sum : now() - start;
+}
+
+/* One thing that is timed: a call of ours, or a peer. */
+struct timed {
+    void (*call)(void);
+    const struct peer *peer;
+    long count; /* calls in a sample */
+    double samples[REPEATS];
+};
+
+static double sample(const struct timed *t, long count)
+{
+    return t->peer ? time_peer(t->peer, count) : time_calls(t->call, count);
+}
+
+static void choose_count(struct timed *t)
+{
+    t->count = 1;
+    while (sample(t, t->count) < SAMPLE)
+        t->count *= 2;
+}
+
+static int by_size(const void *a, const void *b)
+{
+    double x = *(const double *)a, y = *(const double *)b;
+    return (x > y) - (x < y);
+}
+
+static double median(double *samples)
+{
+    qsort(samples, REPEATS, sizeof *samples, by_size);
+    return samples[REPEATS / 2];
+}
+
+/* Our plan's loads, from the shares. */
+static void take_loads(void)
+{
+    memset(&loads_by_band, 0, sizeof loads_by_band);
+    for (int i = 0; i < network.intervals; i++) {
+        loads[i] = 0;
+        for (int j = 0; j < network.jobs; j++)
+            loads[i] += ours.shares[i * network.jobs + j];
+        for (int k = 0; k < network.bands; k++) {
+            int64_t above = (int64_t)loads[i] - network.size[i] * network.lower[k], room = network.size[i] * network.gap[k];
+            if (above > 0)
+                loads_by_band.band[k] += above < room ? above : room;
+        }
+    }
+}
+
+static void same_optimum(const char *who, const struct totals *t)
+{
+    if (exact_energy(&network, t) != exact_energy(&network, &loads_by_band))
+        wrong(who, "another exact energy");
+    if (energy_figure(&network, t) != (int64_t)planned.energy)
+        wrong(who, "another figure");
+}
+
+static void open_site(int family, int jobs, int seed)
+{
+    make_site(&site, family, jobs, seed);
+    make_network(&network, &site);
+    memset(&ours, 0, sizeof ours);
+    memset(&theirs, 0, sizeof theirs);
+    plan();
+    if (planned.number)
+        wrong("planning", "refused");
+    take_loads();
+    same_optimum("planning", &loads_by_band);
+    struct ramyearly_check_answer c = checked();
+    if (c.number || c.energy != planned.energy)
+        wrong("checking", "does not accept the plan");
+    plain();
+    if (memcmp(&ours, &theirs, sizeof ours))
+        wrong("plain planner", "another plan");
+}
+
+/* Whether a peer, after its last run, has our optimum. */
+static void compare(const struct peer *peer)
+{
+    struct totals t = { { 0 } };
+    peer->answer(&t);
+    same_optimum(peer->name, &t);
+}
+
+static void time_site(void)
+{
+    struct timed timed[5 + PEERS] = { { .call = plan }, { .call = check }, { .call = settings }, { .call = spare }, { .call = plain } };
+    enum { SETTINGS = 2 };
+    for (int p = 0; p < PEERS; p++) {
+        timed[5 + p].peer = peers[p];
+        peers[p]->load(&network);
+    }
+    for (int k = 0; k < 5 + PEERS; k++)
+        choose_count(&timed[k]);
+    for (int r = 0; r < REPEATS; r++)
+        for (int k = 0; k < 5 + PEERS; k++)
+            timed[k].samples[r] = sample(&timed[k], timed[k].count) / (double)timed[k].count;
+    printf("%s,%d,%d,%d,%d,%d,%u", site.family, site.jobs, site.seed, network.intervals, network.pairs, network.bands, planned.steps);
+    for (int k = 0; k < 5 + PEERS; k++)
+        printf(",%.1f", median(timed[k].samples) / (k == SETTINGS ? planned.intervals : 1));
+    printf("\n");
+    for (int p = 0; p < PEERS; p++) {
+        compare(peers[p]);
+        peers[p]->unload();
+    }
+}
+
+static void times(void)
+{
+    printf("family,jobs,seed,intervals,pairs,bands,steps,plan,check,setting,spare,plain");
+    for (int p = 0; p < PEERS; p++)
+        printf(",%s", peers[p]->name);
+    printf("\n");
+    for (int family = 0; family < family_count; family++)
+        for (int n = 0; n < SIZES; n++)
+            for (int seed = 1; seed <= SEEDS; seed++) {
+                open_site(family, sizes[n], seed);
+                time_site();
+                fflush(stdout);
+            }
+}
+
+static uint8_t stack[STACK];
+static ucontext_t here, there;
+static void (*on_stack)(void);
+
+static void enter(void)
+{
+    on_stack();
+}
+
+/* Calls on a painted stack, and counts the bytes from its top to the deepest one changed. */
+static long depth(void (*call)(void))
+{
+    memset(stack, 0xa5, sizeof stack);
+    on_stack = call;
+    getcontext(&there);
+    there.uc_stack.ss_sp = stack;
+    there.uc_stack.ss_size = sizeof stack;
+    there.uc_link = &here;
+    makecontext(&there, enter, 0);
+    swapcontext(&here, &there);
+    long untouched = 0;
+    while (untouched < STACK && stack[untouched] == 0xa5)
+        untouched++;
+    return STACK - untouched;
+}
+
+static void stacks(void)
+{
+    void (*const calls[])(void) = { plan, check, settings, spare, plain };
+    static const char *const names[] = { "plan", "check", "setting", "spare", "plain" };
+    long deepest[5] = { 0 };
+    long empty = depth(nothing);
+    for (int family = 0; family < family_count; family++)
+        for (int n = 0; n < SIZES; n++)
+            for (int seed = 1; seed <= SEEDS; seed++) {
+                open_site(family, sizes[n], seed);
+                for (int k = 0; k < 5; k++) {
+                    long d = depth(calls[k]) - empty;
+                    if (d > deepest[k])
+                        deepest[k] = d;
+                }
+            }
+    printf("function,bytes\n");
+    for (int k = 0; k < 5; k++)
+        printf("%s,%ld\n", names[k], deepest[k]);
+}
+
+/* Opening a site calls planning, checking and the plain planner once each. */
+static int one(char **words)
+{
+    int family = 0;
+    while (family < family_count && strcmp(families[family], words[0]))
+        family++;
+    if (family == family_count)
+        return 2;
+    open_site(family, atoi(words[1]), atoi(words[2]));
+    return 0;
+}
+
+int main(int count, char **words)
+{
+    if (count == 2 && !strcmp(words[1], "times"))
+        times();
+    else if (count == 2 && !strcmp(words[1], "stack"))
+        stacks();
+    else if (count == 5 && !strcmp(words[1], "one"))
+        return one(words + 2);
+    else
+        return 2;
+    return 0;
+}
