@@ -1,3 +1,2 @@
--- Laws of refusal numbers, and the three demands.
-pub mod RefusalNumbers
+-- The three demands hold.
 pub mod ThreeDemands

@@ -35,7 +35,7 @@ use Rattle.demands.specs.ThreeDemands.{
   NoPlan,
   DemandThree,
 }
-use Rattle.demands.proofs.RefusalNumbers.{levels-by, jobs-by, setting-by, spare-by, walk-by, check-by, planning-by}
+use Rattle.model.proofs.RefusalNumbers.{levels-by, jobs-by, setting-by, spare-by, walk-by, check-by, planning-by}
 
 pub demand-one : DemandOne
 demand-one =

@@ -21,7 +21,7 @@ use lib.ListN.{length, take}
 use lib.IntN.{ℤ}
 use Rattle.model.specs.declared.Level.{Level}
 use Rattle.model.specs.declared.Job.{Job}
-use Rattle.model.specs.Outcome.{Outcome, refused, answer}
+use Rattle.model.specs.Outcome.{answer, From, RefusesBy}
 use Rattle.model.specs.Levels.{readLevels}
 use Rattle.model.specs.Jobs.{readJobs}
 use Rattle.model.specs.Points.{topFrequency}
@@ -64,14 +64,6 @@ planWritten call steps = take (4 + 6 * steps) (call .after .plan)
 
 abbrev pub pricesWritten : Call → (intervals : ℕ) → List ℕ
 pricesWritten call intervals = take (2 + 5 * intervals) (call .after .prices)
-
--- The numbers of document 01's refusals, from one to another.
-abbrev pub From : (first last number : ℕ) → Type 0
-From first last number = (first ≤ number) × (number ≤ last)
-
--- An outcome is an answer or a refusal; a refusal has one of the operation's numbers.
-abbrev pub RefusesBy : {A : Type 0} → (numbers : ℕ → Type 0) → Outcome A → Type 0
-RefusesBy numbers outcome = (number place : ℕ) → outcome ≡ refused number place → numbers number
 
 -- Demand 1. "Whoever calls an operation, with bytes of any length and content, gets a result or a numbered refusal from
 -- document 01; nothing is required of the caller first, and a refused call changes nothing lent to it." Planning alone

@@ -42,3 +42,4 @@ pub mod Accepted
 pub mod Demands
 pub mod Selection
 pub mod BuiltIn
+pub mod RefusalNumbers

@@ -1,5 +1,6 @@
 -- What an operation gives: an answer, or a refusal with its number and its place.
-use Prim.Native.Nat.{ℕ, zero, suc}
+use Prim.Native.Nat.{ℕ, zero, suc, _≤_}
+use mathlib.Core.Path.{_≡_}
 use mathlib.Core.Bool.{Bool, true, false}
 
 pub data Outcome (A : Type 0) : Type 0 where
@@ -31,3 +32,11 @@ byEntryFrom first (suc count) fault next = refuseAt (fault first) first (byEntry
 -- Entries count from 0.
 abbrev pub byEntry : {A : Type 0} → (count : ℕ) → (fault : ℕ → ℕ) → Outcome A → Outcome A
 byEntry count fault next = byEntryFrom 0 count fault next
+
+-- The numbers of document 01's refusals, from one to another.
+abbrev pub From : (first last number : ℕ) → Type 0
+From first last number = (first ≤ number) × (number ≤ last)
+
+-- An outcome is an answer or a refusal; a refusal has one of the operation's numbers.
+abbrev pub RefusesBy : {A : Type 0} → (numbers : ℕ → Type 0) → Outcome A → Type 0
+RefusesBy numbers outcome = (number place : ℕ) → outcome ≡ refused number place → numbers number

@@ -1,9 +1,8 @@
 // Printing the line of a case.
-ghost use mathlib.Core.Path.{_≡_};
 ghost use Prim.Native.Nat.{_≤_};
-ghost use lib.IntN.{natAbs};
 ghost use lib.ListN.{length};
 use crate::text::find;
+use integers::magnitude;
 use libc::STDOUT_FILENO;
 
 pub fn words(text: &[u8]) {
@@ -30,17 +29,6 @@ pub fn signed(value: i64) {
         words(b" ");
     }
     io::print_decimal(STDOUT_FILENO, magnitude(value));
-}
-
-// A number without its sign. The least number has one too: one more than it can be negated.
-fn magnitude(value: i64) -> u64
-    ensures { λ r. ⌜ r ≡ natAbs value ⌝ }
-{
-    if value < 0 {
-        -(value + 1) as u64 + 1
-    } else {
-        value as u64
-    }
 }
 
 pub fn refusal(refused: u32, place: u32) {

@@ -9,23 +9,23 @@ use Prim.Native.Nat.{ℕ, zero, suc, _+_, _*_}
 use native.Mathlib.Omega.{arith}
 use lib.ListN.{length}
 use lib.Dec.{ltb, leb, eqb}
 use Rattle.model.specs.declared.Level.{Level}
 use Rattle.model.specs.declared.Job.{Job}
 use Rattle.model.specs.Limits.{maxLevels, maxJobs, maxDeadline}
-use Rattle.model.specs.Outcome.{Outcome, refused, answer, andThen, refuseWhen, refuseAt, byEntryFrom}
+use Rattle.model.specs.Outcome.{Outcome, refused, answer, andThen, refuseWhen, refuseAt, byEntryFrom, From, RefusesBy}
 use Rattle.model.specs.Entries.{listOf}
 use Rattle.model.specs.Levels.{levelCount, levelEntries, wrongFrequency, wrongVoltage, faultOfLevel, levelFault, readLevels}
 use Rattle.model.specs.Jobs.{jobOf, jobCount, jobEntries, wrongWindow, wrongCycles as wrongJobCycles, faultOfJob, jobFault, readJobs}
 use Rattle.model.specs.Points.{Point, topFrequency}
 use Rattle.model.specs.Setting.{settingOf, workingOf, setting}
 use Rattle.model.specs.Search.{someBelow}
 use Rattle.model.specs.Intervals.{boundsOf, intervalCount, boundAt, lengthOf, isOpen, openPairs}
 use Rattle.model.specs.Windows.{Window, spareOf, earliestOverfull, spare}
 use Rattle.model.specs.Plans.{load}
 use Rattle.model.specs.Prices.{isBandNumber, fitsLoad}
 use Rattle.model.specs.Steps.{planIntervals, stepCount, stepAt, wrongPlanLength, walk, sharesOf}
 use Rattle.model.specs.PriceBytes.{endAt, pricesOf}
 use Rattle.model.specs.Checking.{
   wrongCell,
   wrongCycles,
   stepFault,
@@ -41,8 +41,7 @@ use Rattle.model.specs.Checking.{
   figureOf,
   check,
 }
 use Rattle.model.specs.Planning.{PlanOutcome, refusal, afterReading, unlessOverfull, wants, planning}
-use Rattle.demands.specs.ThreeDemands.{From, RefusesBy}
 
 -- A fault number is 0, for none, or one of the numbers.
 abbrev FaultBy : (numbers : ℕ → Type 0) → ℕ → Type 0

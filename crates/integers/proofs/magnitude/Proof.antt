@@ -1,4 +1,4 @@
--- `show::magnitude` meets its contract. Of a negative number z the code computes -(z + 1), which has no sign and is one
+-- `integers::magnitude` meets its contract. Of a negative number z the code computes -(z + 1), which has no sign and is one
 -- less than the magnitude. Assumes nothing.
 use mathlib.Core.Bool.{true, false}
 use mathlib.Core.Path.{_≡_, refl, _∙_}
@@ -12,8 +12,8 @@ use mir.Val.{SFits, toZ, ofZ}
 use mir.Facts.{fits-natAbs, toZ-ofZ}
 use borrow.Author.Needs.{needs}
 use borrow.Author.Tests.{ltb-true}
-use Rattle.testing.proofs.show.magnitude.Statement.{statement}
-use Rattle.testing.proofs.show.magnitude.Tie as tie
+use Rattle.integers.proofs.magnitude.Statement.{statement}
+use Rattle.integers.proofs.magnitude.Tie as tie
 
 next : (n : ℕ) → negsuc n +ℤ pos 1 ≡ negℤ (pos n)
 next zero = refl

@@ -1,0 +1,57 @@
+-- The listing of two tables in bytes, and the contract of writing it.
+use Prim.Native.Nat.{ℕ, _+_, _*_, _≤_}
+use mathlib.Core.Path.{_≡_}
+use mathlib.Core.List.{List, _++_}
+use lib.ListN.{length, take, drop, replicate}
+use Rattle.model.specs.Limits.{maxJobs, maxIntervals}
+use Rattle.planning.specs.declared.operation.PlanAnswer.{PlanAnswer}
+use Rattle.planning.specs.declared.operation.PlanAnswer.the-variants.{Plan, Overfull, Refused}
+use Rattle.planning.specs.MadePlans.{Buffers}
+use Rattle.planning.specs.PlanAnswers.{PlanContract}
+use Rattle.listing_text.specs.TextLines.{overfullLine, refusedLine}
+use Rattle.listing_text.specs.Appending.{textRoom}
+use Rattle.listing_text.specs.ShownPlans.{textOfPlan}
+
+-- The lengths of the buffers for plan, prices and shares: always enough, since a job is at most open in every interval.
+abbrev pub planRoom : ℕ
+planRoom = 4 + 6 * maxJobs * maxIntervals
+
+abbrev pub priceRoom : ℕ
+priceRoom = 2 + 5 * maxIntervals
+
+abbrev pub shareRoom : ℕ
+shareRoom = maxJobs * maxIntervals
+
+unfoldable pub zeros : ℕ → List ℕ
+zeros n = replicate n 0
+
+-- The buffers that planning is lent.
+abbrev pub zeroBuffers : Buffers
+zeroBuffers = record { plan = zeros planRoom; prices = zeros priceRoom; shares = zeros shareRoom }
+
+-- The text for what planning answered and left in its buffers: of a plan the prices and the shares that were written. No jobs
+-- give `sizes 0 0 0` and `energy 0`.
+unfoldable pub listingText : (levelBytes jobBytes : List ℕ) → PlanAnswer → (left : Buffers) → List ℕ
+listingText levelBytes jobBytes (Plan intervals steps energy) left =
+    textOfPlan levelBytes jobBytes intervals steps energy (left .prices) (left .shares)
+listingText levelBytes jobBytes (Overfull start end spare) left = overfullLine start end spare
+listingText levelBytes jobBytes (Refused number place) left = refusedLine number place
+
+-- Planning answered and left something for the tables, and the text is that of its answer. Which plan is written is free where
+-- several are equally cheap, so the text is a function of what planning answered and wrote.
+pub record Listed (levelBytes jobBytes text : List ℕ) : Type 0 where
+  pub answered : PlanAnswer
+  pub left : Buffers
+  pub planned : PlanContract levelBytes jobBytes zeroBuffers left answered
+  pub text-is : text ≡ listingText levelBytes jobBytes answered left
+  -- "refused, number, place (1 to 10 ..)": no buffer is too short, and 11 is an overfull window
+  pub one-to-ten : (number place : ℕ) → answered ≡ Refused number place → (1 ≤ number) × (number ≤ 10)
+
+-- The whole promise: the length of a listing's text is answered, as many of its bytes as have room stand in the buffer, and the
+-- rest of the buffer stays.
+pub record ListingContract (levelBytes jobBytes before after : List ℕ) (answered : ℕ) : Type 0 where
+  pub text : List ℕ
+  pub listed : Listed levelBytes jobBytes text
+  pub length-is : answered ≡ length text
+  pub written : after ≡ take (length before) text ++ drop (length text) before
+  pub fits : length text ≤ textRoom
