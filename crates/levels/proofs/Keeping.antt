@@ -13,8 +13,8 @@ use Rattle.model.specs.Limits.{maxPoints}
 use Rattle.model.specs.Points.{Point, idlingPoint, pointAt, dropped, selectFrom, working}
 use Rattle.model.proofs.Selection.{select-length, select-next}
 use Rattle.levels.specs.declared.points.PointTable.{PointTable}
-use Rattle.levels.specs.PointTables.{pointTable, withPoint}
-use Rattle.levels.proofs.PointTables.{table-more}
+use Rattle.levels.specs.PointTables.{pointTable}
+use Rattle.levels.proofs.PointTables.{withPoint, table-more}
 
 module _ (ps : List Point) where
   -- of the first points those that are not dropped
@@ -29,9 +29,12 @@ module _ (ps : List Point) where
   unfolding kept working
   kept-all count all = rw (take-all count ps all)
 
-  pub kept-few : (count : ℕ) → count ≤ length ps → length (kept count) ≤ count
+  kept-few : (count : ℕ) → count ≤ length ps → length (kept count) ≤ count
   unfolding kept
   kept-few count inside = omega (arith, select-length (λ i. not (dropped ps i)) 0 (take count ps), length-take-le count ps inside)
+
+  pub kept-count : (i : ℕ) (table : PointTable) → i ≤ length ps → table ≡ pointTable (kept i) → table .count ≤ i
+  kept-count i table inside filled = rw filled (kept-few i inside)
 
   module _ (i : ℕ) (below : i < length ps) (table : PointTable) (filled : table ≡ pointTable (kept i)) where
     -- a dropped point is passed over

@@ -5,7 +5,7 @@ use mathlib.Core.Path.{_≡_, sym, _∙_, ap}
 use mathlib.Core.List.{List, [], _∷_, _++_}
 use Prim.Native.Nat.{ℕ, suc, _+_, _<_, _≤_}
 use native.Mathlib.Omega.{arith}
-use lib.ListN.{length, getD, take, set, length-append, List·getD-append}
+use lib.ListN.{length, take, set, length-append, List·getD-append}
 use lib.Seq.{getD-append-seam, take-suc, length-take-le}
 use Rattle.model.specs.Limits.{maxPoints}
 use Rattle.model.specs.Points.{Point, idlingPoint, pointAt}
@@ -13,15 +13,14 @@ use Rattle.model.proofs.Entries.{length-listOf, getD-listOf, listOf-getD, listO
 use Rattle.tables.specs.Column.{columnOf}
 use Rattle.tables.proofs.Column.{column-at, column-cong, column-more}
 use Rattle.levels.specs.declared.points.PointTable.{PointTable}
-use Rattle.levels.specs.PointTables.{pointTable, pointsOf, withPoint}
+use Rattle.levels.specs.PointTables.{pointIn, pointTable, pointsOf}
 
 module _ (table : PointTable) where
   pub length-pointsOf : length (pointsOf table) ≡ table .count
   unfolding pointsOf
   length-pointsOf = length-listOf (table .count) _
 
-  pub point-in : (i : ℕ) → i < table .count
-      → pointAt (pointsOf table) i ≡ record { frequency = getD (table .frequencies) i 0; power = getD (table .powers) i 0 }
+  pub point-in : (i : ℕ) → i < table .count → pointAt (pointsOf table) i ≡ pointIn (table .frequencies) (table .powers) i
   unfolding pointsOf
   point-in i below = getD-listOf (table .count) _ i _ below
 
@@ -31,6 +30,15 @@ unfolding pointsOf
 table-points ps few =
     listOf-cong (length ps) _ _ (λ i below. let inside : i < maxPoints = omega arith in rw (column-at, column-at))
     ∙ listOf-getD ps (idlingPoint 0)
+
+-- The arrays with one more point at the end.
+abbrev pub withPoint : PointTable → Point → PointTable
+withPoint table point =
+    record {
+      count = table .count + 1;
+      frequencies = set (table .frequencies) (table .count) (point .frequency);
+      powers = set (table .powers) (table .count) (point .power);
+    }
 
 -- the column of a field with one more point
 column-point : (field : Point → ℕ) (ps : List Point) (point : Point) → length ps < maxPoints

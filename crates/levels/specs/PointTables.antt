@@ -1,8 +1,8 @@
 -- Points in plain arrays.
-use Prim.Native.Nat.{ℕ, _+_, _≤_, _<_}
+use Prim.Native.Nat.{ℕ, _≤_, _<_}
 use mathlib.Core.Bool.{Bool, _&&_}
 use mathlib.Core.List.{List, []}
-use lib.ListN.{length, getD, set}
+use lib.ListN.{length, getD}
 use lib.Dec.{ltb}
 use Rattle.model.specs.declared.Level.{Level}
 use Rattle.model.specs.Limits.{maxPoints, maxFrequency, maxPower}
@@ -28,19 +28,17 @@ pointTable ps =
       powers = columnOf maxPoints (length ps) (λ i. pointAt ps i .power);
     }
 
+-- The point with a number, in arrays.
+abbrev pub pointIn : (frequencies powers : List ℕ) → ℕ → Point
+pointIn frequencies powers i = record { frequency = getD frequencies i 0; power = getD powers i 0 }
+
 -- The points that stand in arrays.
 unfoldable pub pointsOf : PointTable → List Point
-pointsOf table =
-    listOf (table .count) (λ i. record { frequency = getD (table .frequencies) i 0; power = getD (table .powers) i 0 })
+pointsOf table = listOf (table .count) (pointIn (table .frequencies) (table .powers))
 
--- The arrays with one more point at the end.
-abbrev pub withPoint : PointTable → Point → PointTable
-withPoint table point =
-    record {
-      count = table .count + 1;
-      frequencies = set (table .frequencies) (table .count) (point .frequency);
-      powers = set (table .powers) (table .count) (point .power);
-    }
+-- A count and two arrays, lent one by one, as a table.
+abbrev pub tableOf : (count : ℕ) → (frequencies powers : List ℕ) → PointTable
+tableOf count frequencies powers = record { count = count; frequencies = frequencies; powers = powers }
 
 -- Three numbers in order, none above a limit.
 pub record Ordered (a b c limit : ℕ) : Type 0 where

@@ -2,12 +2,11 @@
 ghost use mathlib.Core.Path.{_≡_};
 ghost use mathlib.Core.List.{[]};
 ghost use Prim.Native.Nat.{_<_, _≤_};
-ghost use Rattle.model.specs.Limits.{maxFrequency, maxVoltage};
+ghost use Rattle.model.specs.Limits.{maxFrequency, maxVoltage, maxPoints};
 ghost use Rattle.model.specs.Levels.{ValidLevels};
-ghost use Rattle.model.specs.Points.{points, pointAt, pointOfLevel};
+ghost use Rattle.model.specs.Points.{points, powerOf};
 ghost use Rattle.tables.specs.Tables.{levelsIn};
-ghost use Rattle.levels.specs.PointTables.{asPoint, pointTable, pointsOf, withPoint};
-use model::Level;
+ghost use Rattle.levels.specs.PointTables.{asPoint, pointIn, pointTable};
 use model::MAX_LEVELS;
 use model::MAX_POINTS;
 
@@ -40,11 +39,10 @@ pub(crate) fn all_points(
     };
     let mut i = 0;
     while i < count {
-        let level = Level {
-            frequency: frequencies[i],
-            voltage: voltages[i],
-        };
-        table = with_point(table, level_point(level));
+        let at = i + 1;
+        table.frequencies[at] = frequencies[i];
+        table.powers[at] = power_of(frequencies[i], voltages[i]);
+        table.count = at + 1;
         i += 1;
     }
     table
@@ -62,36 +60,24 @@ pub(crate) fn no_points() -> PointTable
 }
 
 // A level's power is frequency × voltage × voltage.
-fn level_point(level: Level) -> Point
-    requires { ⌜ (level .frequency ≤ maxFrequency) × (level .voltage ≤ maxVoltage) ⌝ }
-    ensures { λ r. ⌜ asPoint r ≡ pointOfLevel level ⌝ }
+fn power_of(frequency: u64, voltage: u64) -> u64
+    requires { ⌜ (frequency ≤ maxFrequency) × (voltage ≤ maxVoltage) ⌝ }
+    ensures { λ r. ⌜ r ≡ powerOf (record { frequency = frequency; voltage = voltage }) ⌝ }
 {
-    Point {
-        frequency: level.frequency,
-        power: level.frequency * level.voltage * level.voltage,
-    }
-}
-
-// The points with one more at the end.
-pub(crate) fn with_point(table: PointTable, point: Point) -> PointTable
-    requires { ⌜ table .count < 9 ⌝ }
-    ensures { λ r. ⌜ r ≡ withPoint table (asPoint point) ⌝ }
-{
-    let at = table.count;
-    let mut next = table;
-    next.frequencies[at] = point.frequency;
-    next.powers[at] = point.power;
-    next.count = at + 1;
-    next
+    frequency * voltage * voltage
 }
 
 // Point number i.
-pub(crate) fn point_at(table: PointTable, i: usize) -> Point
-    requires { ⌜ (i < table .count) × (table .count ≤ 9) ⌝ }
-    ensures { λ r. ⌜ asPoint r ≡ pointAt (pointsOf table) i ⌝ }
+pub(crate) fn point_at(
+    frequencies: &[u64; MAX_POINTS],
+    powers: &[u64; MAX_POINTS],
+    i: usize,
+) -> Point
+    requires { ⌜ i < maxPoints ⌝ }
+    ensures { λ r. ⌜ asPoint r ≡ pointIn (now (frequencies .entry)) (now (powers .entry)) i ⌝ }
 {
     Point {
-        frequency: table.frequencies[i],
-        power: table.powers[i],
+        frequency: frequencies[i],
+        power: powers[i],
     }
 }

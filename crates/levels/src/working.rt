@@ -6,14 +6,14 @@ ghost use Rattle.model.specs.Levels.{readLevels, ValidLevels};
 ghost use Rattle.model.specs.Points.{drops as dropsPoint, dropped as isDropped, working};
 ghost use Rattle.model.specs.Setting.{workingOf};
 ghost use Rattle.tables.specs.Tables.{levelsIn};
-ghost use Rattle.levels.specs.PointTables.{asPoint, pointTable, pointsOf, Ordered, SmallPoints, droppedFrom, workingRead};
+ghost use Rattle.levels.specs.PointTables.{asPoint, pointTable, tableOf, pointsOf, Ordered, SmallPoints, droppedFrom, workingRead};
 use crate::points::Point;
 use crate::points::PointTable;
 use crate::points::all_points;
 use crate::points::no_points;
 use crate::points::point_at;
-use crate::points::with_point;
 use model::MAX_LEVELS;
+use model::MAX_POINTS;
 use tables::Reading;
 use tables::read_levels;
 
@@ -45,20 +45,29 @@ pub fn working_levels(
     requires { ⌜ ValidLevels (levelsIn count (now frequencies) (now voltages)) ⌝ }
     ensures { λ r. ⌜ r ≡ pointTable (workingOf (levelsIn count (now (frequencies .entry)) (now (voltages .entry)))) ⌝ }
 {
-    working_points(all_points(frequencies, voltages, count))
+    let all = all_points(frequencies, voltages, count);
+    let all_frequencies = all.frequencies;
+    let all_powers = all.powers;
+    working_points(&all_frequencies, &all_powers, all.count)
 }
 
 // The points that are not dropped.
-fn working_points(all: PointTable) -> PointTable
-    requires { ⌜ SmallPoints all ⌝ }
-    ensures { λ r. ⌜ r ≡ pointTable (working (pointsOf all)) ⌝ }
+fn working_points(
+    frequencies: &[u64; MAX_POINTS],
+    powers: &[u64; MAX_POINTS],
+    count: usize,
+) -> PointTable
+    requires { ⌜ SmallPoints (tableOf count (now frequencies) (now powers)) ⌝ }
+    ensures { λ r. ⌜ r ≡ pointTable (working (pointsOf (tableOf count (now (frequencies .entry)) (now (powers .entry))))) ⌝ }
 {
     let mut table = no_points();
-    let count = all.count;
     let mut i = 0;
     while i < count {
-        if !dropped(all, i) {
-            table = with_point(table, point_at(all, i));
+        if !dropped(frequencies, powers, count, i) {
+            let at = table.count;
+            table.frequencies[at] = frequencies[i];
+            table.powers[at] = powers[i];
+            table.count = at + 1;
         }
         i += 1;
     }
@@ -66,14 +75,19 @@ fn working_points(all: PointTable) -> PointTable
 }
 
 // Whether some lower and some higher point drop point b.
-fn dropped(all: PointTable, b: usize) -> bool
-    requires { ⌜ SmallPoints all ⌝ }
-    requires { ⌜ b < all .count ⌝ }
-    ensures { λ r. ⌜ r ≡ isDropped (pointsOf all) b ⌝ }
+fn dropped(
+    frequencies: &[u64; MAX_POINTS],
+    powers: &[u64; MAX_POINTS],
+    count: usize,
+    b: usize,
+) -> bool
+    requires { ⌜ SmallPoints (tableOf count (now frequencies) (now powers)) ⌝ }
+    requires { ⌜ b < count ⌝ }
+    ensures { λ r. ⌜ r ≡ isDropped (pointsOf (tableOf count (now (frequencies .entry)) (now (powers .entry)))) b ⌝ }
 {
     let mut a = 0;
     while a < b {
-        if dropped_from(all, a, b) {
+        if dropped_from(frequencies, powers, count, a, b) {
             return true;
         }
         a += 1;
@@ -82,15 +96,22 @@ fn dropped(all: PointTable, b: usize) -> bool
 }
 
 // Whether the lower point a and some higher point drop point b.
-fn dropped_from(all: PointTable, a: usize, b: usize) -> bool
-    requires { ⌜ SmallPoints all ⌝ }
-    requires { ⌜ (a < b) × (b < all .count) ⌝ }
-    ensures { λ r. ⌜ r ≡ droppedFrom (pointsOf all) a b ⌝ }
+fn dropped_from(
+    frequencies: &[u64; MAX_POINTS],
+    powers: &[u64; MAX_POINTS],
+    count: usize,
+    a: usize,
+    b: usize,
+) -> bool
+    requires { ⌜ SmallPoints (tableOf count (now frequencies) (now powers)) ⌝ }
+    requires { ⌜ (a < b) × (b < count) ⌝ }
+    ensures { λ r. ⌜ r ≡ droppedFrom (pointsOf (tableOf count (now (frequencies .entry)) (now (powers .entry)))) a b ⌝ }
 {
-    let count = all.count;
+    let lower = point_at(frequencies, powers, a);
+    let point = point_at(frequencies, powers, b);
     let mut c = b + 1;
     while c < count {
-        if drops(point_at(all, a), point_at(all, b), point_at(all, c)) {
+        if drops(lower, point, point_at(frequencies, powers, c)) {
             return true;
         }
         c += 1;

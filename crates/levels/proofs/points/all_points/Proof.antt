@@ -1,13 +1,13 @@
 -- `points::all_points` meets its contract. The loop's invariant: the table has idling and the first `i` levels
 -- (proofs/Filling.antt). Assumes nothing.
-use mathlib.Core.Path.{_≡_, _∙_}
+use mathlib.Core.Path.{_≡_}
 use Prim.Native.Nat.{suc, _-_, _≤_}
 use native.Mathlib.Omega.{arith}
 use lib.ListN.{take}
 use Rattle.model.specs.Points.{points}
 use Rattle.tables.specs.Tables.{levelsIn}
 use Rattle.levels.specs.PointTables.{pointTable}
-use Rattle.levels.proofs.Filling.{idling-table, valid-count, level-high, level-next, table-count, levels-all}
+use Rattle.levels.proofs.Filling.{idling-table, valid-count, level-high, level-next, levels-all}
 use Rattle.levels.proofs.points.all_points.Statement.{statement}
 use Rattle.levels.proofs.points.all_points.Tie as tie
 
@@ -21,25 +21,44 @@ abbrev μ-loop : tie.MeasureT-loop
 loop-holds : tie.Need-loop-holds Inv-loop μ-loop
 loop-holds c = (omega arith, valid-count _ _ _ (c .pre) .1, idling-table _)
 
-mul-t10 : tie.Need-mul-t10 Inv-loop μ-loop
-mul-t10 c = omega arith
+add-at : tie.Need-add-at Inv-loop μ-loop
+add-at c = omega arith
 
-element-copy-out-t13 : tie.Need-element-copy-out-t13 Inv-loop μ-loop
-element-copy-out-t13 c = omega arith
+mul-table : tie.Need-mul-table Inv-loop μ-loop
+mul-table c = omega arith
 
-mul-t14 : tie.Need-mul-t14 Inv-loop μ-loop
-mul-t14 c = omega arith
+element-copy-out-table : tie.Need-element-copy-out-table Inv-loop μ-loop
+element-copy-out-table c = omega arith
 
-element-copy-out-t17 : tie.Need-element-copy-out-t17 Inv-loop μ-loop
-element-copy-out-t17 c = omega arith
+mul-table-2 : tie.Need-mul-table-2 Inv-loop μ-loop
+mul-table-2 c = omega arith
 
-level-point-requires : tie.Need-level-point-requires Inv-loop μ-loop
-level-point-requires c κs = level-high _ _ _ (c .before .before .before .before .pre) _ (omega arith)
+element-write-table : tie.Need-element-write-table Inv-loop μ-loop
+element-write-table c = omega arith
 
-with-point-requires : tie.Need-with-point-requires Inv-loop μ-loop
-with-point-requires c κs =
-    let table = c .before .before .before .before .loop in
-    omega (arith, table-count _ _ _ _ _ (table .inv .0) (table .inv .2))
+mul-power-of : tie.Need-mul-power-of Inv-loop μ-loop
+mul-power-of c = omega arith
+
+element-copy-out-power-of : tie.Need-element-copy-out-power-of Inv-loop μ-loop
+element-copy-out-power-of c = omega arith
+
+mul-power-of-2 : tie.Need-mul-power-of-2 Inv-loop μ-loop
+mul-power-of-2 c = omega arith
+
+element-copy-out-power-of-2 : tie.Need-element-copy-out-power-of-2 Inv-loop μ-loop
+element-copy-out-power-of-2 c = omega arith
+
+power-of-requires : tie.Need-power-of-requires Inv-loop μ-loop
+power-of-requires c κs = level-high _ _ _ (c .before .before .before .before .before .pre) _ (omega arith)
+
+mul-table-3 : tie.Need-mul-table-3 Inv-loop μ-loop
+mul-table-3 c = omega arith
+
+element-write-table-2 : tie.Need-element-write-table-2 Inv-loop μ-loop
+element-write-table-2 c = omega arith
+
+add-table : tie.Need-add-table Inv-loop μ-loop
+add-table c = omega arith
 
 add-i : tie.Need-add-i Inv-loop μ-loop
 add-i c = omega arith
@@ -49,11 +68,10 @@ loop-less c = omega arith
 
 loop-again : tie.Need-loop-again Inv-loop μ-loop
 loop-again c =
-    let turn = c .before .before .before .before in (
+    let turn = c .before .before .before .before .before in (
       omega arith,
       omega arith,
-      c .with-point .ensures
-          ∙ level-next _ _ _ _ _ _ (turn .loop-test .taken) (omega arith) (turn .before .loop .inv .2) (c .before .level-point .ensures),
+      level-next _ _ _ _ _ _ (omega arith) (omega arith) (turn .loop .inv .2) (c .power-of .ensures),
     )
 
 returns : tie.Need-returns Inv-loop μ-loop
@@ -66,12 +84,19 @@ all-points-spec =
     Inv-loop
     μ-loop
     loop-holds
-    mul-t10
-    element-copy-out-t13
-    mul-t14
-    element-copy-out-t17
-    level-point-requires
-    with-point-requires
+    add-at
+    mul-table
+    element-copy-out-table
+    mul-table-2
+    element-write-table
+    mul-power-of
+    element-copy-out-power-of
+    mul-power-of-2
+    element-copy-out-power-of-2
+    power-of-requires
+    mul-table-3
+    element-write-table-2
+    add-table
     add-i
     loop-less
     loop-again

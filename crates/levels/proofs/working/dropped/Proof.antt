@@ -7,15 +7,16 @@ use native.Mathlib.Omega.{arith}
 use borrow.Author.Count.{below-none, below-more}
 use Rattle.model.specs.Points.{dropped}
 use Rattle.model.proofs.Search.{someBelow-holds, someBelow-fails}
-use Rattle.levels.specs.PointTables.{pointsOf, droppedFrom}
+use Rattle.levels.specs.PointTables.{tableOf, pointsOf, droppedFrom}
 use Rattle.levels.proofs.working.dropped.Statement.{statement}
 use Rattle.levels.proofs.working.dropped.Tie as tie
 
 abbrev Inv-loop : tie.InvT-loop
-Inv-loop all b a₀ a = (a ≤ b) × ((k : ℕ) → k < a → droppedFrom (pointsOf all) k b ≡ false)
+Inv-loop frequencies powers count b a₀ a =
+    (a ≤ b) × ((k : ℕ) → k < a → droppedFrom (pointsOf (tableOf count frequencies powers)) k b ≡ false)
 
 abbrev μ-loop : tie.MeasureT-loop
-μ-loop all b a₀ a = b - a
+μ-loop frequencies powers count b a₀ a = b - a
 
 loop-holds : tie.Need-loop-holds Inv-loop μ-loop
 loop-holds c = (omega arith, below-none _)

@@ -10,10 +10,14 @@ all-points-requires : tie.Need-all-points-requires
 all-points-requires c κs = search needs
 
 working-points-requires : tie.Need-working-points-requires
-working-points-requires c κs = rw (c .all-points .ensures) (points-small _ (c .before .pre))
+working-points-requires c κs =
+    let made = c .before .before .before .before in
+    rw (made .all-points .ensures) (points-small _ (made .before .pre))
 
 returns : tie.Need-returns
-returns c = c .working-points .ensures ∙ rw (c .before .all-points .ensures, points-held _ (c .before .before .pre))
+returns c =
+    let made = c .before .before .before .before .before in
+    c .working-points .ensures ∙ rw (made .all-points .ensures, points-held _ (made .before .pre))
 
 pub working-levels-spec : {M : Type 1} → statement M
 working-levels-spec = tie.close (tie.spec all-points-requires working-points-requires returns)
