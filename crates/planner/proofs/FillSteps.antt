@@ -14,15 +14,14 @@ use Rattle.model.specs.Limits.{maxFrequency, maxDeadline}
 use Rattle.model.specs.Sum.{onlyIf}
 use Rattle.model.specs.Plans.{sharesIn}
 use Rattle.planner.specs.declared.workload.Workload.{Workload}
-use Rattle.planner.specs.declared.search.Found.{Found}
 use Rattle.planner.specs.Placement.{Placing, loadOf}
-use Rattle.planner.specs.Arrays.{numbersIn, problemIn, KeptPast}
-use Rattle.planner.specs.Reaching.{Reaching}
-use Rattle.planner.specs.Moves.{PathPasses, CanWalk, ToMove, CanMove, Moves}
+use Rattle.planner.specs.Arrays.{numbersIn, problemIn}
+use Rattle.planner.specs.Reaching.{SearchState, Reaching}
+use Rattle.planner.specs.Moves.{PathPasses, CanWalk, ToMove, CanMove, MovedTables}
 use Rattle.planner.specs.PlacedTables.{CanFill, Filled}
-use Rattle.planner.proofs.StoredLoads.{capacity-most}
+use Rattle.planner.proofs.Capacity.{capacity-most}
 
-module _ {work : Workload} {table loads : List ℕ} {found : Found} {band left : ℕ} (can : CanFill work table loads found band left) where
+module _ {work : Workload} {table loads holders : List ℕ} {found : SearchState} {band left : ℕ} (can : CanFill work table loads holders found band left) where
   pub target-inside : found .target < work .intervals
   target-inside = omega (arith, can .room .to, can .reaching .now .end-below)
 
@@ -61,11 +60,12 @@ module _ {work : Workload} {table loads : List ℕ} {found : Found} {band left :
           room = rw (← add-one band) (omega (arith, fill-room, can .stored .loads-are (found .target) target-inside));
         }
 
-    pub fill-move : PathPasses work table found amount → CanMove work table found amount
+    pub fill-move : PathPasses work table found amount → CanMove work table holders found amount
     fill-move passes =
         record {
           sound = can .sound;
           table-length = can .stored .table-length;
+          holding = can .holding;
           passes = passes;
           prices = can .prices;
           job = can .job;
@@ -75,29 +75,30 @@ module _ {work : Workload} {table loads : List ℕ} {found : Found} {band left :
         }
 
     -- after the move
-    pub filled : {after : List ℕ} → KeptPast (work .intervals * work .jobs) table after → Moves work table after found amount
-        → Filled work table after (set loads (found .target) (getD loads (found .target) 0 + amount)) found band left amount
-    filled {after} kept moves =
+    pub filled : {after after-holders : List ℕ} → MovedTables work table after after-holders found amount
+        → Filled work table after (set loads (found .target) (getD loads (found .target) 0 + amount)) after-holders found band left amount
+    filled {after} {after-holders} moved =
         record {
           some = some;
           most = within;
           stored =
               record {
-                table-length = omega (arith, kept .same-length, can .stored .table-length);
+                table-length = omega (arith, moved .kept .same-length, can .stored .table-length);
                 loads-length = length-set loads (found .target) _ ∙ can .stored .loads-length;
                 loads-are = λ i inside. loads-are i inside (ℕ-discrete i (found .target));
                 loads-past = λ i past.
                     getD-set-other loads (found .target) i _ 0 (λ e. omega (arith, target-inside)) ∙ can .stored .loads-past i past;
               };
-          kept = kept;
+          holding = moved .holding;
+          kept = moved .kept;
           placing = λ prices job placing reaching.
-              moves prices job left band (to-move prices job placing reaching) .placing (left - amount) (omega arith);
+              moved .moves prices job left band (to-move prices job placing reaching) .placing (left - amount) (omega arith);
         }
       where
         own-moves : (i : ℕ) → i < work .intervals
             → loadOf (problemIn work) (sharesIn (work .jobs) after) i
             ≡ loadOf (problemIn work) (sharesIn (work .jobs) table) i + onlyIf (eqb i (found .target)) amount
-        own-moves = moves _ _ left band (to-move (can .prices) (can .job) (can .placing) (can .reaching)) .loads
+        own-moves = moved .moves _ _ left band (to-move (can .prices) (can .job) (can .placing) (can .reaching)) .loads
 
         loads-are : (i : ℕ) → i < work .intervals → Dec (i ≡ found .target)
             → numbersIn (set loads (found .target) (getD loads (found .target) 0 + amount)) i ≡ loadOf (problemIn work) (sharesIn (work .jobs) after) i

@@ -1,16 +1,18 @@
 -- Laws for the proofs of the functions.
+pub mod Words
 pub mod JobOrder
 pub mod Listing
 pub mod ReachedRange
 pub mod ReachedPrices
 pub mod GrownShares
+pub mod HeldJobs
 pub mod PathLimit
 pub mod PathSteps
 pub mod RaisedPrices
 pub mod FullRange
 pub mod SiteProblem
 pub mod SharesTable
-pub mod StoredLoads
+pub mod Capacity
 pub mod StoredPrices
 pub mod PriceRanges
 pub mod RisingPrices

@@ -1,27 +1,28 @@
 -- Laws of the search's arrays: what they hold at the start and with one job more, and what holds while an interval is
--- scanned job by job.
+-- scanned.
 -- Assumes nothing.
 use mathlib.Core.Path.{_≡_, refl, sym, _∙_}
-use mathlib.Core.Bool.{Bool, true, false, cond}
+use mathlib.Core.Bool.{cond}
 use mathlib.Core.Logic.{_⊎_, inl, inr}
 use mathlib.Core.List.{List}
-use Prim.Native.Nat.{ℕ, zero, suc, _+_, _<_, _≤_}
+use Prim.Native.Nat.{ℕ, _+_, _-_, _^_, _<_, _≤_}
 use native.Mathlib.Nat.{eq-or-lt-of-le, le-of-suc-le-suc}
 use native.Mathlib.Decide.{ℕ-discrete}
 use native.Mathlib.Numerals.{add-one}
 use native.Mathlib.Omega.{arith}
 use lib.Dec.{ltb}
-use lib.ListN.{length, getD, set, replicate, length-set, length-replicate}
+use lib.Bits.{bitAnd, and-le-l}
+use lib.ListN.{length, set, length-set}
 use lib.Seq.{getD-set-same, getD-set-other}
-use borrow.Author.Count.{below-more}
 use borrow.Author.Tests.{lt-ltb, le-ltb}
 use Rattle.model.specs.Limits.{maxJobs}
 use Rattle.model.specs.Plans.{Shares}
-use Rattle.model.proofs.Numbers.{true≢false}
-use Rattle.planner.specs.declared.search.Found.{Found}
+use Rattle.model.proofs.Numbers.{lt-or-le}
+use Rattle.planner.specs.Words.{bit}
 use Rattle.planner.specs.Placement.{Problem, SoundProblem, Appended, IsListed, OnlyOpen}
 use Rattle.planner.specs.Arrays.{numbersIn}
-use Rattle.planner.specs.Reaching.{onlyJob, withJob, Reaching, ToScan, ScanOf}
+use Rattle.planner.specs.Reaching.{SearchState, onlyJob, withJob, Reaching, ToScan, ScanOf}
+use Rattle.planner.proofs.Words.{bit-most, bit-all, bit-and, bit-least, bit-take, bit-take-other}
 use Rattle.planner.proofs.Listing.{listed-kept}
 use Rattle.planner.proofs.ReachedRange.{reached-few, reached-start, reached-more}
 
@@ -47,55 +48,50 @@ listed-before {count} {value} {before} {after} more j (s, below, is) = go (eq-or
     go (inl e) = inr (sym (rw e at is) ∙ more .here)
     go (inr earlier) = inl (s, earlier, sym (more .same s earlier) ∙ is)
 
-no-mark : (n j : ℕ) → getD (replicate n false) j false ≡ false
-no-mark zero j = refl
-no-mark (suc n) zero = refl
-no-mark (suc n) (suc j) = no-mark n j
-
--- a mark at one more place
-module _ (marks : List Bool) (job : ℕ) (inside : job < length marks) where
-  marked-one : (j : ℕ) → getD (set marks job true) j false ≡ true → (j ≡ job) ⊎ (getD marks j false ≡ true)
+-- a set without one of its jobs
+module _ (set job : ℕ) (has : bit job set ≡ 1) where
+  marked-one : (j : ℕ) → bit j (set - 2 ^ job) ≡ 0 → (j ≡ job) ⊎ (bit j set ≡ 0)
   marked-one j e = go (ℕ-discrete j job)
     where
-      go : Dec (j ≡ job) → (j ≡ job) ⊎ (getD marks j false ≡ true)
+      go : Dec (j ≡ job) → (j ≡ job) ⊎ (bit j set ≡ 0)
       go (yes here) = inl here
-      go (no other) = inr (sym (getD-set-other marks job j true false other) ∙ e)
+      go (no other) = inr (sym (bit-take-other job set has j other) ∙ e)
 
-  unmarked-one : (j : ℕ) → getD (set marks job true) j false ≡ false → (j ≡ job → ⊥) × (getD marks j false ≡ false)
+  unmarked-one : (j : ℕ) → bit j (set - 2 ^ job) ≡ 1 → (j ≡ job → ⊥) × (bit j set ≡ 1)
   unmarked-one j e =
-      let other : j ≡ job → ⊥ = λ here. true≢false (sym (getD-set-same marks job true false inside) ∙ rw here at e) in
-      (other, sym (getD-set-other marks job j true false other) ∙ e)
+      let other : j ≡ job → ⊥ = λ here. let one = rw here at e in omega (arith, bit-take job set has) in
+      (other, sym (bit-take-other job set has j other) ∙ e)
 
 -- at the start of the search
 pub reaching-start : {p : Problem} {shares : Shares} → SoundProblem p → p .jobs ≤ maxJobs → {job : ℕ} → job < p .jobs
-    → Reaching p shares job (onlyJob job (p .first job) (p .last job))
-reaching-start {p} {shares} sound most {job} below =
+    → (reached source : List ℕ) → length reached ≡ maxJobs → length source ≡ maxJobs
+    → Reaching p shares job (onlyJob job (p .first job) (p .last job) (set reached 0 job) source)
+reaching-start {p} {shares} sound most {job} below reached source jobs-length sources-length =
     record {
       now = reached-start sound below _ _ origin;
-      marked = λ j inside e. (0, omega arith, origin ∙ sym (its j (marked-one (replicate maxJobs false) job room j e)));
-      unmarked = λ j inside e listed. unmarked-one (replicate maxJobs false) job room j e .0 (only j listed);
-      reached-length = length-set (replicate maxJobs 0) 0 job ∙ length-replicate {A = ℕ} maxJobs 0;
-      source-length = length-replicate {A = ℕ} maxJobs 0;
-      listed-length = length-set (replicate maxJobs false) job true ∙ length-replicate maxJobs false;
+      marked = λ j inside e. (0, omega arith, origin ∙ sym (its j (omega arith) (marked-one (2 ^ maxJobs - 1) job all j e)));
+      unmarked = λ j inside e listed. unmarked-one (2 ^ maxJobs - 1) job all j e .0 (only j listed);
+      reached-length = length-set reached 0 job ∙ jobs-length;
+      source-length = sources-length;
     }
   where
-    origin : numbersIn (set (replicate maxJobs 0) 0 job) 0 ≡ job
-    origin = getD-set-same (replicate maxJobs 0) 0 job 0 (omega arith)
+    origin : numbersIn (set reached 0 job) 0 ≡ job
+    origin = getD-set-same reached 0 job 0 (omega arith)
 
-    room : job < length (replicate maxJobs false)
-    room = omega (arith, length-replicate maxJobs false)
+    all : bit job (2 ^ maxJobs - 1) ≡ 1
+    all = bit-all maxJobs job (omega arith)
 
-    its : (j : ℕ) → (j ≡ job) ⊎ (getD (replicate maxJobs false) j false ≡ true) → j ≡ job
-    its j (inl here) = here
-    its j (inr e) = absurd (true≢false (sym e ∙ no-mark maxJobs j))
+    its : (j : ℕ) → j < maxJobs → (j ≡ job) ⊎ (bit j (2 ^ maxJobs - 1) ≡ 0) → j ≡ job
+    its j small (inl here) = here
+    its j small (inr e) = absurd (omega (arith, bit-all maxJobs j small))
 
-    only : (j : ℕ) → IsListed 1 (numbersIn (set (replicate maxJobs 0) 0 job)) j → j ≡ job
+    only : (j : ℕ) → IsListed 1 (numbersIn (set reached 0 job)) j → j ≡ job
     only j (s, first, is) = let e : s ≡ 0 = omega arith in sym (rw e at is) ∙ origin
 
--- a job that is not marked, with a share in a reached interval
-module _ {p : Problem} (sound : SoundProblem p) (most : p .jobs ≤ maxJobs) {shares : Shares} (shut : OnlyOpen p shares) {job : ℕ} {found : Found}
+-- a job that is not listed, with a share in a reached interval
+module _ {p : Problem} (sound : SoundProblem p) (most : p .jobs ≤ maxJobs) {shares : Shares} (shut : OnlyOpen p shares) {job : ℕ} {found : SearchState}
     (reaching : Reaching p shares job found) {interval j : ℕ} (from : found .start ≤ interval) (to : interval < found .end)
-    (below : j < p .jobs) (share : 0 < shares interval j) (new : getD (found .listed) j false ≡ false) where
+    (below : j < p .jobs) (share : 0 < shares interval j) (new : bit j (found .unlisted) ≡ 1) where
   -- there is room for it in the list
   pub reach-room : found .count < maxJobs
   reach-room =
@@ -110,21 +106,17 @@ module _ {p : Problem} (sound : SoundProblem p) (most : p .jobs ≤ maxJobs) {sh
             rw (add-one (found .count))
             (reached-more sound (reaching .now) shut from to below share (reaching .unmarked j below new) jobs-more
             (appended-set (found .source) (found .count) interval (omega (arith, reach-room, reaching .source-length))));
-        marked = λ k inside e. listed-now k inside (marked-one (found .listed) j marks-room k e);
-        unmarked = λ k inside e listed. let (other, before) = unmarked-one (found .listed) j marks-room k e in
+        marked = λ k inside e. listed-now k inside (marked-one (found .unlisted) j new k e);
+        unmarked = λ k inside e listed. let (other, before) = unmarked-one (found .unlisted) j new k e in
             not-now k (reaching .unmarked k inside before) other (listed-before jobs-more k listed);
         reached-length = length-set (found .reached) (found .count) j ∙ reaching .reached-length;
         source-length = length-set (found .source) (found .count) interval ∙ reaching .source-length;
-        listed-length = length-set (found .listed) j true ∙ reaching .listed-length;
       }
     where
       jobs-more : Appended (found .count) (numbersIn (found .reached)) (numbersIn (set (found .reached) (found .count) j)) j
       jobs-more = appended-set (found .reached) (found .count) j (omega (arith, reach-room, reaching .reached-length))
 
-      marks-room : j < length (found .listed)
-      marks-room = omega (arith, reaching .listed-length)
-
-      listed-now : (k : ℕ) → k < p .jobs → (k ≡ j) ⊎ (getD (found .listed) k false ≡ true)
+      listed-now : (k : ℕ) → k < p .jobs → (k ≡ j) ⊎ (bit k (found .unlisted) ≡ 0)
           → IsListed (found .count + 1) (numbersIn (set (found .reached) (found .count) j)) k
       listed-now k inside (inl here) = (found .count, omega arith, jobs-more .here ∙ sym here)
       listed-now k inside (inr e) = listed-kept (omega arith) (jobs-more .same) (reaching .marked k inside e)
@@ -134,9 +126,9 @@ module _ {p : Problem} (sound : SoundProblem p) (most : p .jobs ≤ maxJobs) {sh
       not-now k before other (inl listed) = before listed
       not-now k before other (inr here) = other here
 
-module _ {p : Problem} {shares : Shares} {job : ℕ} {before : Found} {interval : ℕ} (to-scan : ToScan p shares job before interval) where
-  -- no job yet
-  pub scan-start : ScanOf p shares job before interval 0 before
+module _ {p : Problem} {shares : Shares} {job holders : ℕ} {before : SearchState} {interval : ℕ} (to-scan : ToScan p shares job holders before interval) where
+  -- no job yet: those that are not listed are new
+  pub scan-start : ScanOf p shares job before interval (bitAnd holders (before .unlisted)) before
   scan-start =
       record {
         reaching = to-scan .reaching;
@@ -144,46 +136,62 @@ module _ {p : Problem} {shares : Shares} {job : ℕ} {before : Found} {interval 
         end-least = omega arith;
         longer = omega arith;
         same = λ s below. refl;
-        listed = λ j below. absurd (omega arith);
+        listed = λ j below share none.
+            to-scan .reaching .marked j below
+            (omega (arith, bit-and j holders (before .unlisted), to-scan .held j below, bit-most j (before .unlisted)));
+        new-small = omega (arith, and-le-l holders (before .unlisted), to-scan .held-small);
+        new-below = new-below;
+        new-share = λ j one. omega (arith, to-scan .held j (new-below j one), common j one);
+        new-unlisted = λ j one. omega (arith, common j one, bit-most j (before .unlisted));
         same-target = refl;
       }
+    where
+      common : (j : ℕ) → bit j (bitAnd holders (before .unlisted)) ≡ 1 → (1 ≤ bit j holders) × (1 ≤ bit j (before .unlisted))
+      common j one = (omega (arith, bit-and j holders (before .unlisted)), omega (arith, bit-and j holders (before .unlisted)))
 
-  module _ {n : ℕ} {found : Found} (scan : ScanOf p shares job before interval n found) where
-    -- a job that has no share, or is listed
-    pub scan-pass : (0 < shares interval n → IsListed (found .count) (numbersIn (found .reached)) n) → ScanOf p shares job before interval (n + 1) found
-    scan-pass here =
+      new-below : (j : ℕ) → bit j (bitAnd holders (before .unlisted)) ≡ 1 → j < p .jobs
+      new-below j one = go (lt-or-le j (p .jobs))
+        where
+          go : (j < p .jobs) ⊎ (p .jobs ≤ j) → j < p .jobs
+          go (inl below) = below
+          go (inr past) = absurd (omega (arith, to-scan .held-past j past, common j one))
+
+  module _ {new : ℕ} {found : SearchState} (scan : ScanOf p shares job before interval new found) (j : ℕ) (one : bit j new ≡ 1) where
+    pub scan-room : found .count < maxJobs
+    scan-room =
+        reach-room (to-scan .sound) (to-scan .jobs-most) (to-scan .shut) (scan .reaching) {interval = interval}
+        (omega (arith, scan .start-most, to-scan .from)) (omega (arith, scan .end-least, to-scan .to)) (scan .new-below j one) (scan .new-share j one)
+        (scan .new-unlisted j one)
+
+    pub scan-least : 2 ^ j ≤ found .unlisted
+    scan-least = bit-least j (found .unlisted) (scan .new-unlisted j one)
+
+    -- a job that is not listed yet
+    pub scan-reach : ScanOf p shares job before interval (new - 2 ^ j) (withJob found j interval (p .first j) (p .last j))
+    scan-reach =
         record {
-          reaching = scan .reaching;
-          start-most = scan .start-most;
-          end-least = scan .end-least;
-          longer = scan .longer;
-          same = scan .same;
-          listed = below-more _ n (scan .listed) here;
+          reaching =
+              reaching-more (to-scan .sound) (to-scan .jobs-most) (to-scan .shut) (scan .reaching)
+              (omega (arith, scan .start-most, to-scan .from)) (omega (arith, scan .end-least, to-scan .to)) (scan .new-below j one)
+              (scan .new-share j one) (scan .new-unlisted j one);
+          start-most = omega (arith, scan .start-most);
+          end-least = omega (arith, scan .end-least);
+          longer = omega (arith, scan .longer);
+          same = λ s h. jobs-more .same s (omega (arith, scan .longer)) ∙ scan .same s h;
+          listed = λ k below share none. listed-now k below share (marked-one new j one k none);
+          new-small = omega (arith, scan .new-small);
+          new-below = λ k has. scan .new-below k (unmarked-one new j one k has .1);
+          new-share = λ k has. scan .new-share k (unmarked-one new j one k has .1);
+          new-unlisted = λ k has.
+              let (other, before-it) = unmarked-one new j one k has in
+              bit-take-other j (found .unlisted) (scan .new-unlisted j one) k other ∙ scan .new-unlisted k before-it;
           same-target = scan .same-target;
         }
+      where
+        jobs-more : Appended (found .count) (numbersIn (found .reached)) (numbersIn (set (found .reached) (found .count) j)) j
+        jobs-more = appended-set (found .reached) (found .count) j (omega (arith, scan-room, scan .reaching .reached-length))
 
-    module _ (below : n < p .jobs) (share : 0 < shares interval n) (new : getD (found .listed) n false ≡ false) where
-      pub scan-room : found .count < maxJobs
-      scan-room =
-          reach-room (to-scan .sound) (to-scan .jobs-most) (to-scan .shut) (scan .reaching) {interval = interval}
-          (omega (arith, scan .start-most, to-scan .from)) (omega (arith, scan .end-least, to-scan .to)) below share new
-
-      -- a job that is not listed yet
-      pub scan-reach : ScanOf p shares job before interval (n + 1) (withJob found n interval (p .first n) (p .last n))
-      scan-reach =
-          record {
-            reaching =
-                reaching-more (to-scan .sound) (to-scan .jobs-most) (to-scan .shut) (scan .reaching)
-                (omega (arith, scan .start-most, to-scan .from)) (omega (arith, scan .end-least, to-scan .to)) below share new;
-            start-most = omega (arith, scan .start-most);
-            end-least = omega (arith, scan .end-least);
-            longer = omega (arith, scan .longer);
-            same = λ s h. jobs-more .same s (omega (arith, scan .longer)) ∙ scan .same s h;
-            listed =
-                below-more _ n (λ j h has. listed-kept (omega arith) (jobs-more .same) (scan .listed j h has))
-                (λ has. (found .count, omega arith, jobs-more .here));
-            same-target = scan .same-target;
-          }
-        where
-          jobs-more : Appended (found .count) (numbersIn (found .reached)) (numbersIn (set (found .reached) (found .count) n)) n
-          jobs-more = appended-set (found .reached) (found .count) n (omega (arith, scan-room, scan .reaching .reached-length))
+        listed-now : (k : ℕ) → k < p .jobs → 0 < shares interval k → (k ≡ j) ⊎ (bit k new ≡ 0)
+            → IsListed (found .count + 1) (numbersIn (set (found .reached) (found .count) j)) k
+        listed-now k below share (inl here) = (found .count, omega arith, jobs-more .here ∙ sym here)
+        listed-now k below share (inr none) = listed-kept (omega arith) (jobs-more .same) (scan .listed k below share none)

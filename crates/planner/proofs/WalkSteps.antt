@@ -8,30 +8,29 @@ use lib.ListN.{length}
 use Rattle.model.specs.Limits.{maxJobs}
 use Rattle.model.specs.Plans.{Shares, sharesIn}
 use Rattle.planner.specs.declared.workload.Workload.{Workload}
-use Rattle.planner.specs.declared.search.Found.{Found}
 use Rattle.planner.specs.Placement.{Problem, firstOpen, Walking}
 use Rattle.planner.specs.Arrays.{numbersIn, problemIn}
-use Rattle.planner.specs.Reaching.{Reaching}
+use Rattle.planner.specs.Reaching.{SearchState, Reaching}
 use Rattle.planner.specs.Moves.{PathPasses, CanWalk}
 use Rattle.planner.proofs.ReachedRange.{reached-few}
 use Rattle.planner.proofs.PathLimit.{first-open, walking-start, walking-step, walking-end}
 use Rattle.planner.proofs.SharesTable.{place-in}
 
 -- the list of reached jobs fits its array, and the jobs' numbers fit the arrays of jobs
-pub reaching-fits : {p : Problem} {shares : Shares} {job : ℕ} {found : Found} → Reaching p shares job found → p .jobs ≤ maxJobs
+pub reaching-fits : {p : Problem} {shares : Shares} {job : ℕ} {found : SearchState} → Reaching p shares job found → p .jobs ≤ maxJobs
     → (found .count ≤ maxJobs) × ((s : ℕ) → s < found .count → numbersIn (found .reached) s < maxJobs)
 reaching-fits reaching most =
     (omega (arith, reached-few (reaching .now)), λ s below. omega (arith, reaching .now .job-below s below))
 
 -- the numbers of the jobs on a path fall
-pub path-falls : {p : Problem} {shares : Shares} {job : ℕ} {found : Found} → Reaching p shares job found → {s next : ℕ} → 0 < s → s < found .count
+pub path-falls : {p : Problem} {shares : Shares} {job : ℕ} {found : SearchState} → Reaching p shares job found → {s next : ℕ} → 0 < s → s < found .count
     → next ≡ firstOpen p (found .count) (numbersIn (found .reached)) (numbersIn (found .source) s) → next < s
 path-falls {p} {found = found} reaching {s} more below is-first =
     let within : s ≤ found .count = omega arith in
     rw is-first (first-open p (found .count) (numbersIn (found .reached)) _ within (reaching .now .source-reached s more below) .0)
 
 -- The path was walked up to an interval in which reached job s is the first that is open.
-pub record WalkAt (work : Workload) (table : List ℕ) (found : Found) (most limit s : ℕ) : Type 0 where
+pub record WalkAt (work : Workload) (table : List ℕ) (found : SearchState) (most limit s : ℕ) : Type 0 where
   pub limit-most : limit ≤ most
   pub gap : ℕ
   pub bound : ℕ
@@ -39,7 +38,7 @@ pub record WalkAt (work : Workload) (table : List ℕ) (found : Found) (most lim
   pub walking : Walking (problemIn work) (sharesIn (work .jobs) table) (found .count) (numbersIn (found .reached)) (numbersIn (found .source))
       (found .target) limit gap bound
 
-module _ {work : Workload} {table : List ℕ} {found : Found} (can : CanWalk work table found) {most : ℕ} where
+module _ {work : Workload} {table : List ℕ} {found : SearchState} (can : CanWalk work table found) {most : ℕ} where
   -- at the target
   pub walk-start : 1 ≤ most → {s : ℕ} → s ≡ firstOpen (problemIn work) (found .count) (numbersIn (found .reached)) (found .target)
       → WalkAt work table found most most s

@@ -1,11 +1,12 @@
 -- What is to be placed, and shares and loads, in plain arrays.
-use Prim.Native.Nat.{ℕ, _+_, _*_, _<_, _≤_}
+use Prim.Native.Nat.{ℕ, _*_, _^_, _<_, _≤_, min}
 use mathlib.Core.Path.{_≡_}
 use mathlib.Core.List.{List}
 use lib.ListN.{length, getD, drop}
 use Rattle.model.specs.Limits.{maxLevels, maxFrequency, maxJobs, maxDeadline, maxCycles, maxIntervals}
-use Rattle.model.specs.Plans.{sharesIn}
+use Rattle.model.specs.Plans.{Shares, sharesIn}
 use Rattle.planner.specs.declared.workload.Workload.{Workload}
+use Rattle.planner.specs.Words.{bit}
 use Rattle.planner.specs.Placement.{Problem, SoundProblem, loadOf}
 
 -- The numbers of an array by place, 0 past its end.
@@ -41,6 +42,53 @@ pub record Stored (work : Workload) (table loads : List ℕ) : Type 0 where
   pub loads-length : length loads ≡ maxIntervals
   pub loads-are : (i : ℕ) → i < work .intervals → numbersIn loads i ≡ loadOf (problemIn work) (sharesIn (work .jobs) table) i
   pub loads-past : (i : ℕ) → work .intervals ≤ i → numbersIn loads i ≡ 0
+
+-- For each interval a word has the jobs with a share there.
+pub record Holding (p : Problem) (shares : Shares) (holders : List ℕ) : Type 0 where
+  pub holders-length : length holders ≡ maxIntervals
+  pub held : (i j : ℕ) → i < p .intervals → j < p .jobs → bit j (numbersIn holders i) ≡ min 1 (shares i j)
+  pub held-past : (i j : ℕ) → i < p .intervals → p .jobs ≤ j → bit j (numbersIn holders i) ≡ 0
+  pub held-small : (i : ℕ) → i < p .intervals → numbersIn holders i < 2 ^ maxJobs
+
+-- A workload with other windows, and with other lengths and frequencies too.
+abbrev pub lentWindows : Workload → (jobs : ℕ) → (first last : List ℕ) → Workload
+lentWindows work jobs first last =
+    record {
+      jobs = jobs;
+      intervals = work .intervals;
+      bands = work .bands;
+      first = first;
+      last = last;
+      cycles = work .cycles;
+      size = work .size;
+      frequency = work .frequency;
+    }
+
+abbrev pub lentSizes : Workload → (jobs : ℕ) → (first last size : List ℕ) → Workload
+lentSizes work jobs first last size =
+    record {
+      jobs = jobs;
+      intervals = work .intervals;
+      bands = work .bands;
+      first = first;
+      last = last;
+      cycles = work .cycles;
+      size = size;
+      frequency = work .frequency;
+    }
+
+abbrev pub lentArrays : Workload → (jobs : ℕ) → (first last size frequency : List ℕ) → Workload
+lentArrays work jobs first last size frequency =
+    record {
+      jobs = jobs;
+      intervals = work .intervals;
+      bands = work .bands;
+      first = first;
+      last = last;
+      cycles = work .cycles;
+      size = size;
+      frequency = frequency;
+    }
 
 -- A table of which only the first `count` numbers may have changed.
 pub record KeptPast (count : ℕ) (before after : List ℕ) : Type 0 where

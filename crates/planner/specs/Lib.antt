@@ -1,4 +1,5 @@
 -- The invariants of the planner.
+pub mod Words
 pub mod Placement
 pub mod RangesFit
 pub mod SiteProblem

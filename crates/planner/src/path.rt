@@ -3,62 +3,77 @@
 ghost use mathlib.Core.Path.{_≡_};
 ghost use Prim.Native.Nat.{ℕ, _+_, _*_, _^_, _<_, _≤_};
 ghost use lib.ListN.{length, getD};
-ghost use Rattle.model.specs.Limits.{maxJobs};
+ghost use Rattle.model.specs.Limits.{maxJobs, maxIntervals};
 ghost use Rattle.planner.specs.Placement.{Problem, firstOpen};
-ghost use Rattle.planner.specs.Arrays.{numbersIn, KeptPast};
-ghost use Rattle.planner.specs.Reaching.{withWindows};
-ghost use Rattle.planner.specs.Moves.{putAt, takenAt, PathPasses, CanWalk, CanMove, Moves};
+ghost use Rattle.planner.specs.Arrays.{numbersIn};
+ghost use Rattle.planner.specs.Reaching.{stateOf, withWindows};
+ghost use Rattle.planner.specs.Moves.{putAt, takenAt, putHolder, takenHolder, WindowsWalk, WindowsPass, WindowsMove, WindowsMoved};
 use crate::search::Found;
-use crate::workload::Workload;
+use model::MAX_INTERVALS;
 use model::MAX_JOBS;
 
 // How many cycles can go along the path, of the most that are wanted.
-pub(crate) fn path_limit(work: Workload, shares: &[u32], found: Found, most: u64) -> u64
-    requires { ⌜ CanWalk work (now shares) found ⌝ }
+pub(crate) fn path_limit(
+    first: &[usize; MAX_JOBS],
+    last: &[usize; MAX_JOBS],
+    jobs: usize,
+    shares: &[u32],
+    reached: &[usize; MAX_JOBS],
+    source: &[usize; MAX_JOBS],
+    found: Found,
+    most: u64,
+) -> u64
+    requires { ⌜ WindowsWalk jobs (now first) (now last) (now shares) (stateOf found (now reached) (now source)) ⌝ }
     requires { ⌜ 1 ≤ most ⌝ }
-    ensures { λ r. ⌜ (1 ≤ r) × (r ≤ most) × PathPasses work (now (shares .entry)) found r ⌝ }
+    ensures { λ r. ⌜ (1 ≤ r) × (r ≤ most)
+        × WindowsPass jobs (now (first .entry)) (now (last .entry)) (now (shares .entry)) (stateOf found (now (reached .entry)) (now (source .entry))) r ⌝ }
 {
     let mut limit = most;
-    let mut s = first_open(
-        &work.first,
-        &work.last,
-        &found.reached,
-        found.count,
-        found.target,
-    );
+    let mut s = first_open(first, last, reached, found.count, found.target);
     while s > 0 {
-        let gap = found.source[s];
-        let share = share_of(shares, work.jobs, gap, found.reached[s]);
+        let gap = source[s];
+        let share = share_of(shares, jobs, gap, reached[s]);
         if share < limit {
             limit = share;
         }
-        s = first_open(&work.first, &work.last, &found.reached, found.count, gap);
+        s = first_open(first, last, reached, found.count, gap);
     }
     limit
 }
 
 // Moves an amount along the path, and so places it. Only the load of the target changes.
-pub(crate) fn move_along(work: Workload, shares: &mut [u32], found: Found, amount: u32)
-    requires { ⌜ CanMove work (now shares) found amount ⌝ }
-    ensures { λ _. ⌜ KeptPast (work .intervals * work .jobs) (now (shares .entry)) (now (shares .exit))
-        × Moves work (now (shares .entry)) (now (shares .exit)) found amount ⌝ }
+pub(crate) fn move_along(
+    first: &[usize; MAX_JOBS],
+    last: &[usize; MAX_JOBS],
+    jobs: usize,
+    shares: &mut [u32],
+    holders: &mut [u64; MAX_INTERVALS],
+    reached: &[usize; MAX_JOBS],
+    source: &[usize; MAX_JOBS],
+    found: Found,
+    amount: u32,
+)
+    requires { ⌜ WindowsMove jobs (now first) (now last) (now shares) (now holders) (stateOf found (now reached) (now source)) amount ⌝ }
+    ensures { λ _. ⌜ WindowsMoved jobs (now (first .entry)) (now (last .entry)) (now (shares .entry)) (now (holders .entry))
+        (now (shares .exit)) (now (holders .exit)) (stateOf found (now (reached .entry)) (now (source .entry))) amount ⌝ }
 {
     let mut gap = found.target;
-    let mut s = first_open(&work.first, &work.last, &found.reached, found.count, gap);
+    let mut s = first_open(first, last, reached, found.count, gap);
     while s > 0 {
-        let source = found.source[s];
-        shift(shares, work.jobs, found.reached[s], source, gap, amount);
-        gap = source;
-        s = first_open(&work.first, &work.last, &found.reached, found.count, gap);
+        let job = reached[s];
+        put(shares, holders, jobs, job, gap, amount);
+        gap = source[s];
+        take(shares, holders, jobs, job, gap, amount);
+        s = first_open(first, last, reached, found.count, gap);
     }
-    put(shares, work.jobs, found.reached[0], gap, amount);
+    put(shares, holders, jobs, reached[0], gap, amount);
 }
 
 // The number of the first reached job that is open in an interval, the count where none is.
-fn first_open<'a>(
-    first: &'a [usize; MAX_JOBS],
-    last: &'a [usize; MAX_JOBS],
-    reached: &'a [usize; MAX_JOBS],
+fn first_open(
+    first: &[usize; MAX_JOBS],
+    last: &[usize; MAX_JOBS],
+    reached: &[usize; MAX_JOBS],
     count: usize,
     interval: usize,
 ) -> usize
@@ -86,20 +101,46 @@ fn share_of(shares: &[u32], jobs: usize, interval: usize, job: usize) -> u64
     shares[interval * jobs + job] as u64
 }
 
-// Moves an amount of a job from one interval to another.
-fn shift(shares: &mut [u32], jobs: usize, job: usize, from: usize, to: usize, amount: u32)
-    requires { ⌜ (from * jobs + job < length (now shares)) × (amount ≤ getD (now shares) (from * jobs + job) 0) ⌝ }
-    requires { ⌜ (to * jobs + job < length (now shares)) × (getD (now shares) (to * jobs + job) 0 + amount < 2 ^ 32) ⌝ }
-    ensures { λ _. ⌜ now (shares .exit) ≡ takenAt (putAt (now (shares .entry)) (to * jobs + job) amount) (from * jobs + job) amount ⌝ }
+// Adds an amount to the share of a job, and the job to the interval's set where it had no share.
+fn put(
+    shares: &mut [u32],
+    holders: &mut [u64; MAX_INTERVALS],
+    jobs: usize,
+    job: usize,
+    interval: usize,
+    amount: u32,
+)
+    requires { ⌜ (interval * jobs + job < length (now shares)) × (getD (now shares) (interval * jobs + job) 0 + amount < 2 ^ 32) ⌝ }
+    requires { ⌜ (interval < maxIntervals) × (job < maxJobs) × (length (now holders) ≡ maxIntervals) ⌝ }
+    requires { ⌜ (getD (now shares) (interval * jobs + job) 0 ≡ 0 → getD (now holders) interval 0 + 2 ^ job < 2 ^ 64) ⌝ }
+    ensures { λ _. ⌜ (now (shares .exit) ≡ putAt (now (shares .entry)) (interval * jobs + job) amount)
+        × (now (holders .exit) ≡ putHolder (now (holders .entry)) interval job (getD (now (shares .entry)) (interval * jobs + job) 0)) ⌝ }
 {
-    put(shares, jobs, job, to, amount);
-    shares[from * jobs + job] -= amount;
+    let place = interval * jobs + job;
+    if shares[place] == 0 {
+        holders[interval] += 1u64 << job;
+    }
+    shares[place] += amount;
 }
 
-// Adds an amount to the share of a job.
-fn put(shares: &mut [u32], jobs: usize, job: usize, interval: usize, amount: u32)
-    requires { ⌜ (interval * jobs + job < length (now shares)) × (getD (now shares) (interval * jobs + job) 0 + amount < 2 ^ 32) ⌝ }
-    ensures { λ _. ⌜ now (shares .exit) ≡ putAt (now (shares .entry)) (interval * jobs + job) amount ⌝ }
+// Takes an amount from the share of a job, and the job out of the interval's set where no share is left.
+fn take(
+    shares: &mut [u32],
+    holders: &mut [u64; MAX_INTERVALS],
+    jobs: usize,
+    job: usize,
+    interval: usize,
+    amount: u32,
+)
+    requires { ⌜ (interval * jobs + job < length (now shares)) × (amount ≤ getD (now shares) (interval * jobs + job) 0) ⌝ }
+    requires { ⌜ (interval < maxIntervals) × (job < maxJobs) × (length (now holders) ≡ maxIntervals) ⌝ }
+    requires { ⌜ (getD (now shares) (interval * jobs + job) 0 ≡ amount → 2 ^ job ≤ getD (now holders) interval 0) ⌝ }
+    ensures { λ _. ⌜ (now (shares .exit) ≡ takenAt (now (shares .entry)) (interval * jobs + job) amount)
+        × (now (holders .exit) ≡ takenHolder (now (holders .entry)) interval job (getD (now (shares .entry)) (interval * jobs + job) 0) amount) ⌝ }
 {
-    shares[interval * jobs + job] += amount;
+    let place = interval * jobs + job;
+    if shares[place] == amount {
+        holders[interval] -= 1u64 << job;
+    }
+    shares[place] -= amount;
 }

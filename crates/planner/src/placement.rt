@@ -6,13 +6,16 @@ ghost use Rattle.model.specs.Limits.{maxIntervals};
 ghost use Rattle.planner.specs.Placement.{Raised};
 ghost use Rattle.planner.specs.RangesFit.{RangesFit};
 ghost use Rattle.planner.specs.Arrays.{numbersIn, problemIn, SoundWorkload, KeptPast};
-ghost use Rattle.planner.specs.PlacedTables.{PlacedTables, CanPlace, CanFill, Filled};
+ghost use Rattle.planner.specs.Reaching.{stateOf};
+ghost use Rattle.planner.specs.PlacedTables.{PlacedTables, SizesFill, SizesFilled, ArraysPlace, ArraysPlaced};
 use crate::path::move_along;
 use crate::path::path_limit;
 use crate::search::Found;
 use crate::search::search;
 use crate::workload::Workload;
 use model::MAX_INTERVALS;
+use model::MAX_JOBS;
+use model::MAX_POINTS;
 
 // Places all jobs, from an empty table. Prices are bands, counted from 0.
 pub fn place(
@@ -30,10 +33,28 @@ pub fn place(
     clear(shares, work.intervals * work.jobs);
     *loads = [0; MAX_INTERVALS];
     *prices = [0; MAX_INTERVALS];
-    let mut job = 0;
+    let mut holders = [0u64; MAX_INTERVALS];
     let jobs = work.jobs;
+    let first = work.first;
+    let last = work.last;
+    let size = work.size;
+    let frequency = work.frequency;
+    let mut job = 0;
     while job < jobs {
-        place_job(work, shares, loads, prices, job);
+        let cycles = work.cycles[job];
+        place_job(
+            &first,
+            &last,
+            &size,
+            &frequency,
+            jobs,
+            cycles,
+            shares,
+            loads,
+            &mut holders,
+            prices,
+            job,
+        );
         job += 1;
     }
 }
@@ -53,22 +74,55 @@ fn clear(shares: &mut [u32], count: usize)
 
 // Places the next job. Where no interval has room at a band, the prices of all that is reached are raised past it.
 fn place_job(
-    work: Workload,
+    first: &[usize; MAX_JOBS],
+    last: &[usize; MAX_JOBS],
+    size: &[u64; MAX_INTERVALS],
+    frequency: &[u64; MAX_POINTS],
+    jobs: usize,
+    cycles: u64,
     shares: &mut [u32],
     loads: &mut [u64; MAX_INTERVALS],
+    holders: &mut [u64; MAX_INTERVALS],
     prices: &mut [u64; MAX_INTERVALS],
     job: usize,
 )
-    requires { ⌜ CanPlace work (now shares) (now loads) (now prices) job ⌝ }
-    ensures { λ _. ⌜ PlacedTables work (now (shares .exit)) (now (loads .exit)) (now (prices .exit)) (job + 1)
-        × KeptPast (work .intervals * work .jobs) (now (shares .entry)) (now (shares .exit)) ⌝ }
+    requires { ⌜ ArraysPlace jobs (now first) (now last) (now size) (now frequency) cycles (now shares) (now loads) (now holders) (now prices) job ⌝ }
+    ensures { λ _. ⌜ ArraysPlaced jobs (now (first .entry)) (now (last .entry)) (now (size .entry)) (now (frequency .entry)) cycles
+        (now (shares .entry)) (now (loads .entry)) (now (holders .entry)) (now (prices .entry))
+        (now (shares .exit)) (now (loads .exit)) (now (holders .exit)) (now (prices .exit)) job ⌝ }
 {
-    let mut left = work.cycles[job];
+    let mut reached = [0; MAX_JOBS];
+    let mut source = [0; MAX_JOBS];
+    let mut left = cycles;
     let mut band = 0;
     while left > 0 {
-        let found = search(work, shares, loads, job, band);
+        let speed = frequency[band + 1];
+        let found = search(
+            first,
+            last,
+            size,
+            speed,
+            loads,
+            holders,
+            job,
+            &mut reached,
+            &mut source,
+        );
         if found.target < MAX_INTERVALS {
-            left -= fill(work, shares, loads, found, band, left);
+            left -= fill(
+                first,
+                last,
+                size,
+                speed,
+                jobs,
+                shares,
+                loads,
+                holders,
+                &reached,
+                &source,
+                found,
+                left,
+            );
         } else {
             band += 1;
             raise(prices, found.start, found.end, band as u64);
@@ -78,21 +132,39 @@ fn place_job(
 
 // Moves as many of the cycles left as possible along the path from a target with room, and answers how many.
 fn fill(
-    work: Workload,
+    first: &[usize; MAX_JOBS],
+    last: &[usize; MAX_JOBS],
+    size: &[u64; MAX_INTERVALS],
+    frequency: u64,
+    jobs: usize,
     shares: &mut [u32],
     loads: &mut [u64; MAX_INTERVALS],
+    holders: &mut [u64; MAX_INTERVALS],
+    reached: &[usize; MAX_JOBS],
+    source: &[usize; MAX_JOBS],
     found: Found,
-    band: usize,
     left: u64,
 ) -> u64
-    requires { ⌜ CanFill work (now shares) (now loads) found band left ⌝ }
-    ensures { λ r. ⌜ Filled work (now (shares .entry)) (now (shares .exit)) (now (loads .exit)) found band left r ⌝ }
+    requires { ⌜ SizesFill jobs (now first) (now last) (now size) frequency (now shares) (now loads) (now holders) (stateOf found (now reached) (now source)) left ⌝ }
+    ensures { λ r. ⌜ SizesFilled jobs (now (first .entry)) (now (last .entry)) (now (size .entry)) frequency
+        (now (shares .entry)) (now (loads .entry)) (now (holders .entry)) (now (shares .exit)) (now (loads .exit)) (now (holders .exit))
+        (stateOf found (now (reached .entry)) (now (source .entry))) left r ⌝ }
 {
     let target = found.target;
-    let room = work.size[target] * work.frequency[band + 1] - loads[target];
+    let room = size[target] * frequency - loads[target];
     let most = if room < left { room } else { left };
-    let amount = path_limit(work, shares, found, most);
-    move_along(work, shares, found, amount as u32);
+    let amount = path_limit(first, last, jobs, shares, reached, source, found, most);
+    move_along(
+        first,
+        last,
+        jobs,
+        shares,
+        holders,
+        reached,
+        source,
+        found,
+        amount as u32,
+    );
     loads[target] += amount;
     amount
 }
