@@ -6,13 +6,11 @@ use Prim.Native.Nat.{ℕ}
 use lib.ListN.{length}
 use Rattle.model.specs.declared.Level.{Level}
 use Rattle.model.specs.declared.Job.{Job}
-use Rattle.model.specs.Outcome.{answer}
 use Rattle.model.specs.Intervals.{boundsOf}
 use Rattle.model.specs.Steps.{sharesOf}
-use Rattle.model.specs.Checking.{check, figureOf}
+use Rattle.model.specs.Checking.{figureOf}
 use Rattle.model.specs.Accepted.{Accepted}
-use Rattle.model.specs.Planning.{comesOut}
-use Rattle.model.specs.Demands.{ValidTables, LongEnough, BestPlan}
+use Rattle.model.specs.Demands.{ValidTables, LongEnough}
 use Rattle.model.proofs.Levels.{levels-valid}
 use Rattle.model.proofs.Jobs.{jobs-valid}
 use Rattle.model.proofs.BoundsOf.{bounds-of}
@@ -25,13 +23,10 @@ use Rattle.planning.specs.PlanAnswers.{outcomeOf}
 use Rattle.demands.specs.ThreeDemands.{
   Call,
   PlanComesOut,
-  planWritten,
-  pricesWritten,
   DemandOne,
   SuchAPlan,
   PricesFit,
   DemandTwo,
-  WrittenPlan,
   NoPlan,
   DemandThree,
 }

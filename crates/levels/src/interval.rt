@@ -93,7 +93,7 @@ fn setting_of(working: PointTable, length: u64, load: u64) -> SettingAnswer
 }
 
 // The band of a load above 0 that fits, counted from 0: the first whose upper end, over the length, is not below the load.
-pub fn band_of(working: PointTable, length: u64, load: u64) -> usize
+fn band_of(working: PointTable, length: u64, load: u64) -> usize
     requires { ⌜ SmallPoints working ⌝ }
     requires { ⌜ length ≤ maxDeadline ⌝ }
     ensures { λ r. ⌜ r ≡ bandOf (pointsOf working) length load ⌝ }

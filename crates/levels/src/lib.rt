@@ -4,7 +4,6 @@ mod points;
 mod working;
 
 pub use interval::SettingAnswer;
-pub use interval::band_of;
 pub use interval::setting;
 pub use points::PointTable;
 pub use working::read_working_levels;

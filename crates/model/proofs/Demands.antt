@@ -28,7 +28,6 @@ use Rattle.model.specs.Demands.{
   WindowComesOut,
   WindowNeverServed,
   ServedComesOut,
-  BestPlan,
   PlannedIsBest,
 }
 use Rattle.model.proofs.Levels.{levels-valid}

@@ -14,7 +14,7 @@ use Rattle.model.specs.Limits.{maxDeadline}
 use Rattle.model.specs.Outcome.{refused, answer}
 use Rattle.model.specs.Levels.{readLevels}
 use Rattle.model.specs.Jobs.{readJobs, ValidJobs}
-use Rattle.model.specs.Points.{Point, topFrequency}
+use Rattle.model.specs.Points.{Point}
 use Rattle.model.specs.Intervals.{boundsOf, intervalCount, openPairs}
 use Rattle.model.specs.Windows.{Window, spareOf, earliestOverfull}
 use Rattle.model.specs.Planning.{comesOut, refusal, planning}

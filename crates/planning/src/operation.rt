@@ -1,11 +1,11 @@
 // Planning, from bytes.
 ghost use mathlib.Core.Path.{_≡_};
 ghost use mathlib.Core.Option.{none};
-ghost use Prim.Native.Nat.{_<_, _≤_};
-ghost use Rattle.model.specs.Limits.{maxFrequency, maxDeadline};
+ghost use Prim.Native.Nat.{_≤_};
+ghost use Rattle.model.specs.Limits.{maxFrequency};
 ghost use Rattle.model.specs.Jobs.{ValidJobs};
 ghost use Rattle.model.specs.Bands.{frequencyOf, bandCount};
-ghost use Rattle.model.specs.Windows.{spareOf, earliestOverfull};
+ghost use Rattle.model.specs.Windows.{earliestOverfull};
 ghost use Rattle.tables.specs.Tables.{jobsIn};
 ghost use Rattle.levels.specs.PointTables.{pointsOf};
 ghost use Rattle.planning.specs.Workloads.{WorkingTable};

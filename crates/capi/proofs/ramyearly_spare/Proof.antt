@@ -3,7 +3,7 @@ use mir.Syntax.{w64}
 use mir.Val.{SFits}
 use mir.Facts.{toZ-ofZ}
 use Rattle.capi.proofs.Cases.{spare-found, spare-refused}
-use mathlib.Core.Path.{_∙_, sym, ap}
+use mathlib.Core.Path.{_∙_, sym}
 use borrow.Author.Needs.{needs}
 use Rattle.capi.proofs.ramyearly_spare.Statement.{statement}
 use Rattle.capi.proofs.ramyearly_spare.Tie as tie

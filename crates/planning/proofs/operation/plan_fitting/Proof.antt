@@ -1,7 +1,6 @@
 -- `operation::plan_fitting` meets its contract: each way out is a stage of planning (proofs/PlanStages.antt).
 -- Assumes nothing.
 use Prim.Native.Nat.{_≤_}
-use native.Mathlib.Omega.{arith}
 use lib.ListN.{length}
 use denote.Ref.{now}
 use borrow.Author.Needs.{needs}
