@@ -108,7 +108,8 @@ static double time_calls(void (*call)(void), long count)
     return now() - start;
 }
 
-static double time_peer(const struct peer *peer, long count)
+/* Solving alone. */
+static double time_solving(const struct peer *peer, long count)
 {
     double sum = 0, start = now();
     for (long i = 0; i < count; i++) {
@@ -124,9 +125,25 @@ static double time_peer(const struct peer *peer, long count)
     return peer->reset ? sum : now() - start;
 }
 
-/* One thing that is timed: a call of ours, or a peer. */
+/* Building the model, solving it, and giving it back. */
+static double time_whole(const struct peer *peer, long count)
+{
+    double start = now();
+    for (long i = 0; i < count; i++) {
+        peer->load(&network);
+        if (peer->reset)
+            peer->reset();
+        if (!peer->solve())
+            wrong(peer->name, "no optimum");
+        peer->unload();
+    }
+    return now() - start;
+}
+
+/* One thing that is timed: a call of ours, or a peer, which is timed by a function of its own. */
 struct timed {
     void (*call)(void);
+    double (*by)(const struct peer *peer, long count);
     const struct peer *peer;
     long count; /* calls in a sample */
     double samples[REPEATS];
@@ -134,7 +151,7 @@ struct timed {
 
 static double sample(const struct timed *t, long count)
 {
-    return t->peer ? time_peer(t->peer, count) : time_calls(t->call, count);
+    return t->peer ? t->by(t->peer, count) : time_calls(t->call, count);
 }
 
 static void choose_count(struct timed *t)
@@ -207,27 +224,35 @@ static void compare(const struct peer *peer)
     same_optimum(peer->name, &t);
 }
 
-static void time_site(void)
+/* Samples are taken in turns, so that what slows the machine slows all. */
+static void take_samples(struct timed *timed, int count)
 {
-    struct timed timed[5 + PEERS] = { { .call = plan }, { .call = check }, { .call = settings }, { .call = spare }, { .call = plain } };
-    enum { SETTINGS = 2 };
-    for (int p = 0; p < PEERS; p++) {
-        timed[5 + p].peer = peers[p];
-        peers[p]->load(&network);
-    }
-    for (int k = 0; k < 5 + PEERS; k++)
+    for (int k = 0; k < count; k++)
         choose_count(&timed[k]);
     for (int r = 0; r < REPEATS; r++)
-        for (int k = 0; k < 5 + PEERS; k++)
+        for (int k = 0; k < count; k++)
             timed[k].samples[r] = sample(&timed[k], timed[k].count) / (double)timed[k].count;
-    printf("%s,%d,%d,%d,%d,%d,%u", site.family, site.jobs, site.seed, network.intervals, network.pairs, network.bands, planned.steps);
-    for (int k = 0; k < 5 + PEERS; k++)
-        printf(",%.1f", median(timed[k].samples) / (k == SETTINGS ? planned.intervals : 1));
-    printf("\n");
+}
+
+static void time_site(void)
+{
+    enum { SETTINGS = 2, OURS = 5, SOLVING = OURS, WHOLE = OURS + PEERS, ALL = OURS + 2 * PEERS };
+    struct timed timed[ALL] = { { .call = plan }, { .call = check }, { .call = settings }, { .call = spare }, { .call = plain } };
+    for (int p = 0; p < PEERS; p++) {
+        timed[SOLVING + p] = (struct timed){ .by = time_solving, .peer = peers[p] };
+        timed[WHOLE + p] = (struct timed){ .by = time_whole, .peer = peers[p] };
+        peers[p]->load(&network);
+    }
+    take_samples(timed, WHOLE);
     for (int p = 0; p < PEERS; p++) {
         compare(peers[p]);
         peers[p]->unload();
     }
+    take_samples(timed + WHOLE, PEERS);
+    printf("%s,%d,%d,%d,%d,%d,%u", site.family, site.jobs, site.seed, network.intervals, network.pairs, network.bands, planned.steps);
+    for (int k = 0; k < ALL; k++)
+        printf(",%.1f", median(timed[k].samples) / (k == SETTINGS ? planned.intervals : 1));
+    printf("\n");
 }
 
 static void times(void)
@@ -235,6 +260,8 @@ static void times(void)
     printf("family,jobs,seed,intervals,pairs,bands,steps,plan,check,setting,spare,plain");
     for (int p = 0; p < PEERS; p++)
         printf(",%s", peers[p]->name);
+    for (int p = 0; p < PEERS; p++)
+        printf(",%s whole", peers[p]->name);
     printf("\n");
     for (int family = 0; family < family_count; family++)
         for (int n = 0; n < SIZES; n++)

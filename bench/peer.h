@@ -1,5 +1,5 @@
-/* A general solver. It is given a network, then solves it as often as it is asked, each time from nothing; only solving is
- * timed. It answers the cycles of each band in the optimum. */
+/* A general solver. It is given a network, then solves it as often as it is asked, each time from nothing. Solving is timed alone,
+ * and together with building and giving back the model. It answers the cycles of each band in the optimum. */
 #ifndef PEER_H
 #define PEER_H
 
