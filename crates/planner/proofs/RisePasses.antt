@@ -80,10 +80,10 @@ module _ {work : Workload} {table before : List ℕ} (can : CanRise work table b
       }
 
   module _ {prices : List ℕ} {job : ℕ} {changed : Bool} (pass : RisePass work table before prices job changed) where
-    room-most : roomLeft (problemIn work) (numbersIn prices) ≤ roomLeft (problemIn work) (numbersIn before)
+    room-most : roomLeft (work .intervals) (work .bands) (numbersIn prices) ≤ roomLeft (work .intervals) (work .bands) (numbersIn before)
     room-most = go (true-or-false changed)
       where
-        go : (changed ≡ true) ⊎ (changed ≡ false) → roomLeft (problemIn work) (numbersIn prices) ≤ roomLeft (problemIn work) (numbersIn before)
+        go : (changed ≡ true) ⊎ (changed ≡ false) → roomLeft (work .intervals) (work .bands) (numbersIn prices) ≤ roomLeft (work .intervals) (work .bands) (numbersIn before)
         go (inl e) = omega (arith, pass .falls e)
         go (inr e) = rw (pass .same e) (omega arith)
 

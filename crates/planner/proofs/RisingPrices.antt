@@ -62,7 +62,7 @@ module _ {p : Problem} (sound : SoundProblem p) {shares : Shares} {fitting : ℕ
             smallest = after-smallest;
           }
 
-      pub room-falls : roomLeft p after < roomLeft p prices
+      pub room-falls : roomLeft (p .intervals) (p .bands) after < roomLeft (p .intervals) (p .bands) prices
       room-falls =
           let lower = in-window (raise .lower-last) in
           sum-strict (p .intervals) (raise .lower) lower (λ k inside. let up = raised-up (raise .raised) k in omega arith)

@@ -10,7 +10,7 @@ use Rattle.model.specs.Sum.{sum}
 use Rattle.model.specs.Plans.{Shares, sharesIn}
 use Rattle.planner.specs.declared.workload.Workload.{Workload}
 use Rattle.planner.specs.Placement.{Problem, Raised, Open, Priced, loadOf}
-use Rattle.planner.specs.Arrays.{numbersIn, problemIn, SoundWorkload, Stored}
+use Rattle.planner.specs.Arrays.{numbersIn, problemIn, SoundWorkload, Stored, lentWindows}
 
 -- The least band, of `bands`, that ends at or above a load.
 pub record LeastBand (frequency : ℕ → ℕ) (bands size load band : ℕ) : Type 0 where
@@ -63,8 +63,8 @@ module _ (p : Problem) (shares : Shares) where
     pub smallest : (others : ℕ → ℕ) → Priced p shares others → (i : ℕ) → i < p .intervals → prices i ≤ others i
 
 -- How far the prices are below the last band, added.
-abbrev pub roomLeft : Problem → (prices : ℕ → ℕ) → ℕ
-roomLeft p prices = sum (p .intervals) (λ i. p .bands - prices i)
+abbrev pub roomLeft : (intervals bands : ℕ) → (prices : ℕ → ℕ) → ℕ
+roomLeft intervals bands prices = sum intervals (λ i. bands - prices i)
 
 -- Shares and loads are stored, and some prices fit them.
 pub record CanPrice (work : Workload) (table loads : List ℕ) : Type 0 where
@@ -86,6 +86,40 @@ pub record CanRise (work : Workload) (table prices : List ℕ) : Type 0 where
 pub record RisePass (work : Workload) (table before after : List ℕ) (count : ℕ) (changed : Bool) : Type 0 where
   pub prices-length : length after ≡ maxIntervals
   pub rising : Rising (problemIn work) (sharesIn (work .jobs) table) (numbersIn after)
-  pub falls : changed ≡ true → roomLeft (problemIn work) (numbersIn after) < roomLeft (problemIn work) (numbersIn before)
+  pub falls : changed ≡ true → roomLeft (work .intervals) (work .bands) (numbersIn after) < roomLeft (work .intervals) (work .bands) (numbersIn before)
   pub same : changed ≡ false → after ≡ before
   pub settled : changed ≡ false → (j : ℕ) → j < count → Settled (problemIn work) (sharesIn (work .jobs) table) (numbersIn after) j
+
+-- A workload of counts and arrays that are lent; prices do not depend on its cycles.
+abbrev pub workloadWith : (cycles : List ℕ) → (jobs intervals bands : ℕ) → (first last size frequency : List ℕ) → Workload
+workloadWith cycles jobs intervals bands first last size frequency =
+    record {
+      jobs = jobs;
+      intervals = intervals;
+      bands = bands;
+      first = first;
+      last = last;
+      cycles = cycles;
+      size = size;
+      frequency = frequency;
+    }
+
+-- To a function that is lent all of a workload but its cycles: some prices fit, with some cycles, and with any such the
+-- smallest are found.
+abbrev pub ArraysPrice : (jobs intervals bands : ℕ) → (first last size frequency : List ℕ) → (table loads : List ℕ) → Type 0
+ArraysPrice jobs intervals bands first last size frequency table loads =
+    (cycles : List ℕ) × CanPrice (workloadWith cycles jobs intervals bands first last size frequency) table loads
+
+abbrev pub ArraysPriced : (jobs intervals bands : ℕ) → (first last size frequency : List ℕ) → (table loads prices : List ℕ) → Type 0
+ArraysPriced jobs intervals bands first last size frequency table loads prices =
+    (cycles : List ℕ) → CanPrice (workloadWith cycles jobs intervals bands first last size frequency) table loads
+    → SmallestPriced (problemIn (workloadWith cycles jobs intervals bands first last size frequency)) (sharesIn jobs table) (numbersIn prices)
+
+-- To a function that is lent windows alone: prices can rise, of some such workload, and all jobs are gone over, of each.
+abbrev pub WindowsRise : (jobs : ℕ) → (first last : List ℕ) → (table prices : List ℕ) → Type 0
+WindowsRise jobs first last table prices = (work : Workload) × CanRise (lentWindows work jobs first last) table prices
+
+abbrev pub WindowsRisen : (jobs : ℕ) → (first last : List ℕ) → (table before after : List ℕ) → (changed : Bool) → Type 0
+WindowsRisen jobs first last table before after changed =
+    (work : Workload) → CanRise (lentWindows work jobs first last) table before
+    → RisePass (lentWindows work jobs first last) table before after jobs changed

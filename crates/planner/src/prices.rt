@@ -4,56 +4,76 @@ ghost use Prim.Native.Nat.{ℕ, _*_, _<_, _≤_};
 ghost use lib.ListN.{length};
 ghost use Rattle.model.specs.Limits.{maxIntervals, maxLevels, maxDeadline, maxFrequency};
 ghost use Rattle.model.specs.Plans.{sharesIn};
-ghost use Rattle.planner.specs.Arrays.{numbersIn, problemIn, SoundWorkload};
-ghost use Rattle.planner.specs.RisingPrices.{LeastBand, HighestPrice, IsBelow, JobStep, SmallestPriced, CanPrice, CanRise, RisePass};
+ghost use Rattle.planner.specs.Arrays.{numbersIn};
+ghost use Rattle.planner.specs.RisingPrices.{LeastBand, HighestPrice, IsBelow, JobStep, ArraysPrice, ArraysPriced, WindowsRise, WindowsRisen};
 use crate::placement::raise;
-use crate::workload::Workload;
 use model::MAX_INTERVALS;
+use model::MAX_JOBS;
 use model::MAX_POINTS;
 
 // The prices rise from the least ones that the loads allow, until a pass over the jobs changes nothing.
-pub fn smallest_prices(
-    work: Workload,
+// The arrays of a workload are lent, since for few jobs a copy takes longer than a pass; at one lifetime, so that they can be
+// fields of one struct.
+pub fn smallest_prices<'a>(
+    jobs: usize,
+    intervals: usize,
+    bands: usize,
+    first: &'a [usize; MAX_JOBS],
+    last: &'a [usize; MAX_JOBS],
+    size: &'a [u64; MAX_INTERVALS],
+    frequency: &'a [u64; MAX_POINTS],
     shares: &[u32],
     loads: &[u64; MAX_INTERVALS],
     prices: &mut [u64; MAX_INTERVALS],
 )
-    requires { ⌜ CanPrice work (now shares) (now loads) ⌝ }
-    ensures { λ _. ⌜ SmallestPriced (problemIn work) (sharesIn (work .jobs) (now (shares .entry))) (numbersIn (now (prices .exit)))
+    requires { ⌜ ArraysPrice jobs intervals bands (now first) (now last) (now size) (now frequency) (now shares) (now loads) ⌝ }
+    ensures { λ _. ⌜ ArraysPriced jobs intervals bands (now (first .entry)) (now (last .entry)) (now (size .entry)) (now (frequency .entry))
+        (now (shares .entry)) (now (loads .entry)) (now (prices .exit))
         × (length (now (prices .exit)) ≡ maxIntervals) ⌝ }
 {
-    least_prices(work, loads, prices);
-    while raise_all(work, shares, prices) {}
+    least_prices(intervals, bands, size, frequency, loads, prices);
+    while raise_all(jobs, first, last, shares, prices) {}
 }
 
 // The least price that each load allows.
-fn least_prices(work: Workload, loads: &[u64; MAX_INTERVALS], prices: &mut [u64; MAX_INTERVALS])
-    requires { ⌜ SoundWorkload work ⌝ }
+fn least_prices(
+    intervals: usize,
+    bands: usize,
+    size: &[u64; MAX_INTERVALS],
+    frequency: &[u64; MAX_POINTS],
+    loads: &[u64; MAX_INTERVALS],
+    prices: &mut [u64; MAX_INTERVALS],
+)
+    requires { ⌜ (intervals ≤ maxIntervals) × (bands ≤ maxLevels) ⌝ }
+    requires { ⌜ ((i : ℕ) → i < intervals → numbersIn (now size) i ≤ maxDeadline) × ((k : ℕ) → k ≤ bands → numbersIn (now frequency) k ≤ maxFrequency) ⌝ }
     ensures { λ _. ⌜ (length (now (prices .exit)) ≡ maxIntervals)
-        × ((i : ℕ) → i < work .intervals
-        → LeastBand (numbersIn (work .frequency)) (work .bands) (numbersIn (work .size) i) (numbersIn (now (loads .entry)) i) (numbersIn (now (prices .exit)) i)) ⌝ }
+        × ((i : ℕ) → i < intervals
+        → LeastBand (numbersIn (now (frequency .entry))) bands (numbersIn (now (size .entry)) i) (numbersIn (now (loads .entry)) i) (numbersIn (now (prices .exit)) i)) ⌝ }
 {
     *prices = [0; MAX_INTERVALS];
-    let intervals = work.intervals;
     let mut i = 0;
     while i < intervals {
-        let size = work.size[i];
-        let band = least_band(&work.frequency, work.bands, size, loads[i]);
+        let band = least_band(frequency, bands, size[i], loads[i]);
         prices[i] = band as u64;
         i += 1;
     }
 }
 
 // Goes over the jobs once, and answers whether a price was raised.
-fn raise_all(work: Workload, shares: &[u32], prices: &mut [u64; MAX_INTERVALS]) -> bool
-    requires { ⌜ CanRise work (now shares) (now prices) ⌝ }
-    ensures { λ r. ⌜ RisePass work (now (shares .entry)) (now (prices .entry)) (now (prices .exit)) (work .jobs) r ⌝ }
+fn raise_all(
+    jobs: usize,
+    first: &[usize; MAX_JOBS],
+    last: &[usize; MAX_JOBS],
+    shares: &[u32],
+    prices: &mut [u64; MAX_INTERVALS],
+) -> bool
+    requires { ⌜ WindowsRise jobs (now first) (now last) (now shares) (now prices) ⌝ }
+    ensures { λ r. ⌜ WindowsRisen jobs (now (first .entry)) (now (last .entry)) (now (shares .entry)) (now (prices .entry)) (now (prices .exit)) r ⌝ }
 {
     let mut changed = false;
-    let jobs = work.jobs;
     let mut job = 0;
     while job < jobs {
-        if raise_job(shares, prices, jobs, job, work.first[job], work.last[job]) {
+        if raise_job(shares, prices, jobs, job, first[job], last[job]) {
             changed = true;
         }
         job += 1;

@@ -58,8 +58,19 @@ pub(crate) fn make_plan(
     let mut loads = [0u64; MAX_INTERVALS];
     let mut numbers = [0u64; MAX_INTERVALS];
     place(work, shares, &mut loads, &mut numbers);
-    smallest_prices(work, shares, &loads, &mut numbers);
     let intervals = work.intervals;
+    smallest_prices(
+        work.jobs,
+        intervals,
+        work.bands,
+        &work.first,
+        &work.last,
+        &work.size,
+        &work.frequency,
+        shares,
+        &loads,
+        &mut numbers,
+    );
     let counted = from_one(&numbers, intervals);
     let times = bounds.times;
     let steps = write_plan(shares, work.jobs, intervals, plan);

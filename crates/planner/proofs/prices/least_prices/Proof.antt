@@ -13,66 +13,67 @@ use Rattle.planner.proofs.prices.least_prices.Statement.{statement}
 use Rattle.planner.proofs.prices.least_prices.Tie as tie
 
 abbrev Inv-loop : tie.InvT-loop
-Inv-loop loads prices₀ work intervals i₀ prices i =
+Inv-loop intervals bands size frequency loads prices₀ i₀ prices i =
     (i ≤ intervals)
     × (length prices ≡ maxIntervals)
-    × ((k : ℕ) → k < i → LeastBand (numbersIn (work .frequency)) (work .bands) (numbersIn (work .size) k) (numbersIn loads k) (numbersIn prices k))
+    × ((k : ℕ) → k < i → LeastBand (numbersIn frequency) bands (numbersIn size k) (numbersIn loads k) (numbersIn prices k))
 
 abbrev μ-loop : tie.MeasureT-loop
-μ-loop loads prices₀ work intervals i₀ prices i = intervals - i
+μ-loop intervals bands size frequency loads prices₀ i₀ prices i = intervals - i
 
 loop-holds : tie.Need-loop-holds Inv-loop μ-loop
 loop-holds c = (omega arith, refl, below-none _)
 
 -- the interval's number fits the arrays
 below : (c : tie.In-loop Inv-loop μ-loop) → c .before .loop .i < maxIntervals
-below c = omega (arith, c .before .before .before .pre .intervals-most)
-
-mul-size : tie.Need-mul-size Inv-loop μ-loop
-mul-size c = omega (arith, below c)
-
-element-copy-out-size : tie.Need-element-copy-out-size Inv-loop μ-loop
-element-copy-out-size c = below c
+below c = omega arith
 
 mul-least-band : tie.Need-mul-least-band Inv-loop μ-loop
-mul-least-band c = omega (arith, below (c .before .before .before))
+mul-least-band c = omega (arith, below c)
 
 element-copy-out-least-band : tie.Need-element-copy-out-least-band Inv-loop μ-loop
-element-copy-out-least-band c = below (c .before .before .before)
+element-copy-out-least-band c = below c
+
+mul-least-band-2 : tie.Need-mul-least-band-2 Inv-loop μ-loop
+mul-least-band-2 c = omega (arith, below (c .before))
+
+element-copy-out-least-band-2 : tie.Need-element-copy-out-least-band-2 Inv-loop μ-loop
+element-copy-out-least-band-2 c = below (c .before)
 
 least-band-requires : tie.Need-least-band-requires Inv-loop μ-loop
 least-band-requires c κs =
-    let sound = c .before .before .before .before .before .before .before .pre in
-    (sound .bands-most, sound .size-most _ (c .before .before .before .before .loop-test .taken), sound .frequency-most)
+    let pre = c .before .before .before .before .before .pre in
+    (pre .0 .1, pre .1 .0 _ (c .before .before .loop-test .taken), pre .1 .1)
 
 mul-prices : tie.Need-mul-prices Inv-loop μ-loop
-mul-prices c = omega (arith, below (c .before .before .before .before .before))
+mul-prices c = omega (arith, below (c .before .before .before))
 
 element-write-prices : tie.Need-element-write-prices Inv-loop μ-loop
-element-write-prices c = below (c .before .before .before .before .before)
+element-write-prices c = below (c .before .before .before)
 
 add-i : tie.Need-add-i Inv-loop μ-loop
-add-i c = omega (arith, below (c .before .before .before .before .before))
+add-i c = omega (arith, below (c .before .before .before))
 
 loop-less : tie.Need-loop-less Inv-loop μ-loop
-loop-less c = omega (arith, c .before .before .before .before .before .loop-test .taken)
+loop-less c = omega (arith, c .before .before .before .loop-test .taken)
 
 loop-again : tie.Need-loop-again Inv-loop μ-loop
 loop-again c =
-    let a = c .before .before .before .before .before .before .before .before .args in
-    let prices = c .before .before .before .before .before .before .loop .prices in
-    let i = c .before .before .before .before .before .before .loop .i in
-    let inv = c .before .before .before .before .before .before .loop .inv in
-    let inside : i < length prices = omega (arith, below (c .before .before .before .before .before), inv .1) in (
-      omega (arith, c .before .before .before .before .before .loop-test .taken),
+    let turn = c .before .before .before in
+    let a = turn .before .before .before .args in
+    let prices = turn .before .loop .prices in
+    let i = turn .before .loop .i in
+    let inv = turn .before .loop .inv in
+    let inside : i < length prices = omega (arith, below turn, inv .1) in (
+      omega (arith, turn .loop-test .taken),
       length-set prices i _ ∙ inv .1,
-      stored-more (λ k band. LeastBand (numbersIn (a .t1 .frequency)) (a .t1 .bands) (numbersIn (a .t1 .size) k) (numbersIn (now (a .loads)) k) band)
+      stored-more (λ k band. LeastBand (numbersIn (now (a .frequency))) (a .bands) (numbersIn (now (a .size)) k) (numbersIn (now (a .loads)) k) band)
           prices i _ inside (inv .2) (c .least-band .ensures .1),
     )
 
 returns : tie.Need-returns Inv-loop μ-loop
 returns c =
-    let all : c .before .loop .i ≡ c .before .before .before .args .t1 .intervals = omega arith in
+    let all : c .before .loop .i ≡ c .before .before .before .args .intervals = omega arith in
     (c .before .loop .inv .1, rw all at (c .before .loop .inv .2))
 
 pub least-prices-spec : {M : Type 1} → statement M
@@ -82,10 +83,10 @@ least-prices-spec =
     Inv-loop
     μ-loop
     loop-holds
-    mul-size
-    element-copy-out-size
     mul-least-band
     element-copy-out-least-band
+    mul-least-band-2
+    element-copy-out-least-band-2
     least-band-requires
     mul-prices
     element-write-prices

@@ -6,28 +6,32 @@ use Prim.Native.Nat.{_-_, _<_, _≤_}
 use native.Mathlib.Nat.{mul-le-mul-right}
 use native.Mathlib.Omega.{arith}
 use Rattle.model.specs.Limits.{maxJobs}
-use Rattle.planner.specs.RisingPrices.{RisePass}
+use Rattle.planner.specs.declared.workload.Workload.{Workload}
+use Rattle.planner.specs.Arrays.{lentWindows}
+use Rattle.planner.specs.RisingPrices.{CanRise, RisePass}
 use Rattle.planner.proofs.RisePasses.{pass-start, pass-raised, pass-settled}
 use Rattle.planner.proofs.prices.raise_all.Statement.{statement}
 use Rattle.planner.proofs.prices.raise_all.Tie as tie
 
 abbrev Inv-loop : tie.InvT-loop
-Inv-loop shares prices₀ work changed₀ jobs job₀ prices changed job =
-    (job ≤ jobs) × RisePass work shares prices₀ prices job changed
+Inv-loop jobs first last shares prices₀ changed₀ job₀ prices changed job =
+    (job ≤ jobs)
+    × ((work : Workload) → CanRise (lentWindows work jobs first last) shares prices₀
+    → RisePass (lentWindows work jobs first last) shares prices₀ prices job changed)
 
 abbrev μ-loop : tie.MeasureT-loop
-μ-loop shares prices₀ work changed₀ jobs job₀ prices changed job = jobs - job
+μ-loop jobs first last shares prices₀ changed₀ job₀ prices changed job = jobs - job
 
 -- the function's entry
 abbrev entry : tie.At-loop Inv-loop μ-loop → tie.Start Inv-loop μ-loop
 entry c = c .before .before
 
 loop-holds : tie.Need-loop-holds Inv-loop μ-loop
-loop-holds c = (omega arith, pass-start (c .before .pre))
+loop-holds c = (omega arith, λ work can. pass-start can)
 
 -- the job's number fits the arrays
 below : (c : tie.In-loop Inv-loop μ-loop) → c .before .loop .job < maxJobs
-below c = omega (arith, entry (c .before) .pre .sound .jobs-most)
+below c = omega (arith, entry (c .before) .pre .1 .sound .jobs-most)
 
 mul-raise-job : tie.Need-mul-raise-job Inv-loop μ-loop
 mul-raise-job c = omega (arith, below (c .before))
@@ -43,13 +47,14 @@ element-copy-out-raise-job-2 c = below (c .before .before)
 
 raise-job-requires : tie.Need-raise-job-requires Inv-loop μ-loop
 raise-job-requires c κs =
-    let start = entry (c .before .before .before .before) in
-    let sound = start .pre .sound in
+    let head = c .before .before .before .before in
+    let start = entry head in
+    let can = start .pre .1 in
     let exists = c .before .before .before .loop-test .taken in
-    let inside = sound .sound .inside _ exists in
-    let room = mul-le-mul-right (start .args .t1 .jobs) inside in (
-      (exists, omega (arith, sound .sound .window _ exists), omega (arith, sound .intervals-most), omega (arith, start .pre .table-length)),
-      c .before .before .before .before .loop .inv .1 .prices-length,
+    let inside = can .sound .sound .inside _ exists in
+    let room = mul-le-mul-right (start .args .jobs) inside in (
+      (exists, omega (arith, can .sound .sound .window _ exists), omega (arith, can .sound .intervals-most), omega (arith, can .table-length)),
+      head .loop .inv .1 (start .pre .0) can .prices-length,
     )
 
 add-job : tie.Need-add-job Inv-loop μ-loop
@@ -60,19 +65,19 @@ loop-less c = omega (arith, c .before .before .before .before .before .loop-test
 
 loop-again : tie.Need-loop-again Inv-loop μ-loop
 loop-again c =
-    let can = entry (c .before .before .before .before .before .before) .pre in
     let pass = c .before .before .before .before .before .before .loop .inv .1 in
     let exists = c .before .before .before .before .before .loop-test .taken in
     let step = c .before .raise-job .ensures in (
       omega (arith, exists),
-      ⊎-elim (λ w. rw (w .1) (pass-raised can pass exists step (w .0 .taken)))
-          (λ w. rw (w .1) (pass-settled can pass exists step (w .0 .left)))
+      λ work can.
+          ⊎-elim (λ w. rw (w .1) (pass-raised can (pass work can) exists step (w .0 .taken)))
+          (λ w. rw (w .1) (pass-settled can (pass work can) exists step (w .0 .left)))
           (c .if1 .came),
     )
 
 returns : tie.Need-returns Inv-loop μ-loop
 returns c =
-    let all : c .before .loop .job ≡ entry (c .before) .args .t1 .jobs = omega arith in
+    let all : c .before .loop .job ≡ entry (c .before) .args .jobs = omega arith in
     rw all at (c .before .loop .inv .1)
 
 pub raise-all-spec : {M : Type 1} → statement M

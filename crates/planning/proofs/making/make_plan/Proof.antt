@@ -4,7 +4,11 @@
 use mathlib.Core.Path.{refl, ap}
 use native.Mathlib.Omega.{arith}
 use borrow.Author.Needs.{needs}
+use Rattle.model.specs.Plans.{sharesIn}
 use Rattle.windows.specs.declared.times.BoundTable.{BoundTable}
+use Rattle.planner.specs.declared.workload.Workload.{Workload}
+use Rattle.planner.specs.Arrays.{numbersIn, problemIn}
+use Rattle.planner.specs.RisingPrices.{SmallestPriced, CanPrice}
 use Rattle.planning.proofs.Placeable.{workload-fits, workload-can-price}
 use Rattle.planning.proofs.MadePlans.{table-small, rooms, steps-few, made-plan}
 use Rattle.planning.proofs.making.make_plan.Statement.{statement}
@@ -23,26 +27,43 @@ place-requires c κs =
       (workload-fits curve (start .pre .0) site refl (start .pre .1 .1 .1 .0), rooms curve (start .pre .0) site (start .pre .1 .1 .1 .1) .0),
     )
 
+-- the workload that is placed, and that some prices fit
+abbrev workload : tie.After-place → Workload
+workload c = c .before .before .before .before .workload-of .result
+
+can-price : (c : tie.After-place) → CanPrice (workload c) (c .place .last .1 .0) (c .place .last .1 .1 .0)
+can-price c =
+    let working = c .before .before .before .before in
+    let start = working .before .before .before .before in
+    workload-can-price (start .pre .1 .1 .0 .curve) (start .pre .0) (working .workload-of .ensures) (c .place .ensures .0)
+
 smallest-prices-requires : tie.Need-smallest-prices-requires
 smallest-prices-requires c κs =
-    let placed = c .before .before .before .before .before in
-    let working = placed .before .before .before .before in
-    let start = working .before .before .before .before in
-    workload-can-price (start .pre .1 .1 .0 .curve) (start .pre .0) (working .workload-of .ensures) (placed .place .ensures .0)
+    let placed = c .before .before .before .before .before .before .before .before .before .before in
+    (workload placed .cycles, can-price placed)
+
+-- the smallest prices follow on the placing
+abbrev placing : tie.After-smallest-prices → tie.After-place
+placing c = c .before .before .before .before .before .before .before .before .before .before .before
+
+smallest : (c : tie.After-smallest-prices)
+    → let placed = placing c in
+    SmallestPriced (problemIn (workload placed)) (sharesIn (workload placed .jobs) (placed .place .last .1 .0))
+    (numbersIn (c .smallest-prices .last .1 .1 .1 .1 .1 .1 .1 .1 .1 .0))
+smallest c = let placed = placing c in c .smallest-prices .ensures .0 (workload placed .cycles) (can-price placed)
 
 from-one-requires : tie.Need-from-one-requires
 from-one-requires c κs =
     let priced = c .before in
-    let working = priced .before .before .before .before .before .before .before .before .before .before in
-    let site = working .workload-of .ensures in (
+    let site = placing priced .before .before .before .before .workload-of .ensures in (
       site .sound .intervals-most,
-      λ i below. omega (arith, site .sound .bands-most, priced .smallest-prices .ensures .0 .priced .band i below),
+      λ i below. omega (arith, site .sound .bands-most, smallest priced .priced .band i below),
     )
 
 write-plan-requires : tie.Need-write-plan-requires
 write-plan-requires c κs =
     let priced = c .before .before .before .before .before in
-    let placed = priced .before .before .before .before .before .before in
+    let placed = placing priced in
     let working = placed .before .before .before .before in
     let start = working .before .before .before .before in
     let site = working .workload-of .ensures in
@@ -55,7 +76,7 @@ write-prices-requires : tie.Need-write-prices-requires
 write-prices-requires c κs =
     let written = c .before .before .before .before .before in
     let priced = written .before .before .before .before .before .before in
-    let placed = priced .before .before .before .before .before .before in
+    let placed = placing priced in
     let working = placed .before .before .before .before in
     let start = working .before .before .before .before in
     let site = working .workload-of .ensures in
@@ -66,7 +87,7 @@ energy-figure-requires c κs =
     let listed = c .before .before .before .before in
     let written = listed .before .before .before .before .before .before in
     let priced = written .before .before .before .before .before .before in
-    let placed = priced .before .before .before .before .before .before in
+    let placed = placing priced in
     let working = placed .before .before .before .before in
     let start = working .before .before .before .before in
     (start .pre .1 .1 .0 .small, table-small (start .pre .0) (start .pre .1 .0))
@@ -78,7 +99,11 @@ same-length-2 : tie.Need-same-length-2
 same-length-2 c = search needs
 
 same-length-3 : tie.Need-same-length-3
-same-length-3 c = search needs
+same-length-3 c =
+    let listed = c .before .before .before .before .before in
+    let written = listed .before .before .before .before .before .before in
+    let priced = written .before .before .before .before .before .before in
+    placing priced .place .ensures .1 .same-length
 
 returns : tie.Need-returns
 returns c =
@@ -86,11 +111,11 @@ returns c =
     let written = listed .before .before .before .before .before .before in
     let counted = written .before .before .before .before in
     let priced = counted .before .before in
-    let placed = priced .before .before .before .before .before .before in
+    let placed = placing priced in
     let working = placed .before .before .before .before in
     let start = working .before .before .before .before in
     made-plan _ _ _ (start .pre .1 .1 .0 .curve) (start .pre .0) (working .workload-of .ensures) _ _ _ (placed .place .ensures .0)
-    (priced .smallest-prices .last .1 .1 .1 .0) (priced .smallest-prices .ensures .0) _ (counted .from-one .ensures)
+    (priced .smallest-prices .last .1 .1 .1 .1 .1 .1 .1 .1 .1 .0) (smallest priced) _ (counted .from-one .ensures)
     _ (ap (λ (t : BoundTable). t .times) (start .pre .1 .0)) _ (ap (λ (t : BoundTable). t .count) (start .pre .1 .0)) _ _
     _ _ _ _ _ (placed .place .ensures .1) (written .write-plan .ensures .0) (written .write-plan .ensures .1)
     (listed .write-prices .ensures) (c .energy-figure .ensures)
