@@ -1,5 +1,7 @@
 -- Laws for the proofs of the functions.
 pub mod Loops
+pub mod Repeats
+pub mod Bits
 pub mod Capacity
 pub mod Inserted
 pub mod Padded

@@ -1,19 +1,20 @@
 -- The answers of this crate: the paper's number and values for each case of an enum, and lists in plain arrays.
 use Prim.Native.Nat.{ℕ, _^_, min}
-use mathlib.Core.Bool.{_&&_, _||_}
+use mathlib.Core.Bool.{Bool, not, _&&_, _||_}
 use mathlib.Core.List.{List, _∷_, _++_}
 use mathlib.Core.Option.{Option, none, some}
 use lib.ListN.{length, getD, take, drop}
 use lib.IntN.{ℤ}
-use lib.Dec.{ltb, leb}
+use lib.Dec.{ltb, leb, eqb}
 use lib.Count.{ones}
 use Rattle.model.specs.declared.Job.{Job}
 use Rattle.model.specs.Limits.{maxDeadline, maxBounds, maxIntervals}
 use Rattle.model.specs.Outcome.{Outcome, refused, answer, refuseWhen, andThen}
 use Rattle.model.specs.Sum.{sum, onlyIf}
+use Rattle.model.specs.Search.{someBelow}
 use Rattle.model.specs.Jobs.{jobOf, readJobs}
 use Rattle.model.specs.Intervals.{intervalCount, openSet}
-use Rattle.model.specs.Windows.{Window, spareOf}
+use Rattle.model.specs.Windows.{Window, spareOf, overfullTo}
 use Rattle.tables.specs.Column.{columnOf}
 use Rattle.windows.specs.declared.window.SpareAnswer.{SpareAnswer}
 use Rattle.windows.specs.declared.window.SpareAnswer.the-variants.{Spare, Refused}
@@ -47,6 +48,22 @@ foundOf (some time) = At time
 abbrev pub smallerFound : Found → ℕ → Found
 smallerFound Nothing time = At time
 smallerFound (At least) time = At (min time least)
+
+-- One of the numbers before number j equals it.
+unfoldable pub isRepeated : (numbers : List ℕ) → (j : ℕ) → Bool
+isRepeated numbers j = someBelow j (λ i. eqb (getD numbers i 0) (getD numbers j 0))
+
+-- The test of number j, failed where one of the numbers before it equals it.
+abbrev pub unlessRepeated : (numbers : List ℕ) → (test : ℕ → Bool) → (j : ℕ) → Bool
+unlessRepeated numbers test j = not (isRepeated numbers j) && test j
+
+-- The jobs whose number no earlier job has, bit number equal to job number.
+abbrev pub unrepeatedSet : (count : ℕ) → (numbers : List ℕ) → ℕ
+unrepeatedSet count numbers = sum count (λ j. onlyIf (not (isRepeated numbers j)) (2 ^ j))
+
+-- Some window from the release of job j is overfull.
+abbrev pub startsOverfull : (top : ℕ) → List Job → (j : ℕ) → Bool
+startsOverfull top jobs j = someBelow (length jobs) (overfullTo top jobs (jobOf jobs j .release))
 
 -- The times of at most as many bounds as there can be, in an array, zeros past the last.
 abbrev pub padded : List ℕ → List ℕ

@@ -1,17 +1,12 @@
 -- `intervals::bit_if_open` meets its contract. Each way out rests on the tests that led there; a shifted 1 below 64
 -- places loses nothing. Assumes nothing.
-use mathlib.Core.Path.{_≡_}
-use Prim.Native.Nat.{ℕ, _*_, _^_, _%_, _<_}
 use native.Mathlib.Nat.{le-of-eq}
 use native.Mathlib.Omega.{arith}
-use lib.Pow.{pow-lt}
 use borrow.Author.Needs.{needs}
 use borrow.Author.Tests.{lt-leb, le-leb}
+use Rattle.windows.proofs.Bits.{bit-shifted}
 use Rattle.windows.proofs.intervals.bit_if_open.Statement.{statement}
 use Rattle.windows.proofs.intervals.bit_if_open.Tie as tie
-
-shifted : (j : ℕ) → j < 64 → 1 * 2 ^ j % 2 ^ 64 ≡ 2 ^ j
-shifted j below = omega (arith, pow-lt below)
 
 returns : tie.Need-returns
 returns c = (rw (lt-leb _ _ (c .if1 .taken)), omega arith)
@@ -24,7 +19,7 @@ shl-result c = search needs
 
 returns-3 : tie.Need-returns-3
 returns-3 c =
-    let bit = shifted _ (c .before .before .pre) in
+    let bit = bit-shifted _ (c .before .before .pre) in
     (rw (le-leb _ _ (c .before .if1 .left), le-leb _ _ (c .if2 .left)) bit, le-of-eq bit)
 
 pub bit-if-open-spec : {M : Type 1} → statement M

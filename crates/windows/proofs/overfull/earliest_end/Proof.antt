@@ -1,38 +1,46 @@
--- `overfull::earliest_end` meets its contract. The loop's invariant: the least deadline among the jobs passed to which
--- the window is overfull was found (proofs/Loops.antt). Assumes nothing.
-use mathlib.Core.Path.{_≡_, _∙_, sym, ap}
+-- `overfull::earliest_end` meets its contract. The loop's invariant: among the jobs passed whose deadline no earlier job
+-- has, the least deadline to which the window is overfull was found (proofs/Loops.antt). At the end that is the least of
+-- all (proofs/Repeats.antt). Assumes nothing.
+use mathlib.Core.Path.{_≡_, _∙_, ap}
+use mathlib.Core.Bool.{_&&_}
 use mathlib.Core.Logic.{⊎-elim}
 use mathlib.Core.List.{List}
-use Prim.Native.Nat.{ℕ, _-_, _≤_, _<_}
+use Prim.Native.Nat.{ℕ, _-_, _≤_}
 use native.Mathlib.Omega.{arith}
-use lib.ListN.{getD}
-use Rattle.model.specs.declared.Job.{Job}
+use lib.Dec.{ltb}
 use Rattle.model.specs.Limits.{maxJobs}
 use Rattle.model.specs.Search.{leastBelow}
 use Rattle.model.specs.Jobs.{jobOf}
-use Rattle.model.specs.Windows.{overfullTo, earliestEnd}
+use Rattle.model.specs.Windows.{isOverfull, overfullTo, earliestEnd}
 use Rattle.tables.specs.Tables.{jobsIn}
-use Rattle.tables.proofs.Read.{length-jobsIn, job-in, jobs-count}
-use Rattle.windows.specs.Answers.{foundOf}
+use Rattle.tables.proofs.Read.{length-jobsIn, jobs-count}
+use Rattle.windows.specs.Answers.{foundOf, unlessRepeated}
 use Rattle.windows.proofs.Loops.{least-none, least-more, least-same, least-whole}
+use Rattle.windows.proofs.Repeats.{deadline-at, least-unrepeated}
 use Rattle.windows.proofs.overfull.earliest_end.Statement.{statement}
 use Rattle.windows.proofs.overfull.earliest_end.Tie as tie
 
--- the deadline of job k stands in the array
-deadline-at : (count : ℕ) (releases deadlines cycles : List ℕ) (k : ℕ) → k < count
-    → getD deadlines k 0 ≡ jobOf (jobsIn count releases deadlines cycles) k .deadline
-deadline-at count releases deadlines cycles k below = ap (λ (job : Job). job .deadline) (sym (job-in count releases deadlines cycles k below))
+-- the least deadline is found though the code passes over repeated ones
+same-least : (count top : ℕ) (releases deadlines cycles : List ℕ) (start n : ℕ) → n ≤ count
+    → leastBelow n (λ i. jobOf (jobsIn count releases deadlines cycles) i .deadline)
+    (unlessRepeated deadlines (overfullTo top (jobsIn count releases deadlines cycles) start))
+    ≡ leastBelow n (λ i. jobOf (jobsIn count releases deadlines cycles) i .deadline) (overfullTo top (jobsIn count releases deadlines cycles) start)
+unfolding overfullTo
+same-least count top releases deadlines cycles start n few =
+    let jobs = jobsIn count releases deadlines cycles in
+    least-unrepeated _ (λ end. ltb start end && isOverfull top jobs start end) deadlines n
+    (λ k below. deadline-at count releases deadlines cycles k (omega arith))
 
 abbrev Inv-loop : tie.InvT-loop
-Inv-loop releases deadlines cycles count top start found₀ k₀ found k =
+Inv-loop releases deadlines cycles count top ends start found₀ k₀ found k =
     (count ≤ maxJobs)
     × (k ≤ count)
     × (found ≡ foundOf
     (leastBelow k (λ i. jobOf (jobsIn count releases deadlines cycles) i .deadline)
-    (overfullTo top (jobsIn count releases deadlines cycles) start)))
+    (unlessRepeated deadlines (overfullTo top (jobsIn count releases deadlines cycles) start))))
 
 abbrev μ-loop : tie.MeasureT-loop
-μ-loop releases deadlines cycles count top start found₀ k₀ found k = count - k
+μ-loop releases deadlines cycles count top ends start found₀ k₀ found k = count - k
 
 loop-holds : tie.Need-loop-holds Inv-loop μ-loop
 loop-holds c = (jobs-count _ _ _ _ (c .pre .0), omega arith, least-none _ _)
@@ -46,7 +54,7 @@ element-copy-out-end c = omega arith
 overfull-to-requires : tie.Need-overfull-to-requires Inv-loop μ-loop
 overfull-to-requires c κs =
     let start = c .before .before .before in
-    (start .pre .0, (start .pre .1, c .before .loop-test .taken))
+    (start .pre .0, ((start .pre .1 .0, c .before .loop-test .taken), start .pre .1 .1))
 
 smaller-requires : tie.Need-smaller-requires Inv-loop μ-loop
 smaller-requires c κs = tt
@@ -74,7 +82,8 @@ returns : tie.Need-returns Inv-loop μ-loop
 unfolding earliestEnd
 returns c =
     let inv = c .before .loop .inv in
-    least-whole _ _ _ _ _ (inv .1) (c .loop-test .left) (length-jobsIn _ _ _ _) _ (inv .2)
+    least-whole _ _ _ _ _ (inv .1) (c .loop-test .left) (length-jobsIn _ _ _ _) _
+    (inv .2 ∙ ap foundOf (same-least _ _ _ _ _ _ _ (inv .1)))
 
 pub earliest-end-spec : {M : Type 1} → statement M
 earliest-end-spec =

@@ -10,6 +10,7 @@ use denote.Ref.{now}
 use Rattle.model.specs.declared.Job.{Job}
 use Rattle.model.specs.Windows.{earliestStart, earliestEnd, earliestOverfull}
 use Rattle.tables.specs.Tables.{jobsIn}
+use Rattle.tables.proofs.Read.{jobs-count}
 use Rattle.windows.specs.declared.overfull.Found.{Found}
 use Rattle.windows.specs.declared.overfull.Found.the-variants.{At, Nothing}
 use Rattle.windows.specs.declared.overfull.Overfull.the-variants.{Window, Fits}
@@ -52,6 +53,9 @@ enum-told c = search needs
 enum-known-found : tie.Need-enum-known-found
 enum-known-found c = search needs
 
+unrepeated-requires : tie.Need-unrepeated-requires
+unrepeated-requires c κs = jobs-count _ _ _ _ (c .before .before .before .before .pre .0)
+
 earliest-end-requires : tie.Need-earliest-end-requires
 earliest-end-requires c κs = search needs
 
@@ -71,7 +75,7 @@ returns c = no-start _ _ _ (c .before .before .earliest-start .ensures) (c .enum
 returns-2 : tie.Need-returns-2
 returns-2 c =
     let ended = c .before .before in
-    let started = ended .before .before in
+    let started = ended .before .before .before in
     let first = started .before .before in
     no-end
     _ (jobs-of (first .before)) _ (first .earliest-start .ensures) _ (started .found .given .1)
@@ -80,7 +84,7 @@ returns-2 c =
 returns-3 : tie.Need-returns-3
 returns-3 c =
     let ended = c .before .before .before in
-    let started = ended .before .before in
+    let started = ended .before .before .before in
     let first = started .before .before in
     window
     _ (jobs-of (first .before)) _ (first .earliest-start .ensures) _ (started .found .given .1)
@@ -93,6 +97,7 @@ earliest-overfull-spec =
     earliest-start-requires
     enum-told
     enum-known-found
+    unrepeated-requires
     earliest-end-requires
     enum-told-2
     enum-known-last

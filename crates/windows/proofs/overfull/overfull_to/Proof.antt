@@ -1,4 +1,4 @@
--- `overfull::overfull_to` meets its contract. Each way out rests on the test that led there, and the second on
+-- `overfull::overfull_to` meets its contract. Each way out rests on the test that led there, and the last on
 -- `cycles_inside`. Assumes nothing.
 use mathlib.Core.Path.{_≡_}
 use mathlib.Core.Bool.{false}
@@ -9,15 +9,18 @@ use lib.Dec.{ltb}
 use lib.ListN.{getD}
 use borrow.Author.Needs.{needs}
 use borrow.Author.Tests.{lt-ltb, le-ltb}
+use denote.Ref.{now}
 use Rattle.model.specs.Limits.{maxJobs}
 use Rattle.model.specs.Windows.{cyclesInside, isOverfull, overfullTo}
 use Rattle.tables.specs.Tables.{jobsIn}
 use Rattle.tables.proofs.Read.{job-in, jobs-count, sound-in}
+use Rattle.windows.specs.Answers.{isRepeated}
 use Rattle.windows.proofs.Capacity.{capacity-small}
+use Rattle.windows.proofs.Repeats.{passed-over, tested-anew, bit-clear, bit-set}
 use Rattle.windows.proofs.overfull.overfull_to.Statement.{statement}
 use Rattle.windows.proofs.overfull.overfull_to.Tie as tie
 
--- the two ways out
+-- the two ways out for a deadline that no earlier job has
 module _ (count : ℕ) (releases deadlines cycles : List ℕ) (top start k : ℕ) (below : k < count) where
   ended : getD deadlines k 0 ≤ start → false ≡ overfullTo top (jobsIn count releases deadlines cycles) start k
   unfolding overfullTo
@@ -31,14 +34,30 @@ module _ (count : ℕ) (releases deadlines cycles : List ℕ) (top start k : ℕ
 few : (c : tie.Start) → c .args .k < maxJobs
 few c = omega (arith, jobs-count _ _ _ _ (c .pre .0))
 
-mul-end : tie.Need-mul-end
-mul-end c = omega (arith, few c)
-
-element-copy-out-end : tie.Need-element-copy-out-end
-element-copy-out-end c = few c
+shr-if1 : tie.Need-shr-if1
+shr-if1 c = few c
 
 returns : tie.Need-returns
-returns c = ended _ _ _ _ _ _ _ (c .before .before .pre .1 .1) (c .if1 .taken)
+returns c =
+    let start = c .before in
+    passed-over _ _ _ (bit-clear _ _ _ (start .pre .1 .1) _ (start .pre .1 .0 .1) (c .if1 .taken))
+
+-- past the first test the deadline is new
+new : (c : tie.Else1) → isRepeated (now (c .before .args .deadlines)) (c .before .args .k) ≡ false
+new c =
+    let start = c .before in
+    bit-set _ _ _ (start .pre .1 .1) _ (start .pre .1 .0 .1) (c .if1 .left)
+
+mul-end : tie.Need-mul-end
+mul-end c = omega (arith, few (c .before))
+
+element-copy-out-end : tie.Need-element-copy-out-end
+element-copy-out-end c = few (c .before)
+
+returns-2 : tie.Need-returns-2
+returns-2 c =
+    let first = c .before .before in
+    tested-anew _ _ _ (new first) _ (ended _ _ _ _ _ _ _ (first .before .pre .1 .0 .1) (c .if2 .taken))
 
 cycles-inside-requires : tie.Need-cycles-inside-requires
 cycles-inside-requires c κs = search needs
@@ -48,21 +67,26 @@ sub-result c = search needs
 
 mul-result : tie.Need-mul-result
 mul-result c =
-    let start = c .before .before .before in
-    let job = sound-in _ _ _ _ (start .pre .0) _ (start .pre .1 .1) in
-    omega (arith, capacity-small (start .args .start) _ _ (job .deadline-high) (start .pre .1 .0))
+    let start = c .before .before .before .before in
+    let job = sound-in _ _ _ _ (start .pre .0) _ (start .pre .1 .0 .1) in
+    omega (arith, capacity-small (start .args .start) _ _ (job .deadline-high) (start .pre .1 .0 .0))
 
-returns-2 : tie.Need-returns-2
-returns-2 c = tested _ _ _ _ _ _ _ (c .before .before .before .pre .1 .1) (c .before .if1 .left) _ (c .cycles-inside .ensures .0)
+returns-3 : tie.Need-returns-3
+returns-3 c =
+    let first = c .before .before .before in
+    tested-anew _ _ _ (new first) _
+    (tested _ _ _ _ _ _ _ (first .before .pre .1 .0 .1) (c .before .if2 .left) _ (c .cycles-inside .ensures .0))
 
 pub overfull-to-spec : {M : Type 1} → statement M
 overfull-to-spec =
     tie.close
     (tie.spec
+    shr-if1
+    returns
     mul-end
     element-copy-out-end
-    returns
+    returns-2
     cycles-inside-requires
     sub-result
     mul-result
-    returns-2)
+    returns-3)
