@@ -27,9 +27,8 @@ use Rattle.tables.proofs.Column.{column-at}
 use Rattle.tables.proofs.Read.{length-jobsIn}
 use Rattle.levels.specs.declared.points.PointTable.{PointTable}
 use Rattle.levels.specs.PointTables.{pointsOf}
-use Rattle.windows.specs.declared.times.BoundTable.{BoundTable}
-use Rattle.windows.specs.Answers.{padded, boundTable}
-use Rattle.windows.proofs.Padded.{take-padded}
+use Rattle.windows.specs.Answers.{padded, HoldsTimes}
+use Rattle.windows.proofs.Padded.{take-padded, holds-first}
 use Rattle.energy.specs.Figures.{SmallBounds, figureOfLoads}
 use Rattle.energy.proofs.Figures.{figure-of-plan, small-bounds}
 use Rattle.audit.specs.declared.Verdict.{Verdict}
@@ -67,7 +66,7 @@ fitted-verdict (answer loads) = refl
 module _
     (working : PointTable) (top count : ℕ) (releases deadlines cycles plan prices : List ℕ)
     (valid : ValidJobs (jobsIn count releases deadlines cycles))
-    (table : BoundTable) (bounded : table ≡ boundTable (boundsOf (jobsIn count releases deadlines cycles))) where
+    (times : List ℕ) (bounds : ℕ) (bounded : HoldsTimes times bounds (boundsOf (jobsIn count releases deadlines cycles))) where
   abbrev ws : List Point
   ws = pointsOf working
 
@@ -76,7 +75,7 @@ module _
 
   -- the bounds as the array has them
   abbrev bs : List ℕ
-  bs = boundsIn (table .count) (table .times)
+  bs = boundsIn bounds times
 
   abbrev outcome : Outcome ℕ
   outcome = checkedTables ws top jobs plan prices
@@ -84,21 +83,21 @@ module _
   few-bounds : length (boundsOf jobs) ≤ maxBounds
   few-bounds = omega (arith, length-boundsOf jobs, valid .few)
 
-  taken : take (table .count) (table .times) ≡ boundsOf jobs
-  taken = rw bounded (take-padded (boundsOf jobs) few-bounds)
+  taken : take bounds times ≡ boundsOf jobs
+  taken = holds-first bounded (omega (arith, bounded .counted, few-bounds))
 
   held : bs ≡ boundsOf jobs
   unfolding boundsIn
   held =
-      rw bounded
+      rw (bounded .counted, bounded .array)
       (listOf-cong (length (boundsOf jobs)) _ (λ i. getD (boundsOf jobs) i 0)
       (λ i below. column-at maxBounds (λ i. getD (boundsOf jobs) i 0) (length (boundsOf jobs)) i (omega (arith, few-bounds)) below)
       ∙ listOf-getD (boundsOf jobs) 0)
 
-  pub bounds-small : SmallBounds (table .count) (table .times)
+  pub bounds-small : SmallBounds bounds times
   bounds-small =
       let first : take (length (boundsOf jobs)) (padded (boundsOf jobs)) ≡ boundsOf jobs = take-padded (boundsOf jobs) few-bounds in
-      rw bounded (small-bounds (bounds-of jobs (valid .release-before-deadline)) valid few-bounds _ first)
+      rw (bounded .counted, bounded .array) (small-bounds (bounds-of jobs (valid .release-before-deadline)) valid few-bounds _ first)
 
   module _ (fitted : Fitted) (went : fitted ≡ fittedOf (fitting top jobs bs plan (answer (loadsOf jobs bs plan)))) where
     first-verdict : fitted .verdict ≡ verdictOf (fitting top jobs bs plan (answer (loadsOf jobs bs plan)))
@@ -126,10 +125,10 @@ module _
           ap (λ (f : Fitted). f .loads) went
           ∙ rw (first-passed (answer (loadsOf jobs bs plan)))
 
-      intervals : intervalCount bs ≡ table .count - 1
-      intervals = rw (held, bounded)
+      intervals : intervalCount bs ≡ bounds - 1
+      intervals = rw (held, bounded .counted)
 
-      pub planned : Planned count (table .count) plan (fitted .loads)
+      pub planned : Planned count bounds plan (fitted .loads)
       planned =
           record {
             size = is-plan .size;
@@ -156,7 +155,7 @@ module _
             )
 
         -- both halves passed: the figure over the loads is the plan's
-        pub all-passed : second ≡ Passed → (figure : ℕ) → figure ≡ figureOfLoads ws (take (table .count) (table .times)) (fitted .loads)
+        pub all-passed : second ≡ Passed → (figure : ℕ) → figure ≡ figureOfLoads ws (take bounds times) (fitted .loads)
             → Accepted figure ≡ checkAnswer outcome
         all-passed passes figure figured =
             rw (

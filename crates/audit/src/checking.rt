@@ -17,6 +17,7 @@ use crate::records::tests_of;
 use energy::energy_figure;
 use levels::PointTable;
 use levels::working_levels;
+use model::MAX_BOUNDS;
 use model::MAX_JOBS;
 use tables::Reading;
 use tables::read_jobs;
@@ -56,15 +57,12 @@ fn check_jobs(working: PointTable, top: u64, jobs: &[u8], plan: &[u8], prices: &
     match reading {
         Reading::Refused { number, place } => CheckAnswer::Refused { number, place },
         Reading::Entries(count) => {
-            let releases = table.releases;
-            let deadlines = table.deadlines;
-            let cycles = table.cycles;
             check_tables(
                 working,
                 top,
-                &releases,
-                &deadlines,
-                &cycles,
+                &table.releases,
+                &table.deadlines,
+                &table.cycles,
                 count,
                 plan,
                 prices,
@@ -75,12 +73,12 @@ fn check_jobs(working: PointTable, top: u64, jobs: &[u8], plan: &[u8], prices: &
 
 // The check where both tables were read: the jobs become records, which are lent to the pass over them; then the two
 // halves, and the energy figure.
-fn check_tables(
+fn check_tables<'a>(
     working: PointTable,
     top: u64,
-    releases: &[u64; MAX_JOBS],
-    deadlines: &[u64; MAX_JOBS],
-    cycles: &[u64; MAX_JOBS],
+    releases: &'a [u64; MAX_JOBS],
+    deadlines: &'a [u64; MAX_JOBS],
+    cycles: &'a [u64; MAX_JOBS],
     count: usize,
     plan: &[u8],
     prices: &[u8],
@@ -89,9 +87,8 @@ fn check_tables(
     requires { ⌜ ValidJobs (jobsIn count (now releases) (now deadlines) (now cycles)) ⌝ }
     ensures { λ r. ⌜ r ≡ checkAnswer (checkedTables (pointsOf working) top (jobsIn count (now (releases .entry)) (now (deadlines .entry)) (now (cycles .entry))) (now (plan .entry)) (now (prices .entry))) ⌝ }
 {
-    let table = bounds_of(releases, deadlines, count);
-    let bounds = table.count;
-    let times = table.times;
+    let mut times = [0u64; MAX_BOUNDS];
+    let bounds = bounds_of(releases, deadlines, count, &mut times);
     let jobs = job_records(releases, deadlines, cycles);
     let sums = plan_sums(plan);
     let tests = tests_of(jobs, count, &times, bounds, &sums);

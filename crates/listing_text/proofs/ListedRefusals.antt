@@ -16,7 +16,6 @@ use Rattle.model.specs.Demands.{LongEnough}
 use Rattle.model.proofs.RefusalNumbers.{levels-by, jobs-by}
 use Rattle.model.proofs.Jobs.{jobs-valid}
 use Rattle.model.proofs.Demands.{long-enough-decides}
-use Rattle.windows.specs.Answers.{boundTable}
 use Rattle.planning.proofs.RoomSizes.{pairs-few}
 use Rattle.listing_text.specs.Listings.{planRoom, priceRoom, shareRoom, zeros}
 -- the buffers are long enough for any site.
@@ -40,7 +39,6 @@ use Rattle.model.specs.Demands.{LongEnough}
 use Rattle.model.proofs.Outcome.{refused≢answer}
 use Rattle.model.proofs.Jobs.{jobs-valid}
 use Rattle.model.proofs.Demands.{long-enough-decides}
-use Rattle.windows.specs.Answers.{boundTable}
 use Rattle.planning.proofs.RoomSizes.{pairs-few}
 use Rattle.listing_text.specs.Listings.{planRoom, priceRoom, shareRoom, zeros}
 
@@ -109,7 +107,7 @@ jobs-numbers bytes =
 -- the buffers are long enough for any site
 long-enough : (jobs : List Job) → ValidJobs jobs → LongEnough jobs planRoom priceRoom shareRoom
 long-enough jobs valid =
-    let (pairs, intervals, shares) = pairs-few jobs (length jobs) refl (valid .few) (boundTable (boundsOf jobs)) refl (intervalCount (boundsOf jobs)) (openPairs (boundsOf jobs) jobs) refl refl in
+    let (pairs, intervals, shares) = pairs-few jobs (length jobs) refl (valid .few) (length (boundsOf jobs)) refl (intervalCount (boundsOf jobs)) (openPairs (boundsOf jobs) jobs) refl refl in
     record { plan-room = omega arith; price-room = omega arith; share-room = omega arith }
 
 length-zeros : (n : ℕ) → length (zeros n) ≡ n

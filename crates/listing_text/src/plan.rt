@@ -44,10 +44,8 @@ pub(crate) fn put_plan(
             place: _,
         } => 0,
         Reading::Entries(count) => {
-            let releases = table.releases;
-            let deadlines = table.deadlines;
-            let bounds = bounds_of(&releases, &deadlines, count);
-            let times = bounds.times;
+            let mut times = [0u64; MAX_BOUNDS];
+            bounds_of(&table.releases, &table.deadlines, count, &mut times);
             put_lines(
                 levels,
                 &times,

@@ -19,8 +19,7 @@ use Rattle.model.specs.Prices.{PriceList, FittingPrices}
 use Rattle.model.proofs.BoundsOf.{bounds-of, length-boundsOf}
 use Rattle.tables.specs.Column.{columnOf}
 use Rattle.tables.proofs.Column.{column-at}
-use Rattle.windows.specs.declared.times.BoundTable.{BoundTable}
-use Rattle.windows.specs.Answers.{padded, boundTable}
+use Rattle.windows.specs.Answers.{padded, HoldsTimes}
 use Rattle.windows.proofs.Padded.{take-padded}
 use Rattle.energy.specs.Figures.{SmallBounds, figureOfLoads}
 use Rattle.energy.proofs.Figures.{small-bounds}
@@ -56,9 +55,8 @@ module _ (jobs : List Job) (valid : ValidJobs jobs) (times : List ℕ) (held : t
     omega (arith, times-small .last (suc i) (omega arith)),
   )
 
-pub table-small : {jobs : List Job} {bounds : BoundTable} → ValidJobs jobs → bounds ≡ boundTable (boundsOf jobs)
-    → SmallBounds (bounds .count) (bounds .times)
-table-small {jobs} valid held = rw held (times-small jobs valid (padded (boundsOf jobs)) refl)
+pub bounds-small : {jobs : List Job} {times : List ℕ} {bounds : ℕ} → ValidJobs jobs → HoldsTimes times bounds (boundsOf jobs) → SmallBounds bounds times
+bounds-small {jobs} {times} valid held = rw (held .counted) (times-small jobs valid times (held .array))
 
 -- there is room for the shares and the prices
 pub rooms : {ws : List Point} {jobs : List Job} {work : Workload} {planRoom priceRoom shareRoom : ℕ} → Curve ws → ValidJobs jobs
@@ -150,7 +148,7 @@ module _ (ws : List Point) (jobs : List Job) (work : Workload) (curve : Curve ws
           }
         where
           pairs-high : openPairs (boundsOf jobs) jobs ≤ 8128
-          pairs-high = pairs-few jobs (length jobs) refl (valid .few) (boundTable (boundsOf jobs)) refl _ (openPairs (boundsOf jobs) jobs) refl refl .0
+          pairs-high = pairs-few jobs (length jobs) refl (valid .few) (length (boundsOf jobs)) refl _ (openPairs (boundsOf jobs) jobs) refl refl .0
 
           table-size : length (take (length jobs * intervalCount (boundsOf jobs)) table) ≡ length jobs * intervalCount (boundsOf jobs)
           table-size =

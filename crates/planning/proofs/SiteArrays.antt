@@ -26,8 +26,7 @@ use Rattle.tables.proofs.Read.{length-jobsIn, job-in}
 use Rattle.levels.specs.declared.points.PointTable.{PointTable}
 use Rattle.levels.specs.PointTables.{pointsOf}
 use Rattle.levels.proofs.PointTables.{length-pointsOf}
-use Rattle.windows.specs.declared.times.BoundTable.{BoundTable}
-use Rattle.windows.specs.Answers.{boundTable}
+use Rattle.windows.specs.Answers.{HoldsTimes}
 use Rattle.planner.specs.declared.workload.Workload.{Workload}
 use Rattle.planner.specs.Placement.{SoundProblem}
 use Rattle.planner.specs.SiteProblem.{problemOf}
@@ -53,7 +52,7 @@ column-is size count f g fits agree zeros i = go (lt-or-le i count) (lt-or-le i 
     go (inr past) (inr outside) = getD-past (columnOf size count f) i 0 (omega (arith, length-column size f count)) ∙ sym (zeros i past)
 
 module _ (count : ℕ) (releases deadlines cycles : List ℕ) (valid : ValidJobs (jobsIn count releases deadlines cycles))
-    (bounds : BoundTable) (held : bounds ≡ boundTable (boundsOf (jobsIn count releases deadlines cycles))) where
+    (times : List ℕ) (bounds : ℕ) (held : HoldsTimes times bounds (boundsOf (jobsIn count releases deadlines cycles))) where
   abbrev jobs : List Job
   jobs = jobsIn count releases deadlines cycles
 
@@ -66,29 +65,26 @@ module _ (count : ℕ) (releases deadlines cycles : List ℕ) (valid : ValidJobs
   B : Bounds jobs (boundsOf jobs)
   B = bounds-of jobs (valid .release-before-deadline)
 
-  pub bounds-counted : bounds .count ≡ length (boundsOf jobs)
-  bounds-counted = ap (λ (table : BoundTable). table .count) held
+  pub bounds-few : bounds ≤ maxBounds
+  bounds-few = omega (arith, held .counted, length-boundsOf jobs, valid .few)
 
-  pub bounds-few : bounds .count ≤ maxBounds
-  bounds-few = omega (arith, bounds-counted, length-boundsOf jobs, valid .few)
-
-  time-at : (i : ℕ) → i < length (boundsOf jobs) → getD (bounds .times) i 0 ≡ boundAt (boundsOf jobs) i
+  time-at : (i : ℕ) → i < length (boundsOf jobs) → getD times i 0 ≡ boundAt (boundsOf jobs) i
   time-at i below =
-      ap (λ (table : BoundTable). getD (table .times) i 0) held
+      ap (λ (array : List ℕ). getD array i 0) (held .array)
       ∙ column-at maxBounds _ _ i (omega (arith, length-boundsOf jobs, valid .few)) below
 
   -- neighbouring times rise
-  pub times-rise : (i : ℕ) → i < bounds .count - 1 → getD (bounds .times) i 0 ≤ getD (bounds .times) (i + 1) 0
+  pub times-rise : (i : ℕ) → i < bounds - 1 → getD times i 0 ≤ getD times (i + 1) 0
   times-rise i below =
-      let inside : i + 1 < length (boundsOf jobs) = omega (arith, bounds-counted) in
+      let inside : i + 1 < length (boundsOf jobs) = omega (arith, held .counted) in
       rw (time-at i (omega arith), time-at (i + 1) inside) (omega (arith, bounds-rise B i (i + 1) (omega arith) inside))
 
   -- the bound that is a time is found by its number
-  number-found : (i time : ℕ) → i < length (boundsOf jobs) → boundAt (boundsOf jobs) i ≡ time → numberOf (bounds .count) (bounds .times) time ≡ i
+  number-found : (i time : ℕ) → i < length (boundsOf jobs) → boundAt (boundsOf jobs) i ≡ time → numberOf bounds times time ≡ i
   number-found i time below same =
-      firstBelow-is (bounds .count) _ i (omega (arith, bounds-counted))
-      (λ k before. lt-leb time (getD (bounds .times) k 0) (omega (arith, time-at k (omega arith), bounds-rise B k i before below)))
-      (le-leb time (getD (bounds .times) i 0) (omega (arith, time-at i below)))
+      firstBelow-is bounds _ i (omega (arith, held .counted))
+      (λ k before. lt-leb time (getD times k 0) (omega (arith, time-at k (omega arith), bounds-rise B k i before below)))
+      (le-leb time (getD times i 0) (omega (arith, time-at i below)))
 
   -- no bound is later than the latest deadline can be
   bound-high : (i : ℕ) → i < length (boundsOf jobs) → boundAt (boundsOf jobs) i ≤ maxDeadline
@@ -99,11 +95,11 @@ module _ (count : ℕ) (releases deadlines cycles : List ℕ) (valid : ValidJobs
       go (j, inside, inr deadline) = omega (arith, valid .deadline-high j inside)
 
   module _ (working : PointTable) (points : WorkingTable working) (work : Workload)
-      (jobs-are : work .jobs ≡ count) (intervals-are : work .intervals ≡ bounds .count - 1) (bands-are : work .bands ≡ working .count - 1)
-      (first-are : work .first ≡ columnOf maxJobs count (λ j. numberOf (bounds .count) (bounds .times) (getD releases j 0)))
-      (last-are : work .last ≡ columnOf maxJobs count (λ j. numberOf (bounds .count) (bounds .times) (getD deadlines j 0)))
+      (jobs-are : work .jobs ≡ count) (intervals-are : work .intervals ≡ bounds - 1) (bands-are : work .bands ≡ working .count - 1)
+      (first-are : work .first ≡ columnOf maxJobs count (λ j. numberOf bounds times (getD releases j 0)))
+      (last-are : work .last ≡ columnOf maxJobs count (λ j. numberOf bounds times (getD deadlines j 0)))
       (cycles-are : work .cycles ≡ columnOf maxJobs count (λ j. getD cycles j 0))
-      (size-are : work .size ≡ columnOf maxIntervals (work .intervals) (λ i. getD (bounds .times) (i + 1) 0 - getD (bounds .times) i 0))
+      (size-are : work .size ≡ columnOf maxIntervals (work .intervals) (λ i. getD times (i + 1) 0 - getD times i 0))
       (frequency-are : work .frequency ≡ working .frequencies) where
     cycles-at : (j : ℕ) → numbersIn (work .cycles) j ≡ jobOf jobs j .cycles
     cycles-at j =
@@ -113,7 +109,7 @@ module _ (count : ℕ) (releases deadlines cycles : List ℕ) (valid : ValidJobs
         (λ j past. ap (λ (job : Job). job .cycles) (getD-past jobs j noJob (omega (arith, counted)))) j)
 
     intervals-counted : work .intervals ≡ intervalCount (boundsOf jobs)
-    intervals-counted = intervals-are ∙ ap (λ (n : ℕ). n - 1) bounds-counted
+    intervals-counted = intervals-are ∙ ap (λ (n : ℕ). n - 1) (held .counted)
 
     size-at : (i : ℕ) → numbersIn (work .size) i ≡ lengthOf (boundsOf jobs) i
     unfolding lengthOf
@@ -141,7 +137,7 @@ module _ (count : ℕ) (releases deadlines cycles : List ℕ) (valid : ValidJobs
         own = job-in count releases deadlines cycles j here
 
         number-at : (numbers moments : List ℕ) (i : ℕ)
-            → numbers ≡ columnOf maxJobs count (λ j. numberOf (bounds .count) (bounds .times) (getD moments j 0))
+            → numbers ≡ columnOf maxJobs count (λ j. numberOf bounds times (getD moments j 0))
             → i < length (boundsOf jobs) → boundAt (boundsOf jobs) i ≡ getD moments j 0 → numbersIn numbers j ≡ i
         number-at numbers moments i are inside same =
             rw are (column-at maxJobs _ count j (omega (arith, jobs-few)) here ∙ number-found i (getD moments j 0) inside same)

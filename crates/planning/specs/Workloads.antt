@@ -5,10 +5,12 @@ use mathlib.Core.List.{List}
 use lib.ListN.{length, getD}
 use lib.Dec.{leb}
 use Rattle.model.specs.declared.Job.{Job}
+use Rattle.model.specs.Limits.{maxJobs}
 use Rattle.model.specs.Points.{Point}
 use Rattle.model.specs.Bands.{Curve}
 use Rattle.model.specs.Search.{firstBelow}
 use Rattle.model.specs.Intervals.{OpenRange}
+use Rattle.tables.specs.Column.{columnOf}
 use Rattle.levels.specs.declared.points.PointTable.{PointTable}
 use Rattle.levels.specs.PointTables.{pointTable, pointsOf, SmallPoints}
 use Rattle.planner.specs.declared.workload.Workload.{Workload}
@@ -18,6 +20,10 @@ use Rattle.planner.specs.Arrays.{numbersIn, problemIn, SoundWorkload}
 -- The number of the first of `count` bounds that is not before a time.
 abbrev pub numberOf : (count : ℕ) → (times : List ℕ) → (time : ℕ) → ℕ
 numberOf count times time = firstBelow count (λ i. leb time (getD times i 0))
+
+-- Cycles of `count` jobs in an array, zeros past the last.
+pub record PaddedCycles (count : ℕ) (cycles : List ℕ) : Type 0 where
+  pub zeros-past : cycles ≡ columnOf maxJobs count (λ j. getD cycles j 0)
 
 -- A table that holds working points, zeros past the last.
 pub record WorkingTable (working : PointTable) : Type 0 where

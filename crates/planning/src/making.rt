@@ -12,17 +12,17 @@ ghost use Rattle.model.specs.Demands.{LongEnough};
 ghost use Rattle.tables.specs.Column.{columnOf};
 ghost use Rattle.tables.specs.Tables.{jobsIn};
 ghost use Rattle.levels.specs.PointTables.{pointsOf};
-ghost use Rattle.windows.specs.Answers.{boundTable};
-ghost use Rattle.planning.specs.Workloads.{WorkingTable};
+ghost use Rattle.windows.specs.Answers.{HoldsTimes};
+ghost use Rattle.planning.specs.Workloads.{PaddedCycles, WorkingTable};
 ghost use Rattle.planning.specs.MadePlans.{MadePlan};
 use crate::workload::workload_of;
 use energy::energy_figure;
 use levels::PointTable;
+use model::MAX_BOUNDS;
 use model::MAX_INTERVALS;
 use model::MAX_JOBS;
 use planner::place;
 use planner::smallest_prices;
-use windows::BoundTable;
 use writing::write_plan;
 use writing::write_prices;
 
@@ -39,22 +39,24 @@ pub(crate) fn make_plan(
     deadlines: &[u64; MAX_JOBS],
     cycles: &[u64; MAX_JOBS],
     count: usize,
-    bounds: BoundTable,
+    times: &[u64; MAX_BOUNDS],
+    bounds: usize,
     working: PointTable,
     plan: &mut [u8],
     prices: &mut [u8],
     shares: &mut [u32],
 ) -> Figures
     requires { ⌜ ValidJobs (jobsIn count (now releases) (now deadlines) (now cycles)) ⌝ }
-    requires { ⌜ bounds ≡ boundTable (boundsOf (jobsIn count (now releases) (now deadlines) (now cycles))) ⌝ }
+    requires { ⌜ HoldsTimes (now times) bounds (boundsOf (jobsIn count (now releases) (now deadlines) (now cycles))) ⌝ }
     requires { ⌜ WorkingTable working ⌝ }
     requires { ⌜ earliestOverfull (frequencyOf (pointsOf working) (bandCount (pointsOf working))) (jobsIn count (now releases) (now deadlines) (now cycles)) ≡ none ⌝ }
     requires { ⌜ LongEnough (jobsIn count (now releases) (now deadlines) (now cycles)) (length (now plan)) (length (now prices)) (length (now shares)) ⌝ }
+    requires { ⌜ PaddedCycles count (now cycles) ⌝ }
     ensures { λ r. ⌜ MadePlan (pointsOf working) (jobsIn count (now (releases .entry)) (now (deadlines .entry)) (now (cycles .entry))) (r .intervals) (r .steps) (r .energy)
         (record { plan = now (plan .entry); prices = now (prices .entry); shares = now (shares .entry) })
         (record { plan = now (plan .exit); prices = now (prices .exit); shares = now (shares .exit) }) ⌝ }
 {
-    let work = workload_of(releases, deadlines, cycles, count, bounds, working);
+    let work = workload_of(releases, deadlines, cycles, count, times, bounds, working);
     let mut loads = [0u64; MAX_INTERVALS];
     let mut numbers = [0u64; MAX_INTERVALS];
     place(work, shares, &mut loads, &mut numbers);
@@ -72,10 +74,9 @@ pub(crate) fn make_plan(
         &mut numbers,
     );
     let counted = from_one(&numbers, intervals);
-    let times = bounds.times;
     let steps = write_plan(shares, work.jobs, intervals, plan);
-    write_prices(&times, &counted, intervals, prices);
-    let energy = energy_figure(working, &times, bounds.count, &loads);
+    write_prices(times, &counted, intervals, prices);
+    let energy = energy_figure(working, times, bounds, &loads);
     Figures {
         intervals,
         steps,

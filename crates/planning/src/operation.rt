@@ -8,12 +8,13 @@ ghost use Rattle.model.specs.Bands.{frequencyOf, bandCount};
 ghost use Rattle.model.specs.Windows.{earliestOverfull};
 ghost use Rattle.tables.specs.Tables.{jobsIn};
 ghost use Rattle.levels.specs.PointTables.{pointsOf};
-ghost use Rattle.planning.specs.Workloads.{WorkingTable};
+ghost use Rattle.planning.specs.Workloads.{PaddedCycles, WorkingTable};
 ghost use Rattle.planning.specs.PlanAnswers.{LevelStage, TableStage, PlanContract};
 use crate::making::make_plan;
 use crate::rooms::rooms_of;
 use levels::PointTable;
 use levels::working_levels;
+use model::MAX_BOUNDS;
 use model::MAX_JOBS;
 use tables::Reading;
 use tables::read_jobs;
@@ -87,15 +88,12 @@ fn plan_jobs(
     match reading {
         Reading::Refused { number, place } => PlanAnswer::Refused { number, place },
         Reading::Entries(count) => {
-            let releases = table.releases;
-            let deadlines = table.deadlines;
-            let cycles = table.cycles;
             plan_tables(
                 working,
                 top,
-                &releases,
-                &deadlines,
-                &cycles,
+                &table.releases,
+                &table.deadlines,
+                &table.cycles,
                 count,
                 plan,
                 prices,
@@ -106,12 +104,12 @@ fn plan_jobs(
 }
 
 // Planning where both tables were read: the earliest overfull window, or a plan.
-fn plan_tables(
+fn plan_tables<'a>(
     working: PointTable,
     top: u64,
-    releases: &[u64; MAX_JOBS],
-    deadlines: &[u64; MAX_JOBS],
-    cycles: &[u64; MAX_JOBS],
+    releases: &'a [u64; MAX_JOBS],
+    deadlines: &'a [u64; MAX_JOBS],
+    cycles: &'a [u64; MAX_JOBS],
     count: usize,
     plan: &mut [u8],
     prices: &mut [u8],
@@ -120,6 +118,7 @@ fn plan_tables(
     requires { ⌜ ValidJobs (jobsIn count (now releases) (now deadlines) (now cycles)) ⌝ }
     requires { ⌜ WorkingTable working ⌝ }
     requires { ⌜ (top ≤ maxFrequency) × (frequencyOf (pointsOf working) (bandCount (pointsOf working)) ≡ top) ⌝ }
+    requires { ⌜ PaddedCycles count (now cycles) ⌝ }
     ensures { λ r. ⌜ TableStage (pointsOf working) top (jobsIn count (now (releases .entry)) (now (deadlines .entry)) (now (cycles .entry)))
         (record { plan = now (plan .entry); prices = now (prices .entry); shares = now (shares .entry) })
         (record { plan = now (plan .exit); prices = now (prices .exit); shares = now (shares .exit) }) r ⌝ }
@@ -148,11 +147,11 @@ fn plan_tables(
 }
 
 // Planning where no window is overfull: each buffer is compared with the length wanted, and then the plan is made.
-fn plan_fitting(
+fn plan_fitting<'a>(
     working: PointTable,
-    releases: &[u64; MAX_JOBS],
-    deadlines: &[u64; MAX_JOBS],
-    cycles: &[u64; MAX_JOBS],
+    releases: &'a [u64; MAX_JOBS],
+    deadlines: &'a [u64; MAX_JOBS],
+    cycles: &'a [u64; MAX_JOBS],
     count: usize,
     plan: &mut [u8],
     prices: &mut [u8],
@@ -161,12 +160,14 @@ fn plan_fitting(
     requires { ⌜ ValidJobs (jobsIn count (now releases) (now deadlines) (now cycles)) ⌝ }
     requires { ⌜ WorkingTable working ⌝ }
     requires { ⌜ earliestOverfull (frequencyOf (pointsOf working) (bandCount (pointsOf working))) (jobsIn count (now releases) (now deadlines) (now cycles)) ≡ none ⌝ }
+    requires { ⌜ PaddedCycles count (now cycles) ⌝ }
     ensures { λ r. ⌜ TableStage (pointsOf working) (frequencyOf (pointsOf working) (bandCount (pointsOf working))) (jobsIn count (now (releases .entry)) (now (deadlines .entry)) (now (cycles .entry)))
         (record { plan = now (plan .entry); prices = now (prices .entry); shares = now (shares .entry) })
         (record { plan = now (plan .exit); prices = now (prices .exit); shares = now (shares .exit) }) r ⌝ }
 {
-    let bounds = bounds_of(releases, deadlines, count);
-    let rooms = rooms_of(releases, deadlines, count, bounds);
+    let mut times = [0u64; MAX_BOUNDS];
+    let bounds = bounds_of(releases, deadlines, count, &mut times);
+    let rooms = rooms_of(releases, deadlines, count, &times, bounds);
     if plan.len() < rooms.plan {
         return PlanAnswer::Refused {
             number: 12,
@@ -190,6 +191,7 @@ fn plan_fitting(
         deadlines,
         cycles,
         count,
+        &times,
         bounds,
         working,
         plan,

@@ -12,7 +12,7 @@ use Rattle.model.specs.Limits.{maxJobs}
 use Rattle.model.specs.Bytes.{number32}
 use Rattle.model.specs.Outcome.{Outcome, refused, answer, byEntry}
 use Rattle.model.specs.Jobs.{noJob, jobCount, jobAt, jobEntries, jobFault, readJobs}
-use Rattle.model.proofs.Entries.{listOf-cong}
+use Rattle.model.proofs.Entries.{length-listOf, listOf-cong}
 use Rattle.tables.specs.declared.Reading.{Reading}
 use Rattle.tables.specs.declared.Reading.the-variants.{Entries, Refused}
 use Rattle.tables.specs.Column.{columnOf}
@@ -45,18 +45,18 @@ module _ (bytes : List ℕ) where
       listOf-cong (jobCount bytes) _ _
       (λ j below. let inside : j < maxJobs = omega arith in rw (column-at, column-at, column-at, deadline-at))
 
-  -- where the entries are answered, the arrays stand beside the answer as they were filled
+  -- where the entries are answered, the arrays stand beside their number as they were filled
   jobs-answered : (n : ℕ) → readingOf checked ≡ Entries n
-      → record { reading = Entries n; releases = releaseColumn; deadlines = deadlineColumn; cycles = cyclesColumn } ≡ jobTable checked
+      → record { reading = Entries (jobCount bytes); releases = releaseColumn; deadlines = deadlineColumn; cycles = cyclesColumn } ≡ jobTable checked
   unfolding jobAt
   jobs-answered n e =
       let whole : checked ≡ answer (jobEntries bytes) = reading-answered _ _ _ n e in
       rw (
-        ← e,
         whole,
         column-of-entries maxJobs (jobCount bytes) (jobAt bytes) noJob (λ job. job .release) _ (λ j. refl),
         column-of-entries maxJobs (jobCount bytes) (jobAt bytes) noJob (λ job. job .deadline) _ deadline-at,
         column-of-entries maxJobs (jobCount bytes) (jobAt bytes) noJob (λ job. job .cycles) _ (λ j. refl),
+        length-listOf (jobCount bytes) (jobAt bytes),
       )
 
   -- the ways out before the entries, and past them
@@ -93,5 +93,5 @@ module _ (bytes : List ℕ) where
     jobs-refused number place e = sym (reading-refused checked number place (sym found-checked ∙ e))
 
     pub jobs-filled : (n : ℕ) → reading ≡ Entries n
-        → record { reading = reading; releases = releases; deadlines = deadlines; cycles = cycles } ≡ jobTable checked
-    jobs-filled n e = rw (e, first, second, third, counted) (jobs-answered n (sym found-checked ∙ e))
+        → record { reading = Entries count; releases = releases; deadlines = deadlines; cycles = cycles } ≡ jobTable checked
+    jobs-filled n e = rw (first, second, third, counted) (jobs-answered n (sym found-checked ∙ e))

@@ -9,7 +9,7 @@ use lib.ListN.{length, getD}
 use Rattle.model.specs.declared.Level.{Level}
 use Rattle.model.specs.declared.Job.{Job}
 use Rattle.model.specs.Limits.{maxLevels, maxFrequency, maxJobs}
-use Rattle.model.specs.Outcome.{refused, answer}
+use Rattle.model.specs.Outcome.{Outcome, refused, answer}
 use Rattle.model.specs.Entries.{listOf}
 use Rattle.model.specs.Levels.{idling, levelOf, readLevels, ValidLevels}
 use Rattle.model.specs.Jobs.{noJob, jobOf, readJobs, ValidJobs}
@@ -22,7 +22,7 @@ use Rattle.tables.specs.declared.levels.LevelTable.{LevelTable}
 use Rattle.tables.specs.declared.jobs.JobTable.{JobTable}
 use Rattle.tables.specs.Column.{columnOf}
 use Rattle.tables.specs.Tables.{levelsIn, jobsIn, levelTable, jobTable}
-use Rattle.tables.proofs.Column.{column-at}
+use Rattle.tables.proofs.Column.{column-at, column-cong}
 use Rattle.tables.proofs.ByEntry.{reading-refused, reading-held}
 
 -- a list whose elements are those of another, one by one
@@ -122,3 +122,14 @@ module _ (bytes : List ℕ) (table : JobTable) (read : table ≡ jobTable (readJ
   jobs-read count e =
       reading-held _ count _ (sym (ap (λ (t : JobTable). t .reading) read) ∙ e)
       (λ jobs answered counted. rw (read, answered, ← counted) (jobs-held jobs (jobs-valid bytes jobs answered .few)))
+
+  -- past the last job the cycles are zeros
+  pub cycles-padded : (count : ℕ) → table .reading ≡ Entries count → table .cycles ≡ columnOf maxJobs count (λ j. getD (table .cycles) j 0)
+  cycles-padded count e =
+      let jobs = jobsIn count (table .releases) (table .deadlines) (table .cycles) in
+      let held : table .cycles ≡ columnOf maxJobs (length jobs) (λ j. jobOf jobs j .cycles) =
+      ap (λ (t : JobTable). t .cycles) read ∙ ap (λ (outcome : Outcome (List Job)). jobTable outcome .cycles) (jobs-read count e) in
+      held
+      ∙ ap (λ (n : ℕ). columnOf maxJobs n (λ j. jobOf jobs j .cycles)) (length-jobsIn count (table .releases) (table .deadlines) (table .cycles))
+      ∙ column-cong maxJobs count _ _
+      (λ j below. ap (λ (job : Job). job .cycles) (job-in count (table .releases) (table .deadlines) (table .cycles) j below))

@@ -36,17 +36,18 @@ pub fn read_jobs(bytes: &[u8]) -> JobTable
     if bytes.len() != 2 + 12 * count {
         return refused_jobs(8, 0);
     }
-    let releases = column32(bytes, 2, 8, count);
-    let deadlines = column32(bytes, 6, 8, count);
-    let cycles = column32(bytes, 2 + 8 * count, 4, count);
-    let reading = check_jobs(&releases, &deadlines, &cycles, count);
-    match reading {
-        Reading::Entries(_) => JobTable {
-            reading,
-            releases,
-            deadlines,
-            cycles,
-        },
+    let mut table = JobTable {
+        reading: Reading::Entries(count),
+        releases: [0; MAX_JOBS],
+        deadlines: [0; MAX_JOBS],
+        cycles: [0; MAX_JOBS],
+    };
+    column32(bytes, 2, 8, count, &mut table.releases);
+    column32(bytes, 6, 8, count, &mut table.deadlines);
+    column32(bytes, 2 + 8 * count, 4, count, &mut table.cycles);
+    let checked = check_jobs(&table.releases, &table.deadlines, &table.cycles, count);
+    match checked {
+        Reading::Entries(_) => table,
         Reading::Refused { number, place } => refused_jobs(number, place),
     }
 }
@@ -63,10 +64,10 @@ fn refused_jobs(number: u32, place: u32) -> JobTable
 }
 
 // Goes through the entries one after another.
-fn check_jobs(
-    releases: &[u64; MAX_JOBS],
-    deadlines: &[u64; MAX_JOBS],
-    cycles: &[u64; MAX_JOBS],
+fn check_jobs<'a>(
+    releases: &'a [u64; MAX_JOBS],
+    deadlines: &'a [u64; MAX_JOBS],
+    cycles: &'a [u64; MAX_JOBS],
     count: usize,
 ) -> Reading
     requires { ⌜ count ≤ maxJobs ⌝ }

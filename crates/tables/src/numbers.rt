@@ -1,7 +1,7 @@
 // Little-endian numbers of 16 and 32 bits, one at a place and a whole column of them.
 ghost use mathlib.Core.Path.{_≡_};
 ghost use Prim.Native.Nat.{ℕ, _+_, _*_, _<_, _≤_};
-ghost use lib.ListN.{length};
+ghost use lib.ListN.{length, replicate};
 ghost use Rattle.model.specs.Limits.{maxLevels, maxJobs};
 ghost use Rattle.model.specs.Bytes.{number16 as at16, number32 as at32};
 ghost use Rattle.tables.specs.Column.{columnOf};
@@ -42,16 +42,21 @@ pub(crate) fn column16(bytes: &[u8], place: usize, count: usize) -> [u64; MAX_LE
     numbers
 }
 
-// The 32-bit numbers from a place on, each `stride` bytes after the one before, as many as count; zeros after them.
-pub(crate) fn column32(bytes: &[u8], place: usize, stride: usize, count: usize) -> [u64; MAX_JOBS]
+// Fills an array of zeros with the 32-bit numbers from a place on, each `stride` bytes after the one before, as many as count.
+pub(crate) fn column32(
+    bytes: &[u8],
+    place: usize,
+    stride: usize,
+    count: usize,
+    numbers: &mut [u64; MAX_JOBS],
+)
     requires { ⌜ (count ≤ maxJobs) × ((i : ℕ) → i < count → place + stride * i + 4 ≤ length (now bytes)) ⌝ }
-    ensures { λ r. ⌜ r ≡ columnOf maxJobs count (λ i. at32 (now (bytes .entry)) (place + stride * i)) ⌝ }
+    requires { ⌜ now numbers ≡ replicate maxJobs 0 ⌝ }
+    ensures { λ _. ⌜ now (numbers .exit) ≡ columnOf maxJobs count (λ i. at32 (now (bytes .entry)) (place + stride * i)) ⌝ }
 {
-    let mut numbers = [0u64; MAX_JOBS];
     let mut i = 0;
     while i < count {
         numbers[i] = number32(bytes, place + stride * i);
         i += 1;
     }
-    numbers
 }

@@ -5,4 +5,3 @@ pub mod Bits
 pub mod Capacity
 pub mod Inserted
 pub mod Padded
-pub mod Pairs

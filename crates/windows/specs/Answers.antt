@@ -1,19 +1,18 @@
 -- The answers of this crate: the paper's number and values for each case of an enum, and lists in plain arrays.
 use Prim.Native.Nat.{ℕ, _^_, min}
+use mathlib.Core.Path.{_≡_}
 use mathlib.Core.Bool.{Bool, not, _&&_, _||_}
 use mathlib.Core.List.{List, _∷_, _++_}
 use mathlib.Core.Option.{Option, none, some}
 use lib.ListN.{length, getD, take, drop}
 use lib.IntN.{ℤ}
 use lib.Dec.{ltb, leb, eqb}
-use lib.Count.{ones}
 use Rattle.model.specs.declared.Job.{Job}
-use Rattle.model.specs.Limits.{maxDeadline, maxBounds, maxIntervals}
+use Rattle.model.specs.Limits.{maxDeadline, maxBounds}
 use Rattle.model.specs.Outcome.{Outcome, refused, answer, refuseWhen, andThen}
 use Rattle.model.specs.Sum.{sum, onlyIf}
 use Rattle.model.specs.Search.{someBelow}
 use Rattle.model.specs.Jobs.{jobOf, readJobs}
-use Rattle.model.specs.Intervals.{intervalCount, openSet}
 use Rattle.model.specs.Windows.{Window, spareOf, overfullTo}
 use Rattle.tables.specs.Column.{columnOf}
 use Rattle.windows.specs.declared.window.SpareAnswer.{SpareAnswer}
@@ -22,7 +21,6 @@ use Rattle.windows.specs.declared.overfull.Overfull.{Overfull}
 use Rattle.windows.specs.declared.overfull.Overfull.the-variants.{Window as WindowFound, Fits}
 use Rattle.windows.specs.declared.overfull.Found.{Found}
 use Rattle.windows.specs.declared.overfull.Found.the-variants.{At, Nothing}
-use Rattle.windows.specs.declared.times.BoundTable.{BoundTable}
 
 -- The spare, or the refusal's number and place.
 abbrev pub spareAnswer : Outcome ℤ → SpareAnswer
@@ -69,22 +67,16 @@ startsOverfull top jobs j = someBelow (length jobs) (overfullTo top jobs (jobOf 
 abbrev pub padded : List ℕ → List ℕ
 padded times = columnOf maxBounds (length times) (λ i. getD times i 0)
 
+-- An array that holds a list of times, zeros past the last, and their number.
+pub record HoldsTimes (times : List ℕ) (count : ℕ) (l : List ℕ) : Type 0 where
+  pub array : times ≡ padded l
+  pub counted : count ≡ length l
+
 -- A list with a time put in at a place, and what stood from there on after it.
 abbrev pub insertedAt : (at time : ℕ) → List ℕ → List ℕ
 insertedAt at time times = take at times ++ (time ∷ drop at times)
-
-abbrev pub boundTable : List ℕ → BoundTable
-boundTable bounds = record { count = length bounds; times = padded bounds }
-
--- The open sets of all intervals in an array, zeros past the last.
-abbrev pub openSets : (bounds : List ℕ) → List Job → List ℕ
-openSets bounds jobs = columnOf maxIntervals (intervalCount bounds) (openSet bounds jobs)
 
 -- The set of the jobs that are open from start to end.
 abbrev pub setBetween : (start end : ℕ) → List Job → ℕ
 setBetween start end jobs =
     sum (length jobs) (λ j. onlyIf (leb (jobOf jobs j .release) start && leb end (jobOf jobs j .deadline)) (2 ^ j))
-
--- The ones of the first words, added.
-abbrev pub onesOf : (count : ℕ) → List ℕ → ℕ
-onesOf count words = sum count (λ i. ones (getD words i 0))

@@ -1,43 +1,38 @@
-// Open sets: the jobs open in each interval, as words.
+// Open sets: the jobs open in an interval, as a word; and K, the ones of all of them.
 ghost use mathlib.Core.Path.{_≡_};
 ghost use mathlib.Core.Bool.{_&&_};
 ghost use mathlib.Core.List.{List};
 ghost use Prim.Native.Nat.{ℕ, _^_, _<_, _≤_};
-ghost use lib.ListN.{take};
+ghost use lib.ListN.{length, take};
 ghost use lib.Dec.{leb};
 ghost use lib.Count.{ones};
-ghost use Rattle.model.specs.Limits.{maxJobs, maxBounds, maxIntervals};
+ghost use Rattle.model.specs.Limits.{maxJobs, maxBounds};
 ghost use Rattle.model.specs.Sum.{onlyIf};
+ghost use Rattle.model.specs.Intervals.{openPairs};
 ghost use Rattle.tables.specs.Tables.{jobsIn};
-ghost use Rattle.windows.specs.Answers.{openSets, setBetween, onesOf};
-use crate::times::BoundTable;
-use model::MAX_INTERVALS;
+ghost use Rattle.windows.specs.Answers.{setBetween};
+use model::MAX_BOUNDS;
 use model::MAX_JOBS;
 
-// The open set of each interval, bit number equal to job number; zeros past the last interval.
-pub fn open_sets(
-    bounds: BoundTable,
+// K, the number of pairs of a job and an interval where the job is open: the ones of the open sets of all intervals.
+pub fn open_pairs(
+    times: &[u64; MAX_BOUNDS],
+    bounds: usize,
     releases: &[u64; MAX_JOBS],
     deadlines: &[u64; MAX_JOBS],
     count: usize,
-) -> [u64; MAX_INTERVALS]
-    requires { ⌜ (count ≤ maxJobs) × (bounds .count ≤ maxBounds) ⌝ }
-    ensures { λ r. ⌜ ((cycles : List ℕ) → r ≡ openSets (take (bounds .count) (bounds .times)) (jobsIn count (now (releases .entry)) (now (deadlines .entry)) cycles)) ⌝ }
+) -> usize
+    requires { ⌜ (bounds ≤ maxBounds) × (length (now times) ≡ maxBounds) × (count ≤ maxJobs) ⌝ }
+    ensures { λ r. ⌜ ((cycles : List ℕ) → r ≡ openPairs (take bounds (now (times .entry))) (jobsIn count (now (releases .entry)) (now (deadlines .entry)) cycles)) ⌝ }
 {
-    let mut sets = [0u64; MAX_INTERVALS];
-    let bound_count = bounds.count;
+    let mut pairs = 0;
     let mut i = 0;
-    while i + 1 < bound_count {
-        sets[i] = open_set(
-            releases,
-            deadlines,
-            count,
-            bounds.times[i],
-            bounds.times[i + 1],
-        );
+    while i + 1 < bounds {
+        let set = open_set(releases, deadlines, count, times[i], times[i + 1]);
+        pairs += jobs_of(set);
         i += 1;
     }
-    sets
+    pairs
 }
 
 // The jobs that are open from start to end.
@@ -72,20 +67,6 @@ fn bit_if_open(release: u64, deadline: u64, j: usize, start: u64, end: u64) -> u
         return 0;
     }
     1u64 << j
-}
-
-// The number of pairs of a job and an interval where the job is open: the ones of all open sets.
-pub fn open_pairs(sets: &[u64; MAX_INTERVALS], interval_count: usize) -> usize
-    requires { ⌜ «interval_count» ≤ maxIntervals ⌝ }
-    ensures { λ r. ⌜ r ≡ onesOf «interval_count» (now (sets .entry)) ⌝ }
-{
-    let mut pairs = 0;
-    let mut i = 0;
-    while i < interval_count {
-        pairs += jobs_of(sets[i]);
-        i += 1;
-    }
-    pairs
 }
 
 // How many jobs a set has.

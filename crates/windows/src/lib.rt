@@ -1,14 +1,12 @@
-// Windows and intervals of a job table: the spare of a window, the earliest overfull window, bounds and open sets.
+// Windows and intervals of a job table: the spare of a window, the earliest overfull window, bounds and open pairs.
 mod intervals;
 mod overfull;
 mod times;
 mod window;
 
 pub use intervals::open_pairs;
-pub use intervals::open_sets;
 pub use overfull::Overfull;
 pub use overfull::earliest_overfull;
-pub use times::BoundTable;
 pub use times::bound_number;
 pub use times::bounds_of;
 pub use times::interval_count;

@@ -56,19 +56,24 @@ fn spare_of_jobs(top: u64, jobs: &[u8], start: u64, end: u64) -> SpareAnswer
                     place: 0,
                 };
             }
-            let releases = table.releases;
-            let deadlines = table.deadlines;
-            let cycles = table.cycles;
-            SpareAnswer::Spare(window_spare(&releases, &deadlines, &cycles, count, top, start, end))
+            SpareAnswer::Spare(window_spare(
+                &table.releases,
+                &table.deadlines,
+                &table.cycles,
+                count,
+                top,
+                start,
+                end,
+            ))
         }
     }
 }
 
 // The spare of a window for jobs that were read.
-pub fn window_spare(
-    releases: &[u64; MAX_JOBS],
-    deadlines: &[u64; MAX_JOBS],
-    cycles: &[u64; MAX_JOBS],
+pub fn window_spare<'a>(
+    releases: &'a [u64; MAX_JOBS],
+    deadlines: &'a [u64; MAX_JOBS],
+    cycles: &'a [u64; MAX_JOBS],
     count: usize,
     top: u64,
     start: u64,

@@ -29,7 +29,7 @@ answered c = jobs-read _ _ (c .before .before .read-jobs .ensures) _ (c .reading
 
 check-tables-requires : tie.Need-check-tables-requires
 check-tables-requires c κs =
-    let read = c .before .before .before .before .before .before .before in
+    let read = c .before .before .before .before .before in
     (read .before .before .before .before .before .before .pre, jobs-valid _ _ (answered read))
 
 returns : tie.Need-returns
@@ -38,7 +38,7 @@ returns c =
     rw (jobs-read-refused _ _ (known .before .before .read-jobs .ensures) _ _ (known .reading .given .1))
 
 returns-2 : tie.Need-returns-2
-returns-2 c = rw (answered (c .before .before .before .before .before .before .before .before)) (c .check-tables .ensures)
+returns-2 c = rw (answered (c .before .before .before .before .before .before)) (c .check-tables .ensures)
 
 pub check-jobs-spec : {M : Type 1} → statement M
 check-jobs-spec =

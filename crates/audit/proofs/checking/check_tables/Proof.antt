@@ -1,6 +1,6 @@
 -- `checking::check_tables` meets its contract. Each way out rests on the verdicts that led there, by the laws of
 -- proofs/BothHalves.antt. Assumes nothing.
-use mathlib.Core.Path.{_≡_, _∙_, ap}
+use mathlib.Core.Path.{_≡_, refl, _∙_, ap}
 use Prim.Native.Nat.{ℕ, _≤_}
 use lib.ListN.{length}
 use denote.Ref.{now}
@@ -23,21 +23,21 @@ use Rattle.audit.proofs.checking.check_tables.Tie as tie
 few : (c : tie.Start) → c .args .count ≤ maxJobs
 few c = jobs-count (c .args .count) (now (c .args .releases)) (now (c .args .deadlines)) (now (c .args .cycles)) (c .pre .1)
 
-small : (c : tie.After-bounds-of) → SmallBounds (c .bounds-of .result .count) (c .bounds-of .result .times)
+small : (c : tie.After-bounds-of) → SmallBounds (c .bounds-of .result) (c .bounds-of .last .1 .1 .1 .0)
 small c =
-    let start = c .before .before .before in
+    let start = c .before .before .before .before in
     let a = start .args in
     bounds-small
     (a .working) (a .top) (a .count) (now (a .releases)) (now (a .deadlines)) (now (a .cycles)) (now (a .plan)) (now (a .prices))
-    (start .pre .1) _ (c .bounds-of .ensures (now (a .cycles)))
+    (start .pre .1) _ _ (c .bounds-of .ensures (now (a .cycles)))
 
 -- what was found is what the jobs of the tables have
 found : (c : tie.After-tests-of)
-    → let bounded = c .before .before .before .before .before .before in
-    let a = bounded .before .before .before .args in
+    → let bounded = c .before .before .before .before .before in
+    let a = bounded .before .before .before .before .args in
     c .tests-of .result
     ≡ testsOf (jobsIn (a .count) (now (a .releases)) (now (a .deadlines)) (now (a .cycles)))
-    (bounded .bounds-of .result .times) (bounded .bounds-of .result .count) (planSums (now (a .plan)))
+    (bounded .bounds-of .last .1 .1 .1 .0) (bounded .bounds-of .result) (planSums (now (a .plan)))
 found c =
     let summed = c .before .before .before in
     let listed = summed .before in
@@ -51,26 +51,26 @@ found c =
     )
 
 opened : (c : tie.After-tests-of)
-    → let bounded = c .before .before .before .before .before .before in
-    let a = bounded .before .before .before .args in
+    → let bounded = c .before .before .before .before .before in
+    let a = bounded .before .before .before .before .args in
     c .tests-of .result .sets
     ≡ openSetsBelow (jobsIn (a .count) (now (a .releases)) (now (a .deadlines)) (now (a .cycles))) (a .count)
-    (bounded .bounds-of .result .times) (bounded .bounds-of .result .count)
+    (bounded .bounds-of .last .1 .1 .1 .0) (bounded .bounds-of .result)
 opened c =
-    let bounded = c .before .before .before .before .before .before in
-    let a = bounded .before .before .before .args in
+    let bounded = c .before .before .before .before .before in
+    let a = bounded .before .before .before .before .args in
     let jobs = jobsIn (a .count) (now (a .releases)) (now (a .deadlines)) (now (a .cycles)) in
     ap (λ (t : JobTests). t .sets) (found c)
     ∙ sets-found jobs _ _ _ (length jobs)
-    ∙ ap (λ (n : ℕ). openSetsBelow jobs n (bounded .bounds-of .result .times) (bounded .bounds-of .result .count))
+    ∙ ap (λ (n : ℕ). openSetsBelow jobs n (bounded .bounds-of .last .1 .1 .1 .0) (bounded .bounds-of .result))
     (length-jobsIn (a .count) (now (a .releases)) (now (a .deadlines)) (now (a .cycles)))
 
 -- the first half over the jobs of the tables
 first-half : (c : tie.After-fit)
-    → let bounded = c .before .before .before .before .before .before .before .before in
-    let a = bounded .before .before .before .args in
+    → let bounded = c .before .before .before .before .before .before .before in
+    let a = bounded .before .before .before .before .args in
     let jobs = jobsIn (a .count) (now (a .releases)) (now (a .deadlines)) (now (a .cycles)) in
-    let bs = boundsIn (bounded .bounds-of .result .count) (bounded .bounds-of .result .times) in
+    let bs = boundsIn (bounded .bounds-of .result) (bounded .bounds-of .last .1 .1 .1 .0) in
     c .fit .result ≡ fittedOf (fitting (a .top) jobs bs (now (a .plan)) (answer (loadsOf jobs bs (now (a .plan)))))
 first-half c =
     let tested = c .before .before in
@@ -78,7 +78,7 @@ first-half c =
     c .fit .ensures _ (length-jobsIn (a .count) (now (a .releases)) (now (a .deadlines)) (now (a .cycles))) (found tested)
 
 bounds-of-requires : tie.Need-bounds-of-requires
-bounds-of-requires c κs = few (c .before .before)
+bounds-of-requires c κs = (few (c .before .before .before), refl)
 
 job-records-requires : tie.Need-job-records-requires
 job-records-requires c κs = search needs
@@ -88,13 +88,13 @@ plan-sums-requires c κs = search needs
 
 tests-of-requires : tie.Need-tests-of-requires
 tests-of-requires c κs =
-    let bounded = c .before .before .before .before .before in
-    (few (bounded .before .before .before), small bounded .few)
+    let bounded = c .before .before .before .before in
+    (few (bounded .before .before .before .before), small bounded .few)
 
 fit-requires : tie.Need-fit-requires
 fit-requires c κs =
-    let bounded = c .before .before .before .before .before .before .before in
-    let start = bounded .before .before .before in
+    let bounded = c .before .before .before .before .before .before in
+    let start = bounded .before .before .before .before in
     (start .pre .0 .2, few start, small bounded)
 
 enum-known-first : tie.Need-enum-known-first
@@ -104,12 +104,12 @@ returns : tie.Need-returns
 returns c =
     let fitted = c .before .before .before in
     let tested = fitted .before .before in
-    let bounded = tested .before .before .before .before .before .before in
-    let start = bounded .before .before .before in
+    let bounded = tested .before .before .before .before .before in
+    let start = bounded .before .before .before .before in
     let a = start .args in
     first-refused
     (a .working) (a .top) (a .count) (now (a .releases)) (now (a .deadlines)) (now (a .cycles)) (now (a .plan)) (now (a .prices))
-    (start .pre .1) _ (bounded .bounds-of .ensures (now (a .cycles))) _ (first-half fitted)
+    (start .pre .1) _ _ (bounded .bounds-of .ensures (now (a .cycles))) _ (first-half fitted)
     _ _ (c .before .first .given .1)
 
 enum-told : tie.Need-enum-told
@@ -120,15 +120,15 @@ price-requires c κs =
     let fits = c .before .before .before .before .before in
     let fitted = fits .before .before in
     let tested = fitted .before .before in
-    let bounded = tested .before .before .before .before .before .before in
-    let start = bounded .before .before .before in
+    let bounded = tested .before .before .before .before .before in
+    let start = bounded .before .before .before .before in
     let a = start .args in (
       (start .pre .0 .0, start .pre .0 .1),
       (
         (small bounded, few start),
         planned
             (a .working) (a .top) (a .count) (now (a .releases)) (now (a .deadlines)) (now (a .cycles)) (now (a .plan)) (now (a .prices))
-            (start .pre .1) _ (bounded .bounds-of .ensures (now (a .cycles))) _ (first-half fitted) (fits .enum-told .given .1),
+            (start .pre .1) _ _ (bounded .bounds-of .ensures (now (a .cycles))) _ (first-half fitted) (fits .enum-told .given .1),
       ),
     )
 
@@ -141,12 +141,12 @@ returns-2 c =
     let fits = priced .before .before .before .before .before .before in
     let fitted = fits .before .before in
     let tested = fitted .before .before in
-    let bounded = tested .before .before .before .before .before .before in
-    let start = bounded .before .before .before in
+    let bounded = tested .before .before .before .before .before in
+    let start = bounded .before .before .before .before in
     let a = start .args in
     second-refused
     (a .working) (a .top) (a .count) (now (a .releases)) (now (a .deadlines)) (now (a .cycles)) (now (a .plan)) (now (a .prices))
-    (start .pre .1) _ (bounded .bounds-of .ensures (now (a .cycles))) _ (first-half fitted) (fits .enum-told .given .1)
+    (start .pre .1) _ _ (bounded .bounds-of .ensures (now (a .cycles))) _ (first-half fitted) (fits .enum-told .given .1)
     _ (priced .price .ensures _ (length-jobsIn (a .count) (now (a .releases)) (now (a .deadlines)) (now (a .cycles))) (opened tested)) _ _ (c .before .second .given .1)
 
 enum-told-2 : tie.Need-enum-told-2
@@ -155,8 +155,8 @@ enum-told-2 c = search needs
 energy-figure-requires : tie.Need-energy-figure-requires
 energy-figure-requires c κs =
     let fitted = c .before .before .before .before .before .before .before .before .before .before .before .before in
-    let bounded = fitted .before .before .before .before .before .before .before .before in
-    (bounded .before .before .before .pre .0 .0, small bounded)
+    let bounded = fitted .before .before .before .before .before .before .before in
+    (bounded .before .before .before .before .pre .0 .0, small bounded)
 
 returns-3 : tie.Need-returns-3
 returns-3 c =
@@ -165,12 +165,12 @@ returns-3 c =
     let fits = priced .before .before .before .before .before .before in
     let fitted = fits .before .before in
     let tested = fitted .before .before in
-    let bounded = tested .before .before .before .before .before .before in
-    let start = bounded .before .before .before in
+    let bounded = tested .before .before .before .before .before in
+    let start = bounded .before .before .before .before in
     let a = start .args in
     all-passed
     (a .working) (a .top) (a .count) (now (a .releases)) (now (a .deadlines)) (now (a .cycles)) (now (a .plan)) (now (a .prices))
-    (start .pre .1) _ (bounded .bounds-of .ensures (now (a .cycles))) _ (first-half fitted) (fits .enum-told .given .1)
+    (start .pre .1) _ _ (bounded .bounds-of .ensures (now (a .cycles))) _ (first-half fitted) (fits .enum-told .given .1)
     _ (priced .price .ensures _ (length-jobsIn (a .count) (now (a .releases)) (now (a .deadlines)) (now (a .cycles))) (opened tested)) (passed .enum-told2 .given .1) _ (c .energy-figure .ensures)
 
 pub check-tables-spec : {M : Type 1} → statement M

@@ -1,16 +1,15 @@
 -- `making::make_plan` meets its contract: the jobs are placed, the smallest prices found, and what is written is the plan
 -- (proofs/MadePlans.antt).
 -- Assumes nothing.
-use mathlib.Core.Path.{refl, ap}
+use mathlib.Core.Path.{refl}
 use native.Mathlib.Omega.{arith}
 use borrow.Author.Needs.{needs}
 use Rattle.model.specs.Plans.{sharesIn}
-use Rattle.windows.specs.declared.times.BoundTable.{BoundTable}
 use Rattle.planner.specs.declared.workload.Workload.{Workload}
 use Rattle.planner.specs.Arrays.{numbersIn, problemIn}
 use Rattle.planner.specs.RisingPrices.{SmallestPriced, CanPrice}
 use Rattle.planning.proofs.Placeable.{workload-fits, workload-can-price}
-use Rattle.planning.proofs.MadePlans.{table-small, rooms, steps-few, made-plan}
+use Rattle.planning.proofs.MadePlans.{bounds-small, rooms, steps-few, made-plan}
 use Rattle.planning.proofs.making.make_plan.Statement.{statement}
 use Rattle.planning.proofs.making.make_plan.Tie as tie
 
@@ -24,7 +23,7 @@ place-requires c κs =
     let curve = start .pre .1 .1 .0 .curve in
     let site = working .workload-of .ensures in (
       site .sound,
-      (workload-fits curve (start .pre .0) site refl (start .pre .1 .1 .1 .0), rooms curve (start .pre .0) site (start .pre .1 .1 .1 .1) .0),
+      (workload-fits curve (start .pre .0) site refl (start .pre .1 .1 .1 .0), rooms curve (start .pre .0) site (start .pre .1 .1 .1 .1 .0) .0),
     )
 
 -- the workload that is placed, and that some prices fit
@@ -62,35 +61,35 @@ from-one-requires c κs =
 
 write-plan-requires : tie.Need-write-plan-requires
 write-plan-requires c κs =
-    let priced = c .before .before .before .before .before in
+    let priced = c .before .before .before .before in
     let placed = placing priced in
     let working = placed .before .before .before .before in
     let start = working .before .before .before .before in
     let site = working .workload-of .ensures in
     let tables = placed .place .ensures .0 in (
       (site .sound .jobs-most, site .sound .intervals-most, tables .stored .table-length),
-      omega (arith, start .pre .1 .1 .1 .1 .plan-room, steps-few _ _ _ (start .pre .1 .1 .0 .curve) (start .pre .0) site _ _ _ tables),
+      omega (arith, start .pre .1 .1 .1 .1 .0 .plan-room, steps-few _ _ _ (start .pre .1 .1 .0 .curve) (start .pre .0) site _ _ _ tables),
     )
 
 write-prices-requires : tie.Need-write-prices-requires
 write-prices-requires c κs =
-    let written = c .before .before .before .before .before in
-    let priced = written .before .before .before .before .before .before in
+    let written = c .before .before .before .before in
+    let priced = written .before .before .before .before .before in
     let placed = placing priced in
     let working = placed .before .before .before .before in
     let start = working .before .before .before .before in
     let site = working .workload-of .ensures in
-    (site .sound .intervals-most, rooms (start .pre .1 .1 .0 .curve) (start .pre .0) site (start .pre .1 .1 .1 .1) .1)
+    (site .sound .intervals-most, rooms (start .pre .1 .1 .0 .curve) (start .pre .0) site (start .pre .1 .1 .1 .1 .0) .1)
 
 energy-figure-requires : tie.Need-energy-figure-requires
 energy-figure-requires c κs =
-    let listed = c .before .before .before .before in
-    let written = listed .before .before .before .before .before .before in
-    let priced = written .before .before .before .before .before .before in
+    let listed = c .before .before .before in
+    let written = listed .before .before .before .before .before in
+    let priced = written .before .before .before .before .before in
     let placed = placing priced in
     let working = placed .before .before .before .before in
     let start = working .before .before .before .before in
-    (start .pre .1 .1 .0 .small, table-small (start .pre .0) (start .pre .1 .0))
+    (start .pre .1 .1 .0 .small, bounds-small (start .pre .0) (start .pre .1 .0))
 
 same-length : tie.Need-same-length
 same-length c = search needs
@@ -100,23 +99,23 @@ same-length-2 c = search needs
 
 same-length-3 : tie.Need-same-length-3
 same-length-3 c =
-    let listed = c .before .before .before .before .before in
-    let written = listed .before .before .before .before .before .before in
-    let priced = written .before .before .before .before .before .before in
+    let listed = c .before .before .before .before in
+    let written = listed .before .before .before .before .before in
+    let priced = written .before .before .before .before .before in
     placing priced .place .ensures .1 .same-length
 
 returns : tie.Need-returns
 returns c =
-    let listed = c .before .before .before .before .before in
-    let written = listed .before .before .before .before .before .before in
-    let counted = written .before .before .before .before in
+    let listed = c .before .before .before .before in
+    let written = listed .before .before .before .before .before in
+    let counted = written .before .before .before in
     let priced = counted .before .before in
     let placed = placing priced in
     let working = placed .before .before .before .before in
     let start = working .before .before .before .before in
     made-plan _ _ _ (start .pre .1 .1 .0 .curve) (start .pre .0) (working .workload-of .ensures) _ _ _ (placed .place .ensures .0)
     (priced .smallest-prices .last .1 .1 .1 .1 .1 .1 .1 .1 .1 .0) (smallest priced) _ (counted .from-one .ensures)
-    _ (ap (λ (t : BoundTable). t .times) (start .pre .1 .0)) _ (ap (λ (t : BoundTable). t .count) (start .pre .1 .0)) _ _
+    _ (start .pre .1 .0 .array) _ (start .pre .1 .0 .counted) _ _
     _ _ _ _ _ (placed .place .ensures .1) (written .write-plan .ensures .0) (written .write-plan .ensures .1)
     (listed .write-prices .ensures) (c .energy-figure .ensures)
 

@@ -7,7 +7,7 @@ use Rattle.model.specs.Outcome.{answer}
 use Rattle.model.specs.Jobs.{readJobs}
 use Rattle.model.proofs.Jobs.{jobs-valid}
 use Rattle.tables.specs.Tables.{jobsIn}
-use Rattle.tables.proofs.Read.{jobs-read, jobs-read-refused}
+use Rattle.tables.proofs.Read.{jobs-read, jobs-read-refused, cycles-padded}
 use Rattle.planning.proofs.PlanStages.{jobs-refused}
 use Rattle.planning.proofs.operation.plan_jobs.Statement.{statement}
 use Rattle.planning.proofs.operation.plan_jobs.Tie as tie
@@ -30,8 +30,9 @@ answered c = jobs-read _ _ (c .before .before .read-jobs .ensures) _ (c .reading
 
 plan-tables-requires : tie.Need-plan-tables-requires
 plan-tables-requires c κs =
-    let start = c .before .before .before .before .before .before .before .before .before .before .before .before .before .before .before .before .before in
-    (jobs-valid _ _ (answered (c .before .before .before .before .before .before .before .before .before .before)), (start .pre .0, start .pre .1))
+    let told = c .before .before .before .before .before .before .before .before in
+    let start = told .before .before .before .before .before .before .before in
+    (jobs-valid _ _ (answered told), (start .pre .0, (start .pre .1, record { zeros-past = cycles-padded _ _ (told .before .before .read-jobs .ensures) _ (told .reading2 .given .1) })))
 
 returns : tie.Need-returns
 returns c = jobs-refused _ _ _ _ _ _ (jobs-read-refused _ _ (c .before .before .before .read-jobs .ensures) _ _ (c .before .reading .given .1))
@@ -46,7 +47,7 @@ same-length-3 : tie.Need-same-length-3
 same-length-3 c = search needs
 
 returns-2 : tie.Need-returns-2
-returns-2 c = c .before .before .before .before .before .before .plan-tables .ensures .stage _ (answered (c .before .before .before .before .before .before .before .before .before .before .before .before .before .before .before .before .before))
+returns-2 c = c .before .before .before .before .before .before .plan-tables .ensures .stage _ (answered (c .before .before .before .before .before .before .before .before .before .before .before .before .before .before .before))
 
 pub plan-jobs-spec : {M : Type 1} → statement M
 plan-jobs-spec =

@@ -25,7 +25,7 @@ inside : (c : tie.After-known-told)
 inside c = window-inside _ _ _ _ (c .before .before .before .before .before .before .before .pre .0) (sym (c .before .before .before .earliest-overfull .ensures) ∙ c .before .found .given .1)
 
 window-spare-requires : tie.Need-window-spare-requires
-window-spare-requires c κs = (c .before .before .before .before .before .before .before .pre .0, (c .before .before .before .before .before .before .before .pre .1 .1 .0, inside c .0, inside c .1))
+window-spare-requires c κs = (c .before .before .before .before .before .before .before .pre .0, (c .before .before .before .before .before .before .before .pre .1 .1 .0 .0, inside c .0, inside c .1))
 
 cast-t15 : tie.Need-cast-t15
 cast-t15 c = record { fits = omega (arith, inside (c .before)) }
@@ -40,7 +40,7 @@ plan-fitting-requires : tie.Need-plan-fitting-requires
 plan-fitting-requires c κs =
     let start = c .before .before .before .before .before .before .before .before .before in
     let fits = fits-none _ (sym (c .before .before .before .before .before .earliest-overfull .ensures) ∙ c .before .before .before .enum-told .given .1) in
-    (start .pre .0, (start .pre .1 .0, rw (start .pre .1 .1 .1) fits))
+    (start .pre .0, (start .pre .1 .0, (rw (start .pre .1 .1 .0 .1) fits, start .pre .1 .1 .1)))
 
 returns : tie.Need-returns
 returns c =
@@ -59,7 +59,7 @@ same-length-3 : tie.Need-same-length-3
 same-length-3 c = search needs
 
 returns-2 : tie.Need-returns-2
-returns-2 c = rw (c .before .before .before .before .before .before .before .before .before .before .before .before .before .before .before .before .pre .1 .1 .1) at (c .before .before .before .before .before .before .plan-fitting .ensures)
+returns-2 c = rw (c .before .before .before .before .before .before .before .before .before .before .before .before .before .before .before .before .pre .1 .1 .0 .1) at (c .before .before .before .before .before .before .plan-fitting .ensures)
 
 pub plan-tables-spec : {M : Type 1} → statement M
 plan-tables-spec =

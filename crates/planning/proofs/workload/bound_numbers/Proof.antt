@@ -1,6 +1,6 @@
 -- `workload::bound_numbers` meets its contract. The loop's invariant: the first `j` numbers are filled, zeros after them.
 -- Assumes nothing.
-use mathlib.Core.Path.{_≡_}
+use mathlib.Core.Path.{_≡_, _∙_}
 use Prim.Native.Nat.{_-_, _≤_}
 use native.Mathlib.Omega.{arith}
 use lib.ListN.{getD}
@@ -18,7 +18,7 @@ abbrev μ-loop : tie.MeasureT-loop
 μ-loop moments jobs times count numbers₀ j₀ numbers j = jobs - j
 
 loop-holds : tie.Need-loop-holds Inv-loop μ-loop
-loop-holds c = (omega arith, column-none 64 _)
+loop-holds c = (omega arith, c .pre .2 ∙ column-none 64 _)
 
 mul-bound-number : tie.Need-mul-bound-number Inv-loop μ-loop
 mul-bound-number c = omega arith
@@ -32,8 +32,8 @@ bound-number-requires c κs = omega arith
 mul-numbers : tie.Need-mul-numbers Inv-loop μ-loop
 mul-numbers c = omega arith
 
-array-write-numbers : tie.Need-array-write-numbers Inv-loop μ-loop
-array-write-numbers c = omega arith
+element-write-numbers : tie.Need-element-write-numbers Inv-loop μ-loop
+element-write-numbers c = omega arith
 
 add-j : tie.Need-add-j Inv-loop μ-loop
 add-j c = omega arith
@@ -58,7 +58,7 @@ bound-numbers-spec =
     element-copy-out-bound-number
     bound-number-requires
     mul-numbers
-    array-write-numbers
+    element-write-numbers
     add-j
     loop-less
     loop-again

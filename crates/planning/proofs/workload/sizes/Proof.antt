@@ -1,6 +1,6 @@
 -- `workload::sizes` meets its contract. The loop's invariant: the first `i` lengths are filled, zeros after them.
 -- Assumes nothing.
-use mathlib.Core.Path.{_≡_, refl}
+use mathlib.Core.Path.{_≡_, refl, _∙_}
 use Prim.Native.Nat.{_+_, _-_, _≤_}
 use native.Mathlib.Omega.{arith}
 use lib.ListN.{getD}
@@ -17,7 +17,7 @@ abbrev μ-loop : tie.MeasureT-loop
 μ-loop times intervals lengths₀ i₀ lengths i = intervals - i
 
 loop-holds : tie.Need-loop-holds Inv-loop μ-loop
-loop-holds c = (omega arith, column-none 127 _)
+loop-holds c = (omega arith, c .pre .1 ∙ column-none 127 _)
 
 add-lengths : tie.Need-add-lengths Inv-loop μ-loop
 add-lengths c = omega arith
@@ -37,13 +37,13 @@ element-copy-out-lengths-2 c = omega arith
 sub-lengths : tie.Need-sub-lengths Inv-loop μ-loop
 sub-lengths c =
     let turn = c .before .before in
-    turn .before .before .pre .1 (turn .before .loop .i) (omega arith)
+    turn .before .before .pre .2 (turn .before .loop .i) (omega arith)
 
 mul-lengths-3 : tie.Need-mul-lengths-3 Inv-loop μ-loop
 mul-lengths-3 c = omega arith
 
-array-write-lengths : tie.Need-array-write-lengths Inv-loop μ-loop
-array-write-lengths c = omega arith
+element-write-lengths : tie.Need-element-write-lengths Inv-loop μ-loop
+element-write-lengths c = omega arith
 
 add-i : tie.Need-add-i Inv-loop μ-loop
 add-i c = omega arith
@@ -71,7 +71,7 @@ sizes-spec =
     element-copy-out-lengths-2
     sub-lengths
     mul-lengths-3
-    array-write-lengths
+    element-write-lengths
     add-i
     loop-less
     loop-again

@@ -10,54 +10,49 @@ use Rattle.planning.proofs.SiteArrays.{jobs-few, bounds-few, times-rise
 use Rattle.planning.proofs.workload.workload_of.Statement.{statement}
 use Rattle.planning.proofs.workload.workload_of.Tie as tie
 
-few : (c : tie.Start) → (c .args .count ≤ maxJobs) × (c .args .bounds .count ≤ maxBounds)
-few c = (jobs-few _ _ _ _ (c .pre .0) (c .args .bounds) (c .pre .1 .0), bounds-few _ _ _ _ (c .pre .0) (c .args .bounds) (c .pre .1 .0))
+few : (c : tie.Start) → (c .args .count ≤ maxJobs) × (c .args .bounds ≤ maxBounds)
+few c = (jobs-few _ _ _ _ (c .pre .0) _ _ (c .pre .1 .0), bounds-few _ _ _ _ (c .pre .0) _ _ (c .pre .1 .0))
 
 interval-count-requires : tie.Need-interval-count-requires
 interval-count-requires c κs = search needs
 
+sub-t11 : tie.Need-sub-t11
+sub-t11 c =
+    let start = c .before .before .before in
+    omega (arith, length-pointsOf (start .args .working), start .pre .1 .1 .0 .curve .some)
+
 bound-numbers-requires : tie.Need-bound-numbers-requires
-bound-numbers-requires c κs = few (c .before .before .before)
+bound-numbers-requires c κs = let start = c .before .before .before .before .before in (few start .0, few start .1, refl)
 
 bound-numbers-requires-2 : tie.Need-bound-numbers-requires-2
-bound-numbers-requires-2 c κs = few (c .before .before .before .before .before)
-
-first-numbers-requires : tie.Need-first-numbers-requires
-first-numbers-requires c κs = few (c .before .before .before .before .before .before) .0
+bound-numbers-requires-2 c κs = let start = c .before .before .before .before .before .before .before in (few start .0, few start .1, refl)
 
 sizes-requires : tie.Need-sizes-requires
 sizes-requires c κs =
-    let counted = c .before .before .before .before .before .before in
-    let start = counted .before .before in (
+    let counted = c .before .before .before .before .before .before .before .before in
+    let start = counted .before in (
       omega (arith, counted .interval-count .ensures, few start .1),
-      λ i below. times-rise _ _ _ _ (start .pre .0) (start .args .bounds) (start .pre .1 .0) i (omega (arith, counted .interval-count .ensures)),
+      refl,
+      λ i below. times-rise _ _ _ _ (start .pre .0) _ _ (start .pre .1 .0) i (omega (arith, counted .interval-count .ensures)),
     )
-
-sub-t17 : tie.Need-sub-t17
-sub-t17 c =
-    let start = c .before .before .before .before .before .before .before .before .before .before .before in
-    omega (arith, length-pointsOf (start .args .working), start .pre .1 .1 .curve .some)
 
 returns : tie.Need-returns
 returns c =
-    let sized = c .before .before in
-    let filled = sized .before .before in
-    let ended = filled .before in
+    let ended = c .before .before in
     let started = ended .before .before in
-    let counted = started .before .before in
-    let start = counted .before .before in
-    site-workload _ _ _ _ (start .pre .0) (start .args .bounds) (start .pre .1 .0) (start .args .working) (start .pre .1 .1) _
+    let counted = started .before .before .before .before .before in
+    let start = counted .before in
+    site-workload _ _ _ _ (start .pre .0) _ _ (start .pre .1 .0) (start .args .working) (start .pre .1 .1 .0) _
     refl (counted .interval-count .ensures) refl (started .bound-numbers .ensures) (ended .bound-numbers2 .ensures)
-    (filled .first-numbers .ensures) (sized .sizes .ensures) refl
+    (start .pre .1 .1 .1 .zeros-past) (c .sizes .ensures) refl
 
 pub workload-of-spec : {M : Type 1} → statement M
 workload-of-spec =
     tie.close
     (tie.spec
     interval-count-requires
+    sub-t11
     bound-numbers-requires
     bound-numbers-requires-2
-    first-numbers-requires
     sizes-requires
-    sub-t17
     returns)

@@ -1,6 +1,6 @@
 -- `jobs::read_jobs` meets its contract. Each way out rests on the tests that led there and on what the callees
 -- ensure, by the laws of proofs/DecodedJobs.antt. Assumes nothing.
-use mathlib.Core.Path.{_∙_, ap}
+use mathlib.Core.Path.{refl, _∙_, ap}
 use native.Mathlib.Omega.{arith}
 use borrow.Author.Needs.{needs}
 use Rattle.tables.specs.Tables.{jobTable}
@@ -36,10 +36,10 @@ returns-3 : tie.Need-returns-3
 returns-3 c = c .refused-jobs3 .ensures ∙ ap jobTable (jobs-cut _ (omega arith) (omega arith) (λ e. omega arith))
 
 column32-requires : tie.Need-column32-requires
-column32-requires c κs = (omega arith, λ i below. omega arith)
+column32-requires c κs = ((omega arith, λ i below. omega arith), refl)
 
 column32-requires-2 : tie.Need-column32-requires-2
-column32-requires-2 c κs = (omega arith, λ i below. omega arith)
+column32-requires-2 c κs = ((omega arith, λ i below. omega arith), refl)
 
 mul-column32 : tie.Need-mul-column32
 mul-column32 c = search needs
@@ -48,7 +48,7 @@ add-column32 : tie.Need-add-column32
 add-column32 c = search needs
 
 column32-requires-3 : tie.Need-column32-requires-3
-column32-requires-3 c κs = (omega arith, λ i below. omega arith)
+column32-requires-3 c κs = ((omega arith, λ i below. omega arith), refl)
 
 check-jobs-requires : tie.Need-check-jobs-requires
 check-jobs-requires c κs = search needs
@@ -56,8 +56,8 @@ check-jobs-requires c κs = search needs
 enum-told : tie.Need-enum-told
 enum-told c = search needs
 
-enum-known-reading : tie.Need-enum-known-reading
-enum-known-reading c = search needs
+enum-known-checked : tie.Need-enum-known-checked
+enum-known-checked c = search needs
 
 refused-jobs-requires-4 : tie.Need-refused-jobs-requires-4
 refused-jobs-requires-4 c κs = search needs
@@ -65,10 +65,10 @@ refused-jobs-requires-4 c κs = search needs
 returns-4 : tie.Need-returns-4
 returns-4 c =
     let found = c .before .before in
-    let third = found .before .before .before .before in
-    let second = third .before in
-    let first = second .before in
-    let counted = first .before .before .before in
+    let third = found .before .before .before .before .before in
+    let second = third .before .before in
+    let first = second .before .before in
+    let counted = first .before .before .before .before in
     jobs-filled
     _ _ _ _ _ _
     (counted .number16 .ensures .0) (omega arith)
@@ -80,10 +80,10 @@ returns-4 c =
 returns-5 : tie.Need-returns-5
 returns-5 c =
     let found = c .before .before .before .before in
-    let third = found .before .before .before .before in
-    let second = third .before in
-    let first = second .before in
-    let counted = first .before .before .before in
+    let third = found .before .before .before .before .before in
+    let second = third .before .before in
+    let first = second .before .before in
+    let counted = first .before .before .before .before in
     c .refused-jobs4 .ensures
     ∙ ap jobTable
     (jobs-refused
@@ -92,7 +92,7 @@ returns-5 c =
     (first .column32 .ensures) (second .column322 .ensures) (third .column323 .ensures) (found .check-jobs .ensures)
     _
     _
-    (c .before .before .reading .given .1)
+    (c .before .before .checked .given .1)
     ∙ jobs-whole _ (omega arith) (omega arith) (omega arith))
 
 pub read-jobs-spec : {M : Type 1} → statement M
@@ -115,7 +115,7 @@ read-jobs-spec =
     column32-requires-3
     check-jobs-requires
     enum-told
-    enum-known-reading
+    enum-known-checked
     refused-jobs-requires-4
     returns-4
     returns-5)

@@ -1,6 +1,6 @@
 -- `numbers::column32` meets its contract. The loop's invariant: the first `i` numbers are filled, zeros after them
 -- (proofs/Column.antt). Assumes nothing.
-use mathlib.Core.Path.{_≡_}
+use mathlib.Core.Path.{_≡_, _∙_}
 use Prim.Native.Nat.{_+_, _*_, _-_, _≤_}
 use native.Mathlib.Omega.{arith}
 use lib.ListN.{length}
@@ -19,13 +19,13 @@ abbrev μ-loop : tie.MeasureT-loop
 μ-loop bytes place stride count numbers₀ i₀ numbers i = count - i
 
 loop-holds : tie.Need-loop-holds Inv-loop μ-loop
-loop-holds c = (omega arith, column-none 64 _)
+loop-holds c = (omega arith, c .before .pre .1 ∙ column-none 64 _)
 
 -- the number that this turn reads ends before the bytes end
 inside : (c : tie.In-loop Inv-loop μ-loop)
     → c .before .before .before .args .place + c .before .before .before .args .stride * c .before .loop .i + 4
     ≤ length (now (c .before .before .before .args .bytes))
-inside c = c .before .before .before .pre .1 (c .before .loop .i) (c .loop-test .taken)
+inside c = c .before .before .before .pre .0 .1 (c .before .loop .i) (c .loop-test .taken)
 
 mul-number32 : tie.Need-mul-number32 Inv-loop μ-loop
 mul-number32 c = omega (arith, inside c)
@@ -39,8 +39,8 @@ number32-requires c κs = omega (arith, inside c)
 mul-numbers : tie.Need-mul-numbers Inv-loop μ-loop
 mul-numbers c = omega arith
 
-array-write-numbers : tie.Need-array-write-numbers Inv-loop μ-loop
-array-write-numbers c = omega arith
+element-write-numbers : tie.Need-element-write-numbers Inv-loop μ-loop
+element-write-numbers c = omega arith
 
 add-i : tie.Need-add-i Inv-loop μ-loop
 add-i c = omega arith
@@ -65,7 +65,7 @@ column32-spec =
     add-number32
     number32-requires
     mul-numbers
-    array-write-numbers
+    element-write-numbers
     add-i
     loop-less
     loop-again

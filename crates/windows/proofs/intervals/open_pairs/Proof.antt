@@ -1,30 +1,79 @@
--- `intervals::open_pairs` meets its contract. The loop's invariant: the pairs are the ones of the sets passed, at most
+-- `intervals::open_pairs` meets its contract. The loop's invariant: the pairs are the ones of the open sets passed, at most
 -- 64 each. Assumes nothing.
-use mathlib.Core.Path.{_≡_, refl}
-use Prim.Native.Nat.{_-_, _*_, _≤_}
+use mathlib.Core.Path.{_≡_, refl, sym, _∙_, ap, ap₂}
+use mathlib.Core.List.{List}
+use Prim.Native.Nat.{ℕ, suc, _+_, _-_, _*_, _≤_, _<_}
+use native.Mathlib.Numerals.{add-one}
 use native.Mathlib.Omega.{arith}
 use lib.Count.{ones}
-use lib.ListN.{getD}
+use lib.ListN.{length, getD, take}
+use lib.Seq.{getD-take, length-take-le}
+use Rattle.model.specs.declared.Job.{Job}
 use Rattle.model.specs.Sum.{sum}
+use Rattle.model.specs.Intervals.{intervalCount, isOpen, openSet, openCount, openPairs}
+use Rattle.model.proofs.OpenSets.{open-set-ones}
+use Rattle.tables.specs.Tables.{jobsIn}
+use Rattle.windows.specs.Answers.{setBetween}
 use Rattle.windows.proofs.Loops.{sum-none, sum-more, sum-whole}
 use Rattle.windows.proofs.intervals.open_pairs.Statement.{statement}
 use Rattle.windows.proofs.intervals.open_pairs.Tie as tie
 
+module _ (bounds : ℕ) (times : List ℕ) (jobs : List Job) where
+  -- the set between two neighbouring bounds is the interval's open set
+  set-open : (i set : ℕ) → i + 1 < bounds → set ≡ setBetween (getD times i 0) (getD times (i + 1) 0) jobs → set ≡ openSet (take bounds times) jobs i
+  unfolding openSet isOpen
+  set-open i set within found =
+      let start : getD times i 0 ≡ getD (take bounds times) i 0 = sym (getD-take bounds times i 0 (omega arith)) in
+      let end : getD times (i + 1) 0 ≡ getD (take bounds times) (suc i) 0 =
+      ap (λ (n : ℕ). getD times n 0) (add-one i) ∙ sym (getD-take bounds times (suc i) 0 (omega arith)) in
+      found ∙ ap₂ (λ (a b : ℕ). setBetween a b jobs) start end
+
+  -- its ones are the jobs that are open there
+  ones-open : (i set number : ℕ) → i + 1 < bounds → set ≡ setBetween (getD times i 0) (getD times (i + 1) 0) jobs → number ≡ ones set
+      → number ≡ openCount (take bounds times) jobs i
+  ones-open i set number within found counted =
+      counted ∙ (ap ones (set-open i set within found) ∙ open-set-ones (take bounds times) jobs i)
+
+  -- after the last interval
+  pairs-whole : (i pairs : ℕ) → bounds ≤ length times → i ≤ bounds - 1 → bounds ≤ i + 1
+      → pairs ≡ sum i (openCount (take bounds times) jobs) → pairs ≡ openPairs (take bounds times) jobs
+  unfolding openPairs
+  pairs-whole i pairs inside low high =
+      sum-whole (openCount (take bounds times) jobs) i (bounds - 1) (intervalCount (take bounds times)) low (omega arith)
+      (omega (arith, length-take-le bounds times inside)) pairs
+
 abbrev Inv-loop : tie.InvT-loop
-Inv-loop sets interval-count pairs₀ i₀ pairs i =
-    (i ≤ interval-count) × (pairs ≤ 64 * i) × (pairs ≡ sum i (λ k. ones (getD sets k 0)))
+Inv-loop times bounds releases deadlines count pairs₀ i₀ pairs i =
+    (i ≤ bounds - 1)
+    × (pairs ≤ 64 * i)
+    × ((cycles : List ℕ) → pairs ≡ sum i (openCount (take bounds times) (jobsIn count releases deadlines cycles)))
 
 abbrev μ-loop : tie.MeasureT-loop
-μ-loop sets interval-count pairs₀ i₀ pairs i = interval-count - i
+μ-loop times bounds releases deadlines count pairs₀ i₀ pairs i = bounds - i
 
 loop-holds : tie.Need-loop-holds Inv-loop μ-loop
-loop-holds c = (omega arith, omega arith, sum-none _)
+loop-holds c = (omega arith, omega arith, λ cycles. sum-none _)
 
-mul-jobs-of : tie.Need-mul-jobs-of Inv-loop μ-loop
-mul-jobs-of c = omega arith
+add-loop : tie.Need-add-loop Inv-loop μ-loop
+add-loop c = omega arith
 
-element-copy-out-jobs-of : tie.Need-element-copy-out-jobs-of Inv-loop μ-loop
-element-copy-out-jobs-of c = omega arith
+mul-open-set : tie.Need-mul-open-set Inv-loop μ-loop
+mul-open-set c = omega arith
+
+element-copy-out-open-set : tie.Need-element-copy-out-open-set Inv-loop μ-loop
+element-copy-out-open-set c = omega arith
+
+add-open-set : tie.Need-add-open-set Inv-loop μ-loop
+add-open-set c = omega arith
+
+mul-open-set-2 : tie.Need-mul-open-set-2 Inv-loop μ-loop
+mul-open-set-2 c = omega arith
+
+element-copy-out-open-set-2 : tie.Need-element-copy-out-open-set-2 Inv-loop μ-loop
+element-copy-out-open-set-2 c = omega arith
+
+open-set-requires : tie.Need-open-set-requires Inv-loop μ-loop
+open-set-requires c κs = omega arith
 
 jobs-of-requires : tie.Need-jobs-of-requires Inv-loop μ-loop
 jobs-of-requires c κs = tt
@@ -39,10 +88,20 @@ loop-less : tie.Need-loop-less Inv-loop μ-loop
 loop-less c = omega arith
 
 loop-again : tie.Need-loop-again Inv-loop μ-loop
-loop-again c = (omega arith, omega arith, sum-more _ _ _ _ (c .before .before .before .loop .inv .2) (c .jobs-of .ensures .0))
+loop-again c =
+    let turn = c .before .before .before .before in
+    let start = turn .before .before in (
+      omega arith,
+      omega (arith, c .jobs-of .ensures .1),
+      λ cycles. sum-more _ _ _ _ (turn .before .loop .inv .2 cycles)
+          (ones-open (start .args .bounds) _ _ _ _ _ (turn .loop-test .taken) (c .before .open-set .ensures cycles) (c .jobs-of .ensures .0)),
+    )
 
 returns : tie.Need-returns Inv-loop μ-loop
-returns c = sum-whole _ _ _ _ (c .before .loop .inv .0) (c .loop-test .left) refl _ (c .before .loop .inv .2)
+returns c =
+    let inv = c .before .loop .inv in
+    let start = c .before .before in
+    λ cycles. pairs-whole (start .args .bounds) _ _ _ _ (omega arith) (inv .0) (omega arith) (inv .2 cycles)
 
 pub open-pairs-spec : {M : Type 1} → statement M
 open-pairs-spec =
@@ -51,8 +110,13 @@ open-pairs-spec =
     Inv-loop
     μ-loop
     loop-holds
-    mul-jobs-of
-    element-copy-out-jobs-of
+    add-loop
+    mul-open-set
+    element-copy-out-open-set
+    add-open-set
+    mul-open-set-2
+    element-copy-out-open-set-2
+    open-set-requires
     jobs-of-requires
     add-pairs
     add-i

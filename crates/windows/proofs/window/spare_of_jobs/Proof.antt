@@ -61,7 +61,7 @@ returns-2 c = late _ _ _ _ _ (read (c .before .before .before)) (c .before .if1 
 
 window-spare-requires : tie.Need-window-spare-requires
 window-spare-requires c κs =
-    let tested = c .before .before .before .before .before .before in
+    let tested = c .before .before .before .before in
     (jobs-valid _ _ (read (tested .before .before .before)), (omega arith, omega arith, tested .if2 .left))
 
 returns-3 : tie.Need-returns-3
@@ -69,7 +69,7 @@ returns-3 c = rw (jobs-read-refused _ _ (c .before .before .before .read-jobs .e
 
 returns-4 : tie.Need-returns-4
 returns-4 c =
-    let tested = c .before .before .before .before .before .before .before in
+    let tested = c .before .before .before .before .before in
     let fits : SFits w64 (c .window-spare .result) = search needs in
     answered _ _ _ _ _ (read (tested .before .before .before)) (tested .before .if1 .left) (tested .if2 .left) _
     (toZ-ofZ fits ∙ c .window-spare .ensures)
