@@ -47,10 +47,10 @@ module _ {work : Workload} {table loads holders : List ℕ} {found : SearchState
 
   module _ {amount : ℕ} (some : 1 ≤ amount) (within : amount ≤ left)
       (most : amount ≤ numbersIn (work .size) (found .target) * numbersIn (work .frequency) (band + 1) - numbersIn loads (found .target)) where
-    to-move : (prices : ℕ → ℕ) (job : ℕ) → Placing (problemIn work) (sharesIn (work .jobs) table) prices job left band
+    to-move : (prices lefts : ℕ → ℕ) (job : ℕ) → Placing (problemIn work) (sharesIn (work .jobs) table) prices lefts job left band
         → Reaching (problemIn work) (sharesIn (work .jobs) table) job found
-        → ToMove (problemIn work) (sharesIn (work .jobs) table) prices job left band found amount
-    to-move prices job placing reaching =
+        → ToMove (problemIn work) (sharesIn (work .jobs) table) prices lefts job left band found amount
+    to-move prices lefts job placing reaching =
         record {
           placing = placing;
           reaching = reaching;
@@ -68,10 +68,11 @@ module _ {work : Workload} {table loads holders : List ℕ} {found : SearchState
           holding = can .holding;
           passes = passes;
           prices = can .prices;
+          lefts = can .lefts;
           job = can .job;
           left = left;
           band = band;
-          to-move = to-move (can .prices) (can .job) (can .placing) (can .reaching);
+          to-move = to-move (can .prices) (can .lefts) (can .job) (can .placing) (can .reaching);
         }
 
     -- after the move
@@ -91,14 +92,14 @@ module _ {work : Workload} {table loads holders : List ℕ} {found : SearchState
               };
           holding = moved .holding;
           kept = moved .kept;
-          placing = λ prices job placing reaching.
-              moved .moves prices job left band (to-move prices job placing reaching) .placing (left - amount) (omega arith);
+          placing = λ prices lefts job placing reaching.
+              moved .moves prices lefts job left band (to-move prices lefts job placing reaching) .placing (left - amount) (omega arith);
         }
       where
         own-moves : (i : ℕ) → i < work .intervals
             → loadOf (problemIn work) (sharesIn (work .jobs) after) i
             ≡ loadOf (problemIn work) (sharesIn (work .jobs) table) i + onlyIf (eqb i (found .target)) amount
-        own-moves = moved .moves _ _ left band (to-move (can .prices) (can .job) (can .placing) (can .reaching)) .loads
+        own-moves = moved .moves _ _ _ left band (to-move (can .prices) (can .lefts) (can .job) (can .placing) (can .reaching)) .loads
 
         loads-are : (i : ℕ) → i < work .intervals → Dec (i ≡ found .target)
             → numbersIn (set loads (found .target) (getD loads (found .target) 0 + amount)) i ≡ loadOf (problemIn work) (sharesIn (work .jobs) after) i

@@ -14,7 +14,7 @@ use Rattle.model.specs.Plans.{Shares}
 use Rattle.model.proofs.Sum.{sum-mono, sum-strict, sum-swap, sum-mul-right, sum-split, sum-pos}
 use Rattle.planner.specs.Placement.{Problem, SoundProblem, loadOf, placedOf, Placing, Reached, Scanned}
 use Rattle.planner.specs.RangesFit.{isWithin, RangesFit}
-use Rattle.planner.proofs.JobOrder.{placed-most}
+use Rattle.planner.proofs.BandOrder.{placed-most}
 use Rattle.planner.proofs.RaisedPrices.{window-closed}
 
 -- part of a sum
@@ -27,8 +27,8 @@ onlyIf-most : (t : Bool) (n m : ℕ) → n ≤ m → onlyIf t n ≤ onlyIf t m
 onlyIf-most true n m order = order
 onlyIf-most false n m order = omega arith
 
-module _ {p : Problem} (sound : SoundProblem p) {shares : Shares} {prices : ℕ → ℕ} {job left band count start end : ℕ} {reached source : ℕ → ℕ}
-    (placing : Placing p shares prices job left band) (now : Reached p shares job count reached source start end)
+module _ {p : Problem} (sound : SoundProblem p) {shares : Shares} {prices lefts : ℕ → ℕ} {job left band count start end : ℕ} {reached source : ℕ → ℕ}
+    (placing : Placing p shares prices lefts job left band) (now : Reached p shares job count reached source start end)
     (scanned : (i : ℕ) → start ≤ i → i < end → Scanned p shares band count reached i) where
   pub range-order : start ≤ end
   range-order =

@@ -1,6 +1,6 @@
 -- Laws for the proofs of the functions.
 pub mod Words
-pub mod JobOrder
+pub mod BandOrder
 pub mod Listing
 pub mod ReachedRange
 pub mod ReachedPrices
@@ -21,6 +21,6 @@ pub mod SitePrices
 pub mod WalkSteps
 pub mod MoveSteps
 pub mod FillSteps
-pub mod PlaceSteps
 pub mod ScanSteps
 pub mod SearchSteps
+pub mod PlaceSteps

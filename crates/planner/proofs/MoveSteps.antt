@@ -34,7 +34,7 @@ pub record MoveAt (work : Workload) (before : List ℕ) (found : SearchState) (a
   pub holding : Holding (problemIn work) (sharesIn (work .jobs) table) holders
   pub is-first : s ≡ firstOpen (problemIn work) (found .count) (numbersIn (found .reached)) gap
   pub passes : Passes (problemIn work) (sharesIn (work .jobs) before) (found .count) (numbersIn (found .reached)) (numbersIn (found .source)) amount gap
-  pub moving : (prices : ℕ → ℕ) (job left band : ℕ) → ToMove (problemIn work) (sharesIn (work .jobs) before) prices job left band found amount
+  pub moving : (prices lefts : ℕ → ℕ) (job left band : ℕ) → ToMove (problemIn work) (sharesIn (work .jobs) before) prices lefts job left band found amount
       → (bound : ℕ) × MovingTable work before table found amount gap prices band bound
 
 module _ {work : Workload} {before holders-before : List ℕ} {found : SearchState} {amount : ℕ} (can : CanMove work before holders-before found amount) where
@@ -47,7 +47,7 @@ module _ {work : Workload} {before holders-before : List ℕ} {found : SearchSta
         holding = can .holding;
         is-first = is-first;
         passes = can .passes;
-        moving = λ prices job left band to-move.
+        moving = λ prices lefts job left band to-move.
             let reached = to-move .reaching .now in
             (found .count, moving-start (can .sound .sound) (to-move .placing) reached (to-move .from) (to-move .to) (to-move .some) (to-move .room));
       }
@@ -63,7 +63,7 @@ module _ {work : Workload} {before holders-before : List ℕ} {found : SearchSta
         rw (now .is-first) (first-open (problemIn work) (found .count) (numbersIn (found .reached)) gap (moving .bound-within) (moving .gap-reached))
 
     own : (bound : ℕ) × MovingTable work before table found amount gap (can .prices) (can .band) bound
-    own = now .moving (can .prices) (can .job) (can .left) (can .band) (can .to-move)
+    own = now .moving (can .prices) (can .lefts) (can .job) (can .left) (can .band) (can .to-move)
 
     pub move-listed : s < found .count
     move-listed = omega (arith, first (own .1) .0, own .1 .bound-within)
@@ -162,8 +162,8 @@ module _ {work : Workload} {before holders-before : List ℕ} {found : SearchSta
                   holding-taken (can .sound .jobs-most) (can .sound .intervals-most) put-holding source-below (can .to-move .some) taken-grown;
               is-first = is-next;
               passes = passes-next (now .passes) (sym (now .is-first)) more .1;
-              moving = λ prices job left band to-move.
-                  let (bound, moving) = now .moving prices job left band to-move in
+              moving = λ prices lefts job left band to-move.
+                  let (bound, moving) = now .moving prices lefts job left band to-move in
                   let (below, is-open) = first moving in (
                     s,
                     moving-step (can .sound .sound) (to-move .placing) (to-move .reaching .now) moving more below is-open put-grown taken-grown,
@@ -185,8 +185,8 @@ module _ {work : Workload} {before holders-before : List ℕ} {found : SearchSta
               rw (is-after, is-held)
               (holding-put (can .sound .jobs-most) (can .sound .intervals-most) (now .holding) move-gap (can .to-move .some)
               (grown-put move-gap first-below table room));
-          moves = λ prices job left band to-move.
-              let (bound, moving) = now .moving prices job left band to-move in
+          moves = λ prices lefts job left band to-move.
+              let (bound, moving) = now .moving prices lefts job left band to-move in
               let origin = to-move .reaching .now .origin in
               let e : s ≡ 0 = omega arith in
               let is-open : Open (problemIn work) gap job = rw (e, origin) at (first moving .1) in

@@ -12,14 +12,14 @@ use lib.Dec.{eqb}
 use borrow.Author.Tests.{eq-eqb, ne-eqb}
 use Rattle.model.specs.Sum.{onlyIf}
 use Rattle.model.specs.Plans.{Shares}
-use Rattle.model.proofs.Sum.{sum-zero, sum-term}
+use Rattle.model.proofs.Sum.{sum-term}
 use Rattle.planner.specs.Placement.{Problem, SoundProblem, Open, loadOf, placedOf, Grown, Placing, Reached, Moving}
-use Rattle.planner.proofs.JobOrder.{placed-most}
+use Rattle.planner.proofs.BandOrder.{placed-most}
 use Rattle.planner.proofs.ReachedPrices.{price-reached, price-of-target}
 use Rattle.planner.proofs.GrownShares.{grown-case, grown-most, grown-load, grown-placed}
 
-module _ {p : Problem} (sound : SoundProblem p) {before : Shares} {prices : ℕ → ℕ} {job left band count start end : ℕ} {reached source : ℕ → ℕ}
-    (placing : Placing p before prices job left band) (now : Reached p before job count reached source start end) where
+module _ {p : Problem} (sound : SoundProblem p) {before : Shares} {prices lefts : ℕ → ℕ} {job left band count start end : ℕ} {reached source : ℕ → ℕ}
+    (placing : Placing p before prices lefts job left band) (now : Reached p before job count reached source start end) where
   -- at the start the gap is the target, and nothing has moved
   pub moving-start : {target amount : ℕ} → start ≤ target → target < end → 0 < amount
       → loadOf p before target + amount ≤ p .size target * p .frequency (suc band)
@@ -134,7 +134,7 @@ module _ {p : Problem} (sound : SoundProblem p) {before : Shares} {prices : ℕ 
       others-placed : (j : ℕ) → j < p .jobs → (j ≡ job → ⊥) → placedOf p after j ≡ placedOf p before j
       others-placed j below other = let e = rw (ne-eqb j job other) at (new-placed j below) in omega arith
 
-      pub moving-end : {rest : ℕ} → left ≡ rest + amount → Placing p after prices job rest band
+      pub moving-end : {rest : ℕ} → left ≡ rest + amount → Placing p after prices lefts job rest band
       moving-end all =
           record {
             priced =
@@ -146,14 +146,10 @@ module _ {p : Problem} (sound : SoundProblem p) {before : Shares} {prices : ℕ 
                   cheapest = put-cheapest is-open (placing .reaches) put;
                 };
             job-below = placing .job-below;
-            before = λ j earlier.
-                omega (arith, placing .before j earlier, others-placed j (omega (arith, placing .job-below)) (λ e. omega arith));
             here =
                 let own = rw (eq-eqb job job refl) at (new-placed job (placing .job-below)) in
                 omega (arith, placing .here);
-            after = λ i j inside later below.
-                let none-before = sum-zero (p .intervals) (λ i inside. placing .after i j inside later below) in
-                omega (arith, others-placed j below (λ e. omega arith), sum-term (p .intervals) (λ i. after i j) i inside);
+            others = λ j below other. omega (arith, placing .others j below other, others-placed j below other);
             band-below = placing .band-below;
             reaches = placing .reaches;
           }

@@ -64,8 +64,8 @@ module _ {p : Problem} {shares : Shares} {job count start end band : ℕ} {reach
       let (s, listed, its) = scanned i from to .listed j below share in
       (rw its at (now .from-start s listed), rw its at (now .to-end s listed))
 
-module _ {p : Problem} (sound : SoundProblem p) {shares : Shares} {prices : ℕ → ℕ} {job left band count start end : ℕ} {reached source : ℕ → ℕ}
-    (placing : Placing p shares prices job left band) (now : Reached p shares job count reached source start end)
+module _ {p : Problem} (sound : SoundProblem p) {shares : Shares} {prices lefts : ℕ → ℕ} {job left band count start end : ℕ} {reached source : ℕ → ℕ}
+    (placing : Placing p shares prices lefts job left band) (now : Reached p shares job count reached source start end)
     (scanned : (i : ℕ) → start ≤ i → i < end → Scanned p shares band count reached i)
     (more : suc band < p .bands) {after : ℕ → ℕ} (raised : Raised start end (suc band) prices after) where
   raised-band : (i : ℕ) → i < p .intervals → after i < p .bands
@@ -101,7 +101,7 @@ module _ {p : Problem} (sound : SoundProblem p) {shares : Shares} {prices : ℕ 
           omega (arith, order, raised .inside other (omega arith) (omega arith))
 
   -- the next band
-  pub placing-raised : Placing p shares after job left (suc band)
+  pub placing-raised : Placing p shares after lefts job left (suc band)
   placing-raised =
       record {
         priced =
@@ -115,9 +115,8 @@ module _ {p : Problem} (sound : SoundProblem p) {shares : Shares} {prices : ℕ 
               cheapest = raised-cheapest;
             };
         job-below = placing .job-below;
-        before = placing .before;
         here = placing .here;
-        after = placing .after;
+        others = placing .others;
         band-below = more;
         reaches = λ i inside is-open.
             let (from, to) = reached-open now {i = i} (now .some) (rw (now .origin) is-open) in

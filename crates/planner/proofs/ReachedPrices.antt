@@ -32,8 +32,8 @@ module _ {p : Problem} (sound : SoundProblem p) where
   pub open-below : {i j : ℕ} → j < p .jobs → Open p i j → i < p .intervals
   open-below {i} {j} below is-open = omega (arith, sound .inside j below)
 
-  module _ {shares : Shares} {prices : ℕ → ℕ} {job left band count start end : ℕ} {reached source : ℕ → ℕ}
-      (placing : Placing p shares prices job left band) (now : Reached p shares job count reached source start end) where
+  module _ {shares : Shares} {prices lefts : ℕ → ℕ} {job left band count start end : ℕ} {reached source : ℕ → ℕ}
+      (placing : Placing p shares prices lefts job left band) (now : Reached p shares job count reached source start end) where
     -- by the order in which the jobs were reached
     price-before : (n s : ℕ) → s < n → s < count → (i : ℕ) → Open p i (reached s) → band ≤ prices i
     price-before zero s early below i is-open = absurd (omega arith)

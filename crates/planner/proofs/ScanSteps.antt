@@ -64,20 +64,17 @@ module _ (set job : ℕ) (has : bit job set ≡ 1) where
 
 -- at the start of the search
 pub reaching-start : {p : Problem} {shares : Shares} → SoundProblem p → p .jobs ≤ maxJobs → {job : ℕ} → job < p .jobs
-    → (reached source : List ℕ) → length reached ≡ maxJobs → length source ≡ maxJobs
-    → Reaching p shares job (onlyJob job (p .first job) (p .last job) (set reached 0 job) source)
-reaching-start {p} {shares} sound most {job} below reached source jobs-length sources-length =
+    → (reached source : List ℕ) → numbersIn reached 0 ≡ job → length reached ≡ maxJobs → length source ≡ maxJobs
+    → Reaching p shares job (onlyJob job (p .first job) (p .last job) reached source)
+reaching-start {p} {shares} sound most {job} below reached source origin jobs-length sources-length =
     record {
       now = reached-start sound below _ _ origin;
       marked = λ j inside e. (0, omega arith, origin ∙ sym (its j (omega arith) (marked-one (2 ^ maxJobs - 1) job all j e)));
       unmarked = λ j inside e listed. unmarked-one (2 ^ maxJobs - 1) job all j e .0 (only j listed);
-      reached-length = length-set reached 0 job ∙ jobs-length;
+      reached-length = jobs-length;
       source-length = sources-length;
     }
   where
-    origin : numbersIn (set reached 0 job) 0 ≡ job
-    origin = getD-set-same reached 0 job 0 (omega arith)
-
     all : bit job (2 ^ maxJobs - 1) ≡ 1
     all = bit-all maxJobs job (omega arith)
 
@@ -85,7 +82,7 @@ reaching-start {p} {shares} sound most {job} below reached source jobs-length so
     its j small (inl here) = here
     its j small (inr e) = absurd (omega (arith, bit-all maxJobs j small))
 
-    only : (j : ℕ) → IsListed 1 (numbersIn (set reached 0 job)) j → j ≡ job
+    only : (j : ℕ) → IsListed 1 (numbersIn reached) j → j ≡ job
     only j (s, first, is) = let e : s ≡ 0 = omega arith in sym (rw e at is) ∙ origin
 
 -- a job that is not listed, with a share in a reached interval

@@ -6,7 +6,8 @@ use mathlib.Core.List.{List}
 use Prim.Native.Nat.{ℕ, suc, _+_, _-_, _*_, _<_, _≤_, min, max}
 use native.Mathlib.Decide.{ℕ-discrete}
 use native.Mathlib.Omega.{arith}
-use lib.ListN.{length, set}
+use lib.ListN.{length, set, length-set}
+use lib.Seq.{getD-set-same}
 use Rattle.model.specs.Limits.{maxJobs, maxIntervals}
 use Rattle.model.specs.Plans.{Shares}
 use Rattle.planner.specs.Placement.{Problem, SoundProblem, OnlyOpen, loadOf, Scanned}
@@ -51,13 +52,26 @@ withTarget found target =
       target = target;
     }
 
+pub reaching-target : {p : Problem} {shares : Shares} {job : ℕ} {found : SearchState} → Reaching p shares job found
+    → (target : ℕ) → Reaching p shares job (withTarget found target)
+reaching-target reaching target =
+    record {
+      now = reaching .now;
+      marked = reaching .marked;
+      unmarked = reaching .unmarked;
+      reached-length = reaching .reached-length;
+      source-length = reaching .source-length;
+    }
+
 module _ {p : Problem} (sound : SoundProblem p) (most : p .jobs ≤ maxJobs) {shares : Shares} {job band : ℕ} where
   -- nothing is scanned yet
   pub scanning-start : job < p .jobs → (reached source : List ℕ) → length reached ≡ maxJobs → length source ≡ maxJobs
       → Scanning p shares job band (onlyJob job (p .first job) (p .last job) (set reached 0 job) source) (p .first job) (p .first job)
   scanning-start below reached source jobs-length sources-length =
       record {
-        reaching = reaching-start sound most below reached source jobs-length sources-length;
+        reaching =
+            reaching-start sound most below (set reached 0 job) source (getD-set-same reached 0 job 0 (omega arith))
+            (length-set reached 0 job ∙ jobs-length) sources-length;
         no-target = refl;
         from = omega arith;
         order = omega arith;
@@ -80,16 +94,8 @@ module _ {p : Problem} (sound : SoundProblem p) (most : p .jobs ≤ maxJobs) {sh
       -- an interval with room
       pub searched-target : loadOf p shares next < p .size next * p .frequency (suc band) → Searched p shares job band (withTarget found next)
       searched-target room =
-          let reaching = scanning .reaching in
           record {
-            reaching =
-                record {
-                  now = reaching .now;
-                  marked = reaching .marked;
-                  unmarked = reaching .unmarked;
-                  reached-length = reaching .reached-length;
-                  source-length = reaching .source-length;
-                };
+            reaching = reaching-target (scanning .reaching) next;
             target = λ h. record { from = is-next .inside below .0; to = is-next .inside below .1; room = room };
             closed = λ past. absurd (omega arith);
           }

@@ -76,11 +76,11 @@ module _ {ws : List Point} {jobs : List Job} {bounds : List ℕ} {first last : �
         }
 
   -- all jobs have their cycles
-  pub placed-gives : {shares : Shares} {prices : ℕ → ℕ} → Placed (problemOf ws jobs bounds first last) shares prices (length jobs)
+  pub placed-gives : {shares : Shares} {prices : ℕ → ℕ} → Placed (problemOf ws jobs bounds first last) shares prices
       → {top : ℕ} → frequencyOf ws (bandCount ws) ≡ top → Gives top jobs bounds shares
   placed-gives {shares} placed is-top =
       record {
-        whole = placed .before;
+        whole = placed .whole;
         shut = λ i j inside below is-shut. go i j inside below is-shut (eq-zero-or-pos (shares i j));
         fits = λ i inside. rw (← is-top) (most (placed .priced) i inside);
       }
@@ -121,8 +121,8 @@ module _ {ws : List Point} {jobs : List Job} {bounds : List ℕ} {first last : �
       overfull-iff top jobs (boundAt bounds start) (boundAt bounds end) .1 (rw (size, ← is-top) (omega arith))
 
   -- T6: with every reached interval scanned at the last band, and cycles left, the reached range is an overfull window
-  pub reached-overfull : {shares : Shares} {job count start end left band : ℕ} {reached source prices : ℕ → ℕ}
-      → Placing (problemOf ws jobs bounds first last) shares prices job left band
+  pub reached-overfull : {shares : Shares} {job count start end left band : ℕ} {reached source prices lefts : ℕ → ℕ}
+      → Placing (problemOf ws jobs bounds first last) shares prices lefts job left band
       → Reached (problemOf ws jobs bounds first last) shares job count reached source start end
       → ((i : ℕ) → start ≤ i → i < end → Scanned (problemOf ws jobs bounds first last) shares band count reached i)
       → 0 < left → suc band ≡ bandCount ws

@@ -50,7 +50,7 @@ pub record Holding (p : Problem) (shares : Shares) (holders : List ℕ) : Type 0
   pub held-past : (i j : ℕ) → i < p .intervals → p .jobs ≤ j → bit j (numbersIn holders i) ≡ 0
   pub held-small : (i : ℕ) → i < p .intervals → numbersIn holders i < 2 ^ maxJobs
 
--- A workload with other windows, and with other lengths and frequencies too.
+-- A workload with other windows, and with other lengths too.
 abbrev pub lentWindows : Workload → (jobs : ℕ) → (first last : List ℕ) → Workload
 lentWindows work jobs first last =
     record {
@@ -75,19 +75,6 @@ lentSizes work jobs first last size =
       cycles = work .cycles;
       size = size;
       frequency = work .frequency;
-    }
-
-abbrev pub lentArrays : Workload → (jobs : ℕ) → (first last size frequency : List ℕ) → Workload
-lentArrays work jobs first last size frequency =
-    record {
-      jobs = jobs;
-      intervals = work .intervals;
-      bands = work .bands;
-      first = first;
-      last = last;
-      cycles = work .cycles;
-      size = size;
-      frequency = frequency;
     }
 
 -- A table of which only the first `count` numbers may have changed.

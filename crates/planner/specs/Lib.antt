@@ -7,4 +7,5 @@ pub mod Arrays
 pub mod Reaching
 pub mod Moves
 pub mod PlacedTables
+pub mod BandPasses
 pub mod RisingPrices

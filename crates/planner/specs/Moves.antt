@@ -42,8 +42,8 @@ pub record CanWalk (work : Workload) (table : List ℕ) (found : SearchState) : 
   pub to : found .target < found .end
 
 -- While a job is placed at a band, a reached target has room for `amount` cycles.
-pub record ToMove (p : Problem) (shares : Shares) (prices : ℕ → ℕ) (job left band : ℕ) (found : SearchState) (amount : ℕ) : Type 0 where
-  pub placing : Placing p shares prices job left band
+pub record ToMove (p : Problem) (shares : Shares) (prices lefts : ℕ → ℕ) (job left band : ℕ) (found : SearchState) (amount : ℕ) : Type 0 where
+  pub placing : Placing p shares prices lefts job left band
   pub reaching : Reaching p shares job found
   pub from : found .start ≤ found .target
   pub to : found .target < found .end
@@ -51,8 +51,8 @@ pub record ToMove (p : Problem) (shares : Shares) (prices : ℕ → ℕ) (job le
   pub room : loadOf p shares (found .target) + amount ≤ p .size (found .target) * p .frequency (suc band)
 
 -- The amount is placed: only the load of the target has changed.
-pub record Moved (p : Problem) (before after : Shares) (prices : ℕ → ℕ) (job left band : ℕ) (target amount : ℕ) : Type 0 where
-  pub placing : (rest : ℕ) → left ≡ rest + amount → Placing p after prices job rest band
+pub record Moved (p : Problem) (before after : Shares) (prices lefts : ℕ → ℕ) (job left band : ℕ) (target amount : ℕ) : Type 0 where
+  pub placing : (rest : ℕ) → left ≡ rest + amount → Placing p after prices lefts job rest band
   pub loads : (i : ℕ) → i < p .intervals → loadOf p after i ≡ loadOf p before i + onlyIf (eqb i target) amount
 
 -- To a function that is not lent the prices: with some prices, a job is placed and the path passes the amount.
@@ -62,16 +62,17 @@ pub record CanMove (work : Workload) (table holders : List ℕ) (found : SearchS
   pub holding : Holding (problemIn work) (sharesIn (work .jobs) table) holders
   pub passes : PathPasses work table found amount
   pub prices : ℕ → ℕ
+  pub lefts : ℕ → ℕ
   pub job : ℕ
   pub left : ℕ
   pub band : ℕ
-  pub to-move : ToMove (problemIn work) (sharesIn (work .jobs) table) prices job left band found amount
+  pub to-move : ToMove (problemIn work) (sharesIn (work .jobs) table) prices lefts job left band found amount
 
 -- With any such prices the amount is placed.
 abbrev pub Moves : Workload → (before after : List ℕ) → SearchState → (amount : ℕ) → Type 0
 Moves work before after found amount =
-    (prices : ℕ → ℕ) (job left band : ℕ) → ToMove (problemIn work) (sharesIn (work .jobs) before) prices job left band found amount
-    → Moved (problemIn work) (sharesIn (work .jobs) before) (sharesIn (work .jobs) after) prices job left band (found .target) amount
+    (prices lefts : ℕ → ℕ) (job left band : ℕ) → ToMove (problemIn work) (sharesIn (work .jobs) before) prices lefts job left band found amount
+    → Moved (problemIn work) (sharesIn (work .jobs) before) (sharesIn (work .jobs) after) prices lefts job left band (found .target) amount
 
 -- To functions that are lent the windows of a workload alone: the path can be walked, of some such workload, and `amount`
 -- cycles can go along it, of each.

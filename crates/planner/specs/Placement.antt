@@ -1,4 +1,4 @@
--- The invariants of placing jobs one after another (the planner's loop), over plain functions.
+-- The invariants of placing jobs band after band (the planner's loops), over plain functions.
 -- Intervals and jobs count from 0, and so do bands: band k goes from frequency k to frequency k + 1.
 use Prim.Native.Nat.{ℕ, suc, _+_, _*_, _<_, _≤_, max}
 use mathlib.Core.Path.{_≡_}
@@ -79,20 +79,26 @@ module _ (p : Problem) where
     pub cheapest : (i other j : ℕ) → i < p .intervals → other < p .intervals → j < p .jobs
         → 0 < shares i j → Open other j → prices i ≤ prices other
 
-  -- The invariant between two jobs: the first `count` jobs have all their cycles, and the others none.
-  pub record Placed (shares : Shares) (prices : ℕ → ℕ) (count : ℕ) : Type 0 where
+  -- All jobs have all their cycles.
+  pub record Placed (shares : Shares) (prices : ℕ → ℕ) : Type 0 where
     pub priced : Priced shares prices
-    pub before : (j : ℕ) → j < count → placedOf shares j ≡ p .cycles j
-    pub after : (i j : ℕ) → i < p .intervals → count ≤ j → j < p .jobs → shares i j ≡ 0
+    pub whole : (j : ℕ) → j < p .jobs → placedOf shares j ≡ p .cycles j
 
-  -- The invariant while job `job` has `left` cycles still to be placed at band `band` or above: the jobs before it have all
-  -- their cycles, the jobs after it none, and no interval in which it is open has a price below the band.
-  pub record Placing (shares : Shares) (prices : ℕ → ℕ) (job left band : ℕ) : Type 0 where
+  -- The invariant between two jobs at a band, with `lefts j` cycles of each job j still to be placed: no interval in which a
+  -- job with cycles left is open has a price below the band, nor, for the first `count` jobs, at the band.
+  pub record Filling (shares : Shares) (prices lefts : ℕ → ℕ) (band count : ℕ) : Type 0 where
+    pub priced : Priced shares prices
+    pub rest : (j : ℕ) → j < p .jobs → placedOf shares j + lefts j ≡ p .cycles j
+    pub reaches : (i j : ℕ) → i < p .intervals → j < p .jobs → 0 < lefts j → Open i j → band ≤ prices i
+    pub passed : (i j : ℕ) → i < p .intervals → j < count → 0 < lefts j → Open i j → band < prices i
+
+  -- The invariant while job `job` has `left` cycles still to be placed at band `band` or above, and each other job j has
+  -- `lefts j`: no interval in which the job is open has a price below the band.
+  pub record Placing (shares : Shares) (prices lefts : ℕ → ℕ) (job left band : ℕ) : Type 0 where
     pub priced : Priced shares prices
     pub job-below : job < p .jobs
-    pub before : (j : ℕ) → j < job → placedOf shares j ≡ p .cycles j
     pub here : placedOf shares job + left ≡ p .cycles job
-    pub after : (i j : ℕ) → i < p .intervals → job < j → j < p .jobs → shares i j ≡ 0
+    pub others : (j : ℕ) → j < p .jobs → (j ≡ job → ⊥) → placedOf shares j + lefts j ≡ p .cycles j
     pub band-below : band < p .bands
     pub reaches : (i : ℕ) → i < p .intervals → Open i job → band ≤ prices i
 

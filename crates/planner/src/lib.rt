@@ -1,4 +1,7 @@
-// Planning: jobs are placed one after another, each along paths of least price.
+// Planning: jobs are placed band after band, at least price.
+mod filling;
+mod moving;
+mod order;
 mod path;
 mod placement;
 mod prices;

@@ -7,13 +7,53 @@ ghost use Rattle.model.specs.Limits.{maxJobs, maxIntervals};
 ghost use Rattle.planner.specs.Placement.{Problem, firstOpen};
 ghost use Rattle.planner.specs.Arrays.{numbersIn};
 ghost use Rattle.planner.specs.Reaching.{stateOf, withWindows};
+ghost use Rattle.planner.specs.PlacedTables.{SizesFill, SizesFilled};
 ghost use Rattle.planner.specs.Moves.{putAt, takenAt, putHolder, takenHolder, WindowsWalk, WindowsPass, WindowsMove, WindowsMoved};
 use crate::search::Found;
 use model::MAX_INTERVALS;
 use model::MAX_JOBS;
 
+// Moves as many of the cycles left as possible along the path from a target with room, and answers how many.
+pub(crate) fn fill(
+    first: &[usize; MAX_JOBS],
+    last: &[usize; MAX_JOBS],
+    size: &[u64; MAX_INTERVALS],
+    frequency: u64,
+    jobs: usize,
+    shares: &mut [u32],
+    loads: &mut [u64; MAX_INTERVALS],
+    holders: &mut [u64; MAX_INTERVALS],
+    reached: &[usize; MAX_JOBS],
+    source: &[usize; MAX_JOBS],
+    found: Found,
+    left: u64,
+) -> u64
+    requires { ⌜ SizesFill jobs (now first) (now last) (now size) frequency (now shares) (now loads) (now holders) (stateOf found (now reached) (now source)) left ⌝ }
+    ensures { λ r. ⌜ SizesFilled jobs (now (first .entry)) (now (last .entry)) (now (size .entry)) frequency
+        (now (shares .entry)) (now (loads .entry)) (now (holders .entry)) (now (shares .exit)) (now (loads .exit)) (now (holders .exit))
+        (stateOf found (now (reached .entry)) (now (source .entry))) left r ⌝ }
+{
+    let target = found.target;
+    let room = size[target] * frequency - loads[target];
+    let most = if room < left { room } else { left };
+    let amount = path_limit(first, last, jobs, shares, reached, source, found, most);
+    move_along(
+        first,
+        last,
+        jobs,
+        shares,
+        holders,
+        reached,
+        source,
+        found,
+        amount as u32,
+    );
+    loads[target] += amount;
+    amount
+}
+
 // How many cycles can go along the path, of the most that are wanted.
-pub(crate) fn path_limit(
+fn path_limit(
     first: &[usize; MAX_JOBS],
     last: &[usize; MAX_JOBS],
     jobs: usize,
@@ -42,7 +82,7 @@ pub(crate) fn path_limit(
 }
 
 // Moves an amount along the path, and so places it. Only the load of the target changes.
-pub(crate) fn move_along(
+fn move_along(
     first: &[usize; MAX_JOBS],
     last: &[usize; MAX_JOBS],
     jobs: usize,

@@ -4,9 +4,9 @@ ghost use Prim.Native.Nat.{ℕ, _*_, _<_, _≤_};
 ghost use lib.ListN.{length};
 ghost use Rattle.model.specs.Limits.{maxIntervals, maxLevels, maxDeadline, maxFrequency};
 ghost use Rattle.model.specs.Plans.{sharesIn};
+ghost use Rattle.planner.specs.Placement.{Raised};
 ghost use Rattle.planner.specs.Arrays.{numbersIn};
 ghost use Rattle.planner.specs.RisingPrices.{LeastBand, HighestPrice, IsBelow, JobStep, ArraysPrice, ArraysPriced, WindowsRise, WindowsRisen};
-use crate::placement::raise;
 use model::MAX_INTERVALS;
 use model::MAX_JOBS;
 use model::MAX_POINTS;
@@ -102,8 +102,23 @@ fn raise_job(
     false
 }
 
+// Raises the prices from start up to, not including, end to at least a price.
+pub(crate) fn raise(prices: &mut [u64; MAX_INTERVALS], start: usize, end: usize, price: u64)
+    requires { ⌜ (length (now prices) ≡ maxIntervals) × (start ≤ end) × (end ≤ maxIntervals) ⌝ }
+    ensures { λ _. ⌜ Raised start end price (numbersIn (now (prices .entry))) (numbersIn (now (prices .exit)))
+        × (length (now (prices .exit)) ≡ maxIntervals) ⌝ }
+{
+    let mut i = start;
+    while i < end {
+        if prices[i] < price {
+            prices[i] = price;
+        }
+        i += 1;
+    }
+}
+
 // Whether an interval from start up to, not including, end has a lower price.
-fn is_below(prices: &[u64; MAX_INTERVALS], start: usize, end: usize, price: u64) -> bool
+pub(crate) fn is_below(prices: &[u64; MAX_INTERVALS], start: usize, end: usize, price: u64) -> bool
     requires { ⌜ end ≤ maxIntervals ⌝ }
     ensures { λ r. ⌜ IsBelow (numbersIn (now (prices .entry))) start end price r ⌝ }
 {

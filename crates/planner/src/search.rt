@@ -59,7 +59,7 @@ pub(crate) fn search(
 }
 
 // Only the job being placed is reached.
-fn only(job: usize, first: usize, last: usize) -> Found
+pub(crate) fn only(job: usize, first: usize, last: usize) -> Found
     requires { ⌜ job < maxJobs ⌝ }
     ensures { λ r. ⌜ ((reached source : List ℕ) → stateOf r reached source ≡ onlyJob job first last reached source) ⌝ }
 {

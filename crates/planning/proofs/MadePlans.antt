@@ -67,7 +67,7 @@ rooms curve valid site long =
 
 module _ (ws : List Point) (jobs : List Job) (work : Workload) (curve : Curve ws) (valid : ValidJobs jobs)
     (site : SiteWorkload ws jobs (boundsOf jobs) work)
-    (table loads first : List ℕ) (tables : PlacedTables work table loads first (work .jobs)) where
+    (table loads first : List ℕ) (tables : PlacedTables work table loads first) where
   jobs-are : work .jobs ≡ length jobs
   jobs-are = jobs-counted curve valid site
 

@@ -44,11 +44,11 @@ module _ {ws : List Point} {jobs : List Job} {work : Workload}
       subst RangesFit (sym (site .problem))
       (ranges-fit curve B (site .ranges) is-top (earliestOverfull-none top jobs (valid .release-before-deadline) fits))
 
-  module _ {table loads prices : List ℕ} (tables : PlacedTables work table loads prices (work .jobs)) where
+  module _ {table loads prices : List ℕ} (tables : PlacedTables work table loads prices) where
     site-placed : Placed (problemOf ws jobs (boundsOf jobs) (numbersIn (work .first)) (numbersIn (work .last)))
-        (sharesIn (work .jobs) table) (numbersIn prices) (length jobs)
+        (sharesIn (work .jobs) table) (numbersIn prices)
     site-placed =
-        subst (λ (p : Problem). Placed p (sharesIn (work .jobs) table) (numbersIn prices) (p .jobs)) (site .problem) (tables .placed)
+        subst (λ (p : Problem). Placed p (sharesIn (work .jobs) table) (numbersIn prices)) (site .problem) (tables .placed)
 
     -- the shares give each job its cycles
     pub workload-gives : {top : ℕ} → frequencyOf ws (bandCount ws) ≡ top → Gives top jobs (boundsOf jobs) (sharesIn (work .jobs) table)

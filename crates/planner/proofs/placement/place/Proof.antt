@@ -1,30 +1,28 @@
--- `placement::place` meets its contract. The loop's invariant: the jobs before `job` are placed. Assumes nothing.
+-- `placement::place` meets its contract. The loop's invariant: the bands before `band` are done. Assumes nothing.
 use mathlib.Core.Path.{_≡_, refl}
-use Prim.Native.Nat.{_-_, _*_, _<_, _≤_}
+use Prim.Native.Nat.{_+_, _-_, _*_, _<_, _≤_}
 use native.Mathlib.Omega.{arith}
+use lib.ListN.{length}
+use borrow.Author.Needs.{needs}
 use denote.Ref.{now}
-use Rattle.model.specs.Limits.{maxJobs}
-use Rattle.model.specs.Plans.{sharesIn}
-use Rattle.planner.specs.Arrays.{problemIn, Holding, KeptPast}
-use Rattle.planner.specs.PlacedTables.{PlacedTables, CanPlace}
+use Rattle.model.specs.Limits.{maxLevels, maxJobs, maxIntervals}
+use Rattle.planner.specs.Arrays.{numbersIn, KeptPast}
+use Rattle.planner.specs.PlacedTables.{FillingTables}
+use Rattle.planner.specs.BandPasses.{CanRaise}
 use Rattle.planner.proofs.SharesTable.{kept-refl, kept-trans}
-use Rattle.planner.proofs.PlaceSteps.{tables-start}
+use Rattle.planner.proofs.PlaceSteps.{tables-start, band-next, tables-end}
 use Rattle.planner.proofs.placement.place.Statement.{statement}
 use Rattle.planner.proofs.placement.place.Tie as tie
 
 abbrev Inv-loop : tie.InvT-loop
-Inv-loop shares₀ loads₀ prices₀ work holders₀ jobs first last size frequency job₀ shares loads prices holders job =
-    (job ≤ jobs)
-    × PlacedTables work shares loads prices job
-    × Holding (problemIn work) (sharesIn (work .jobs) shares) holders
+Inv-loop shares₀ loads₀ prices₀ work holders₀ left₀ jobs bands first last size order band₀ shares loads prices holders left band =
+    (band ≤ bands)
     × KeptPast (work .intervals * work .jobs) shares₀ shares
+    × (length prices ≡ maxIntervals)
+    × FillingTables work shares loads holders left (numbersIn prices) band 0
 
 abbrev μ-loop : tie.MeasureT-loop
-μ-loop shares₀ loads₀ prices₀ work holders₀ jobs first last size frequency job₀ shares loads prices holders job = jobs - job
-
--- the function's entry
-abbrev entry : tie.At-loop Inv-loop μ-loop → tie.Start Inv-loop μ-loop
-entry c = c .before .before .before .before .before .before .before .before .before .before .before .before
+μ-loop shares₀ loads₀ prices₀ work holders₀ left₀ jobs bands first last size order band₀ shares loads prices holders left band = bands - band
 
 mul-clear : tie.Need-mul-clear Inv-loop μ-loop
 mul-clear c = omega (arith, c .before .before .pre .1 .1)
@@ -32,66 +30,107 @@ mul-clear c = omega (arith, c .before .before .pre .1 .1)
 clear-requires : tie.Need-clear-requires Inv-loop μ-loop
 clear-requires c κs = c .before .before .pre .1 .1
 
+by-deadline-requires : tie.Need-by-deadline-requires Inv-loop μ-loop
+by-deadline-requires c κs = c .before .before .before .before .before .before .before .before .before .before .before .before .pre .0 .jobs-most
+
+-- the function's entry
+abbrev entry : tie.At-loop Inv-loop μ-loop → tie.Start Inv-loop μ-loop
+entry c = c .before .before .before .before .before .before .before .before .before .before .before .before .before .before
+
+-- the array of cycles has a number for each job
+cycles-length : (c : tie.Start Inv-loop μ-loop) → length (c .args .t1 .cycles) ≡ maxJobs
+cycles-length c = search needs
+
 loop-holds : tie.Need-loop-holds Inv-loop μ-loop
 loop-holds c =
-    let start = c .before .before .before .before .before .before .before .before .before .before .before in
-    let clear = c .before .before .before .before .before .before .before .before .clear in
-    let tables = tables-start (start .pre .0) (clear .last .0) (omega (arith, start .pre .1 .1, clear .ensures .0 .same-length)) (clear .ensures .1) in
-    (omega arith, tables .0, tables .1, kept-refl _ _)
+    let start = c .before .before .before .before .before .before .before .before .before .before .before .before .before in
+    let clear = c .before .before .before .before .before .before .before .before .before .before .clear in (
+      omega arith,
+      kept-refl _ _,
+      refl,
+      tables-start (start .pre .0) (cycles-length start) (clear .last .0) (omega (arith, start .pre .1 .1, clear .ensures .0 .same-length)) (clear .ensures .1),
+    )
 
--- the job's number fits the arrays
-below : (c : tie.In-loop Inv-loop μ-loop) → c .before .loop .job < maxJobs
-below c = omega (arith, c .loop-test .taken, entry (c .before) .pre .0 .jobs-most)
+-- the band has an end
+end-inside : (c : tie.In-loop Inv-loop μ-loop) → c .before .loop .band + 1 < maxLevels + 1
+end-inside c = omega (arith, c .loop-test .taken, entry (c .before) .pre .0 .bands-most)
 
-mul-cycles : tie.Need-mul-cycles Inv-loop μ-loop
-mul-cycles c = omega (arith, below c)
+add-frequency : tie.Need-add-frequency Inv-loop μ-loop
+add-frequency c = omega (arith, end-inside c)
 
-element-copy-out-cycles : tie.Need-element-copy-out-cycles Inv-loop μ-loop
-element-copy-out-cycles c = below c
+mul-frequency : tie.Need-mul-frequency Inv-loop μ-loop
+mul-frequency c = omega (arith, end-inside c)
 
--- the next job can be placed
-next : (c : tie.In-loop Inv-loop μ-loop)
-    → let head = c .before in
-    CanPlace (entry head .args .t1) (head .loop .shares) (head .loop .loads) (head .loop .holders) (head .loop .prices) (head .loop .job)
-next c =
-    let head = c .before in
+element-copy-out-frequency : tie.Need-element-copy-out-frequency Inv-loop μ-loop
+element-copy-out-frequency c = omega (arith, end-inside c)
+
+fill-jobs-requires : tie.Need-fill-jobs-requires Inv-loop μ-loop
+fill-jobs-requires c κs =
+    let turn = c .before .before .before .before .before .before .before .before .before in
+    let head = turn .before in (
+      (entry head .args .t1, head .loop .band, numbersIn (head .loop .prices), refl, turn .loop-test .taken, head .loop .inv .3),
+      head .before .by-deadline .ensures,
+    )
+
+-- the windows are filled
+own-filled : (c : tie.After-fill-jobs Inv-loop μ-loop)
+    → let head = c .before .before .before .before .before .before .before .before .before .before .before in
+    let work = entry head .args .t1 in
+    KeptPast (work .intervals * work .jobs) (head .loop .shares) (c .fill-jobs .last .1 .1 .1 .1 .1 .1 .0)
+    × FillingTables work (c .fill-jobs .last .1 .1 .1 .1 .1 .1 .0) (c .fill-jobs .last .1 .1 .1 .1 .1 .1 .1 .0) (c .fill-jobs .last .1 .1 .1 .1 .1 .1 .1 .1 .0)
+    (c .fill-jobs .last .1 .1 .1 .1 .1 .1 .1 .1 .1 .0) (numbersIn (head .loop .prices)) (head .loop .band) 0
+own-filled c =
+    let turn = c .before .before .before .before .before .before .before .before .before .before in
+    let head = turn .before in
+    c .fill-jobs .ensures (entry head .args .t1) (head .loop .band) (numbersIn (head .loop .prices)) refl (turn .loop-test .taken) (head .loop .inv .3)
+
+can-move : (c : tie.After-fill-jobs Inv-loop μ-loop)
+    → let head = c .before .before .before .before .before .before .before .before .before .before .before in
+    CanRaise (entry head .args .t1) (c .fill-jobs .last .1 .1 .1 .1 .1 .1 .0) (c .fill-jobs .last .1 .1 .1 .1 .1 .1 .1 .0) (c .fill-jobs .last .1 .1 .1 .1 .1 .1 .1 .1 .0)
+    (head .loop .prices) (c .fill-jobs .last .1 .1 .1 .1 .1 .1 .1 .1 .1 .0) (head .loop .band) 0
+can-move c =
+    let turn = c .before .before .before .before .before .before .before .before .before .before in
+    let head = turn .before in
     record {
-      sound = entry head .pre .0;
       fit = entry head .pre .1 .0;
-      tables = head .loop .inv .1;
-      holding = head .loop .inv .2;
-      job-below = c .loop-test .taken;
+      prices-length = head .loop .inv .2;
+      band-below = turn .loop-test .taken;
+      tables = own-filled c .1;
     }
 
-place-job-requires : tie.Need-place-job-requires Inv-loop μ-loop
-place-job-requires c κs = (entry (c .before .before .before .before .before .before .before .before .before .before) .args .t1, refl, next (c .before .before .before .before .before .before .before .before .before))
+move-jobs-requires : tie.Need-move-jobs-requires Inv-loop μ-loop
+move-jobs-requires c κs =
+    let head = c .before .before .before .before .before .before .before .before .before .before .before .before .before .before .before .before .before .before .before .before .before in
+    (entry head .args .t1, refl, can-move (c .before .before .before .before .before .before .before .before .before .before))
 
-add-job : tie.Need-add-job Inv-loop μ-loop
-add-job c = omega (arith, below (c .before .before .before .before .before .before .before .before .before .before .before .before))
+add-band : tie.Need-add-band Inv-loop μ-loop
+add-band c = omega (arith, end-inside (c .before .before .before .before .before .before .before .before .before .before .before .before .before .before .before .before .before .before .before .before .before .before .before))
 
 loop-less : tie.Need-loop-less Inv-loop μ-loop
-loop-less c = omega (arith, c .before .before .before .before .before .before .before .before .before .before .before .before .loop-test .taken)
+loop-less c = omega (arith, c .before .before .before .before .before .before .before .before .before .before .before .before .before .before .before .before .before .before .before .before .before .before .before .loop-test .taken)
 
 loop-again : tie.Need-loop-again Inv-loop μ-loop
 loop-again c =
-    let turn = c .before .before .before .before .before .before .before .before .before .before .before .before in
-    let below = turn .loop-test .taken in
-    let placed = c .before .before .place-job .ensures (entry (turn .before) .args .t1) refl (next turn) in
-    (omega arith, placed .tables, placed .holding, kept-trans (turn .before .loop .inv .3) (placed .kept))
+    let turn = c .before .before .before .before .before .before .before .before .before .before .before .before .before .before .before .before .before .before .before .before .before .before .before in
+    let filled = c .before .before .before .before .before .before .before .before .before .before .before .before .before in
+    let (kept, moved) = c .before .before .move-jobs .ensures (entry (turn .before) .args .t1) refl (can-move filled) in (
+      omega (arith, turn .loop-test .taken),
+      kept-trans (turn .before .loop .inv .1) (kept-trans (own-filled filled .0) kept),
+      moved .prices-length,
+      band-next (moved .tables) refl,
+    )
 
 -- what lies past the table stays from the entry on
 kept : (c : tie.After-loop Inv-loop μ-loop)
     → let a = entry (c .before) .args in
     KeptPast (a .t1 .intervals * a .t1 .jobs) (now (a .shares)) (c .before .loop .shares)
-kept c = kept-trans (c .before .before .before .before .before .before .before .before .before .before .clear .ensures .0) (c .before .loop .inv .3)
+kept c = kept-trans (c .before .before .before .before .before .before .before .before .before .before .before .before .clear .ensures .0) (c .before .loop .inv .1)
 
 same-length : tie.Need-same-length Inv-loop μ-loop
 same-length c = kept c .same-length
 
 returns : tie.Need-returns Inv-loop μ-loop
-returns c =
-    let all : c .before .loop .job ≡ entry (c .before) .args .t1 .jobs = omega arith in
-    (rw all at (c .before .loop .inv .1), kept c)
+returns c = (tables-end (c .before .loop .inv .3) (c .before .loop .inv .2) (c .loop-test .left), kept c)
 
 pub place-spec : {M : Type 1} → statement M
 place-spec =
@@ -101,11 +140,14 @@ place-spec =
     μ-loop
     mul-clear
     clear-requires
+    by-deadline-requires
     loop-holds
-    mul-cycles
-    element-copy-out-cycles
-    place-job-requires
-    add-job
+    add-frequency
+    mul-frequency
+    element-copy-out-frequency
+    fill-jobs-requires
+    move-jobs-requires
+    add-band
     loop-less
     loop-again
     same-length

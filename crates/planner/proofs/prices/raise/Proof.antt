@@ -1,4 +1,4 @@
--- `placement::raise` meets its contract. The loop's invariant: the prices up to `i` are raised. Assumes nothing.
+-- `prices::raise` meets its contract. The loop's invariant: the prices up to `i` are raised. Assumes nothing.
 use mathlib.Core.Path.{_≡_}
 use mathlib.Core.Logic.{⊎-elim}
 use Prim.Native.Nat.{_-_, _<_, _≤_}
@@ -9,8 +9,8 @@ use Rattle.planner.specs.Placement.{Raised}
 use Rattle.planner.specs.Arrays.{numbersIn}
 use Rattle.planner.proofs.RaisedPrices.{raised-none}
 use Rattle.planner.proofs.StoredPrices.{raised-pass, raised-store}
-use Rattle.planner.proofs.placement.raise.Statement.{statement}
-use Rattle.planner.proofs.placement.raise.Tie as tie
+use Rattle.planner.proofs.prices.raise.Statement.{statement}
+use Rattle.planner.proofs.prices.raise.Tie as tie
 
 abbrev Inv-loop : tie.InvT-loop
 Inv-loop prices₀ start end price i₀ prices i =

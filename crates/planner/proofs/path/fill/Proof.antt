@@ -1,4 +1,4 @@
--- `placement::fill` meets its contract (proofs/FillSteps.antt). Assumes nothing.
+-- `path::fill` meets its contract (proofs/FillSteps.antt). Assumes nothing.
 use mathlib.Core.Logic.{⊎-elim}
 use Prim.Native.Nat.{_+_, _-_, _*_, _<_, _≤_}
 use native.Mathlib.Omega.{arith}
@@ -7,8 +7,8 @@ use denote.Ref.{now}
 use Rattle.model.specs.Limits.{maxDeadline, maxFrequency}
 use Rattle.planner.specs.Arrays.{numbersIn, lentSizes}
 use Rattle.planner.proofs.FillSteps.{fill-capacity, fill-room, fill-walk, fill-move, filled}
-use Rattle.planner.proofs.placement.fill.Statement.{statement}
-use Rattle.planner.proofs.placement.fill.Tie as tie
+use Rattle.planner.proofs.path.fill.Statement.{statement}
+use Rattle.planner.proofs.path.fill.Tie as tie
 
 mul-room : tie.Need-mul-room
 mul-room c = search needs

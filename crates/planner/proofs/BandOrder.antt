@@ -1,0 +1,130 @@
+-- Laws of placing jobs band after band: at the start nothing is placed, and every price is the lowest; a job with cycles left
+-- can be placed, and after its turn the next job can; after the turns of all jobs the next band starts; past the last band
+-- all jobs are placed.
+-- Assumes nothing.
+use mathlib.Core.Path.{_≡_}
+use mathlib.Core.Logic.{_⊎_, inl, inr}
+use Prim.Native.Nat.{ℕ, suc, _+_, _<_, _≤_}
+use native.Mathlib.Decide.{ℕ-discrete}
+use native.Mathlib.Nat.{eq-or-lt-of-le, eq-zero-or-pos, le-of-suc-le-suc}
+use native.Mathlib.Omega.{arith}
+use Rattle.model.specs.Plans.{Shares}
+use Rattle.model.proofs.Sum.{sum-zero}
+use Rattle.planner.specs.Placement.{Problem, SoundProblem, Open, placedOf, Placed, Filling, Placing}
+
+-- nothing is placed, and all prices are 0
+pub filling-none : {p : Problem} → SoundProblem p → (shares : Shares) (prices : ℕ → ℕ)
+    → ((i j : ℕ) → i < p .intervals → j < p .jobs → shares i j ≡ 0) → ((i : ℕ) → i < p .intervals → prices i ≡ 0)
+    → Filling p shares prices (p .cycles) 0 0
+filling-none {p} sound shares prices no-share lowest =
+    record {
+      priced =
+          record {
+            shut = λ i j inside below share. absurd (omega (arith, no-share i j inside below));
+            band = λ i inside. rw (lowest i inside) (sound .some-band);
+            low = λ i inside. rw (lowest i inside, sound .start) (omega arith);
+            high = λ i inside. omega (arith, sum-zero (p .jobs) (λ j below. no-share i j inside below));
+            cheapest = λ i other j inside next below share is-open. absurd (omega (arith, no-share i j inside below));
+          };
+      rest = λ j below. omega (arith, sum-zero (p .intervals) (λ i inside. no-share i j inside below));
+      reaches = λ i j inside below has is-open. omega arith;
+      passed = λ i j inside below. absurd (omega arith);
+    }
+
+module _ {p : Problem} {shares : Shares} {prices lefts : ℕ → ℕ} {band count : ℕ} (filling : Filling p shares prices lefts band count) where
+  -- a job with cycles left
+  pub placing-start : {job : ℕ} → job < p .jobs → band < p .bands → 0 < lefts job → Placing p shares prices lefts job (lefts job) band
+  placing-start {job} below more has =
+      record {
+        priced = filling .priced;
+        job-below = below;
+        here = filling .rest job below;
+        others = λ j inside other. filling .rest j inside;
+        band-below = more;
+        reaches = λ i inside is-open. filling .reaches i job inside below has is-open;
+      }
+
+  -- one job more has no cycles left, or no price of its window is the band
+  pub filling-passed : ((i : ℕ) → i < p .intervals → 0 < lefts count → Open p i count → band < prices i)
+      → Filling p shares prices lefts band (suc count)
+  filling-passed here =
+      record {
+        priced = filling .priced;
+        rest = filling .rest;
+        reaches = filling .reaches;
+        passed = λ i j inside below. upto i j inside (eq-or-lt-of-le (le-of-suc-le-suc below));
+      }
+    where
+      upto : (i j : ℕ) → i < p .intervals → (j ≡ count) ⊎ (j < count) → 0 < lefts j → Open p i j → band < prices i
+      upto i j inside (inl its) has is-open = here i inside (rw its at has) (rw its at is-open)
+      upto i j inside (inr less) has is-open = filling .passed i j inside less has is-open
+
+  -- the next band
+  pub filling-next : count ≡ p .jobs → Filling p shares prices lefts (suc band) 0
+  filling-next all =
+      record {
+        priced = filling .priced;
+        rest = filling .rest;
+        reaches = λ i j inside below has is-open. omega (arith, filling .passed i j inside (rw all below) has is-open);
+        passed = λ i j inside below. absurd (omega arith);
+      }
+
+  -- past the last band
+  pub filling-end : SoundProblem p → p .bands ≤ band → Placed p shares prices
+  filling-end sound past = record { priced = filling .priced; whole = λ j below. go j below (eq-zero-or-pos (lefts j)) }
+    where
+      go : (j : ℕ) → j < p .jobs → (lefts j ≡ 0) ⊎ (0 < lefts j) → placedOf p shares j ≡ p .cycles j
+      go j below (inl none) = omega (arith, filling .rest j below)
+      go j below (inr has) =
+          let start = p .first j in
+          let window = sound .window j below in
+          let inside : start < p .intervals = omega (arith, sound .inside j below) in
+          let is-open : Open p start j = record { from = omega arith; to = window } in
+          absurd (omega (arith, filling .reaches start j inside below has is-open, filling .priced .band start inside))
+
+  -- after a job's turn
+  pub filling-turn : {job rest : ℕ} → count ≤ job → {after : Shares} {prices-after : ℕ → ℕ} → ((i : ℕ) → prices i ≤ prices-after i)
+      → Placing p after prices-after lefts job rest band
+      → (next : ℕ → ℕ) → next job ≡ rest → ((j : ℕ) → (j ≡ job → ⊥) → next j ≡ lefts j)
+      → Filling p after prices-after next band count
+  filling-turn {job} {rest} turn {after} {prices-after} rises placing next own same =
+      record {
+        priced = placing .priced;
+        rest = λ j below. rest-of j below (ℕ-discrete j job);
+        reaches = λ i j inside below has is-open. reaches i j inside below has is-open (ℕ-discrete j job);
+        passed = λ i j inside early has is-open.
+            let e = same j (λ e. omega arith) in
+            omega (arith, rises i, filling .passed i j inside early (omega arith) is-open);
+      }
+    where
+      rest-of : (j : ℕ) → j < p .jobs → Dec (j ≡ job) → placedOf p after j + next j ≡ p .cycles j
+      rest-of j below (yes its) = rw (its, own) (placing .here)
+      rest-of j below (no other) = rw (same j other) (placing .others j below other)
+
+      reaches : (i j : ℕ) → i < p .intervals → j < p .jobs → 0 < next j → Open p i j → Dec (j ≡ job) → band ≤ prices-after i
+      reaches i j inside below has is-open (yes its) = placing .reaches i inside (rw its at is-open)
+      reaches i j inside below has is-open (no other) =
+          let e = same j other in
+          omega (arith, rises i, filling .reaches i j inside below (omega arith) is-open)
+
+-- what holds at a band holds at the one below
+pub placing-lower : {p : Problem} {shares : Shares} {prices lefts : ℕ → ℕ} {job left band : ℕ} → Placing p shares prices lefts job left (suc band)
+    → Placing p shares prices lefts job left band
+placing-lower placing =
+    record {
+      priced = placing .priced;
+      job-below = placing .job-below;
+      here = placing .here;
+      others = placing .others;
+      band-below = omega (arith, placing .band-below);
+      reaches = λ i inside is-open. omega (arith, placing .reaches i inside is-open);
+    }
+
+-- no job has more than its cycles
+pub placed-most : {p : Problem} {shares : Shares} {prices lefts : ℕ → ℕ} {job left band : ℕ} → Placing p shares prices lefts job left band
+    → (j : ℕ) → j < p .jobs → placedOf p shares j ≤ p .cycles j
+placed-most {p} {shares} {job = job} placing j below = go (ℕ-discrete j job)
+  where
+    go : Dec (j ≡ job) → placedOf p shares j ≤ p .cycles j
+    go (yes its) = rw its (omega (arith, placing .here))
+    go (no other) = omega (arith, placing .others j below other)
