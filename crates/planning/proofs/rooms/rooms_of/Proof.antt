@@ -17,8 +17,7 @@ open-pairs-requires : tie.Need-open-pairs-requires
 open-pairs-requires c κs =
     let start = c .before in
     let held = start .pre .1 [] in
-    let most = bounds-most _ _ (length-jobsIn _ _ _ []) (start .pre .0) _ (held .counted) in
-    (most, holds-length held most, start .pre .0)
+    (bounds-most _ _ (length-jobsIn _ _ _ []) (start .pre .0) _ (held .counted), holds-length held, start .pre .0)
 
 few : (c : tie.After-open-pairs) → (c .open-pairs .result ≤ 8128) × (c .before .interval-count .result ≤ 127)
     × (c .before .before .args .count * c .before .interval-count .result ≤ 8128)

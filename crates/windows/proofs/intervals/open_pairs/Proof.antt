@@ -1,6 +1,6 @@
 -- `intervals::open_pairs` meets its contract. The loop's invariant: the pairs are the ones of the open sets passed, at most
 -- 64 each. Assumes nothing.
-use mathlib.Core.Path.{_≡_, refl, sym, _∙_, ap, ap₂}
+use mathlib.Core.Path.{_≡_, sym, _∙_, ap, ap₂}
 use mathlib.Core.List.{List}
 use Prim.Native.Nat.{ℕ, suc, _+_, _-_, _*_, _≤_, _<_}
 use native.Mathlib.Numerals.{add-one}
@@ -90,11 +90,12 @@ loop-less c = omega arith
 loop-again : tie.Need-loop-again Inv-loop μ-loop
 loop-again c =
     let turn = c .before .before .before .before in
-    let start = turn .before .before in (
+    let start = turn .before .before in
+    let within : turn .before .loop .i + 1 < start .args .bounds = omega arith in (
       omega arith,
       omega (arith, c .jobs-of .ensures .1),
       λ cycles. sum-more _ _ _ _ (turn .before .loop .inv .2 cycles)
-          (ones-open (start .args .bounds) _ _ _ _ _ (turn .loop-test .taken) (c .before .open-set .ensures cycles) (c .jobs-of .ensures .0)),
+          (ones-open (start .args .bounds) _ _ _ _ _ within (c .before .open-set .ensures cycles) (c .jobs-of .ensures .0)),
     )
 
 returns : tie.Need-returns Inv-loop μ-loop
