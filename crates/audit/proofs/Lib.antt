@@ -5,12 +5,13 @@ pub mod Verdicts
 pub mod Arrays
 pub mod Rows
 pub mod Tallies
+pub mod OpenRange
 pub mod TestedJobs
 pub mod SeenSets
 pub mod BoundsIn
 pub mod StepFaults
 pub mod FirstHalf
-pub mod LeastPrices
+pub mod PricedSets
 pub mod PriceFaults
 pub mod SecondHalf
 pub mod BothHalves

@@ -1,8 +1,8 @@
 -- The second half over plain arrays, one law for each way out of the code: refusal 21, and what the verdicts on the entries,
--- on the prices against the loads and on the steps against the cheapest prices say.
+-- on the prices against the loads and on the steps against the smaller prices say.
 -- Assumes nothing.
 use mathlib.Core.Path.{_≡_, sym, _∙_, ap}
-use mathlib.Core.Bool.{Bool, true, false, not, _&&_}
+use mathlib.Core.Bool.{true, false, not, _&&_}
 use mathlib.Core.List.{List}
 use Prim.Native.Nat.{ℕ, _+_, _-_, _*_, _<_, _≤_}
 use native.Mathlib.Omega.{arith}
@@ -33,12 +33,12 @@ use Rattle.audit.specs.Verdicts.{verdictOf, passed}
 use Rattle.energy.specs.Figures.{SmallBounds}
 use Rattle.audit.specs.TestedJobs.{isMarked, openSetsBelow}
 use Rattle.audit.specs.FirstHalf.{boundsIn}
-use Rattle.audit.specs.SecondHalf.{Planned, BandNumbers, wrongLengthIn, entryFaultIn, priceFaultIn, cheapestFor, cheaperFaultIn}
+use Rattle.audit.specs.SecondHalf.{Planned, BandNumbers, wrongLengthIn, entryFaultIn, priceFaultIn, cheaperFaultIn}
 use Rattle.audit.proofs.Verdicts.{byEntry-cong, entries-refused, entries-passed}
 use Rattle.audit.proofs.Tallies.{tally-at}
 use Rattle.audit.proofs.BoundsIn.{intervals-in, end-in, length-in, open-in}
 use Rattle.audit.proofs.TestedJobs.{open-has}
-use Rattle.audit.proofs.LeastPrices.{least-below, someBelow-cong}
+use Rattle.audit.proofs.PricedSets.{someBelow-cong}
 
 module _ (working : PointTable) (sets : List ℕ) (count bounds : ℕ) (times plan loads prices : List ℕ)
     (small : SmallBounds bounds times) (few : count ≤ maxJobs) (planned : Planned count bounds plan loads)
@@ -59,11 +59,6 @@ module _ (working : PointTable) (sets : List ℕ) (count bounds : ℕ) (times pl
 
   abbrev afterEntries : Outcome (Unit {0})
   afterEntries = byEntry (intervalCount bs) (priceFault ws jobs bs plan prices) afterFits
-
-  -- the faults of the steps, as the code has them
-  abbrev dearerFault : (numbers : List ℕ) → ℕ → ℕ
-  dearerFault numbers =
-      cheaperFaultIn (columnOf maxJobs count (cheapestFor (working .count - 1) sets bounds numbers)) numbers plan
 
   all-intervals : intervalCount bs ≡ intervals
   all-intervals = intervals-in bounds times ∙ sym counted
@@ -137,32 +132,27 @@ module _ (working : PointTable) (sets : List ℕ) (count bounds : ℕ) (times pl
             pub fits-refuse : (number place : ℕ) → fits ≡ Refused number place → Refused number place ≡ verdictOf outcome
             fits-refuse number place e = rw (past-entries ∙ entries-refused afterFits (bounds - 1) _ fits tested number place e)
 
-            -- the cheapest price of the step's job is below the step's price where some open interval's is
-            same-step : (s : ℕ) → s < stepCount plan → cheaperFault ws jobs bs plan prices s ≡ dearerFault numbers s
+            -- the step's job is open in an interval exactly when the interval's set has it
+            same-step : (s : ℕ) → s < stepCount plan → cheaperFault ws jobs bs plan prices s ≡ cheaperFaultIn sets bounds numbers plan s
             unfolding cheaperFault
             same-step s inside =
                 let j : ℕ = stepAt plan s .job in
-                let job : j < count = planned .step-job s inside in
                 let interval : stepAt plan s .interval < bounds - 1 = planned .step-interval s inside in
-                let p : ℕ = getD numbers (stepAt plan s .interval) 0 in
-                let tests : ℕ → Bool = λ i. isMarked sets i j in
                 rw (
-                  column-at maxJobs (cheapestFor (working .count - 1) sets bounds numbers) count j (omega arith) job,
-                  least-below (working .count - 1) (bounds - 1) tests (λ i. getD numbers i 0) p (band-numbers .high _ interval),
                   intervals-in bounds times,
                   someBelow-cong (bounds - 1)
                       (λ i. isOpen bs (jobOf jobs j) i && ltb (pricesOf prices i) (pricesOf prices (stepAt plan s .interval)))
-                      (λ i. tests i && ltb (getD numbers i 0) p)
+                      (λ i. isMarked sets i j && ltb (getD numbers i 0) (getD numbers (stepAt plan s .interval) 0))
                       (λ i below. rw (
                         open-in bounds times (jobOf jobs j) i (omega arith),
                         opened,
-                        open-has jobs times bounds count i j below (omega (arith, small .few)) job,
+                        open-has jobs times bounds count i j below (omega (arith, small .few)) (planned .step-job s inside),
                         price-at i (omega arith),
                         price-at (stepAt plan s .interval) (omega arith),
                       )),
                 )
 
-            pub cheapest-decides : fits ≡ Passed → (last : Verdict) → last ≡ verdictOf (byEntry (stepCount plan) (dearerFault numbers) passed)
+            pub cheapest-decides : fits ≡ Passed → (last : Verdict) → last ≡ verdictOf (byEntry (stepCount plan) (cheaperFaultIn sets bounds numbers plan) passed)
                 → last ≡ verdictOf outcome
             cheapest-decides fit last found =
                 found

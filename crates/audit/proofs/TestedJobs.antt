@@ -1,33 +1,28 @@
 -- Laws of what the check finds of the jobs: before the first record and after one more, that there is room for the next,
 -- and that the sets and the cycles found are those of the jobs.
 -- Assumes nothing.
-use mathlib.Core.Path.{_≡_, refl, sym, _∙_, ap}
+use mathlib.Core.Path.{_≡_, refl, sym}
 use mathlib.Core.Bool.{Bool, true, false, cond, _&&_}
 use mathlib.Core.Logic.{_⊎_, inl, inr}
 use mathlib.Core.List.{List}
 use Prim.Native.Nat.{ℕ, _+_, _-_, _^_, _<_, _≤_}
 use native.Mathlib.Omega.{arith}
-use lib.ListN.{length, getD, set, take, replicate, length-take, List·getD-eq-default}
-use lib.Seq.{ext-getD, getD-take}
+use lib.ListN.{length, getD, replicate, List·getD-eq-default}
 use lib.Pow.{pow-pos, pow-mono}
 use lib.Dec.{ltb, eqb}
 use borrow.Author.Tests.{lt-ltb, le-ltb}
 use Rattle.model.specs.declared.Job.{Job}
 use Rattle.model.specs.Limits.{maxIntervals, maxJobs}
-use Rattle.model.specs.Entries.{listOf}
 use Rattle.model.specs.Sum.{sum, onlyIf}
-use Rattle.model.specs.Jobs.{noJob, jobOf}
+use Rattle.model.specs.Jobs.{jobOf}
 use Rattle.model.proofs.Numbers.{lt-or-le}
-use Rattle.model.proofs.Entries.{getD-listOf, listOf-cong, listOf-getD}
+use Rattle.model.proofs.Entries.{listOf-cong}
 use Rattle.model.proofs.Sum.{sum-next}
 use Rattle.model.proofs.OpenSets.{bits-below, bits-at}
 use Rattle.tables.specs.Column.{columnOf}
-use Rattle.tables.specs.Tables.{jobsIn}
 use Rattle.tables.proofs.Column.{length-column, column-at, column-past, column-none, column-more}
-use Rattle.tables.proofs.Read.{length-jobsIn, job-in}
-use Rattle.audit.specs.declared.records.JobTests.{JobTests}
-use Rattle.audit.specs.TestedJobs.{setOf, hasJob, isMarked, openBetween, openSetsBelow, addsUp, testsBelow, noTests, SmallTests, withOpen, withJob}
-use Rattle.audit.proofs.Arrays.{zeros-hold, store-holds}
+use Rattle.audit.specs.TestedJobs.{setOf, hasJob, isMarked, openBetween, openSetsBelow, addsUp, testsBelow, testsIn, noTests, SmallTests, withBits, withOpen, withJob}
+use Rattle.audit.proofs.Arrays.{zeros-hold}
 
 bit-is-one : (t : Bool) → eqb (onlyIf t 1) 1 ≡ t
 bit-is-one true = refl
@@ -42,55 +37,8 @@ pub bit-room : (j set bit : ℕ) → j < maxJobs → set < 2 ^ j → bit ≤ 2 ^
 bit-room j set bit below small high = omega (arith, pow-mono {i = j} {j = 63} (omega arith))
 
 -- findings that agree part by part
-abbrev made : List ℕ → ℕ → List ℕ → JobTests
-made sets summed cycles = record { sets = sets; summed = summed; cycles = cycles }
-
-pub same-tests : {a a′ : List ℕ} {b b′ : ℕ} {c c′ : List ℕ} → a ≡ a′ → b ≡ b′ → c ≡ c′ → made a b c ≡ made a′ b′ c′
-same-tests p q r = λ i. made (p i) (q i) (r i)
-
--- the first records of a whole array are the jobs that the arrays have
-pub first-records : (count : ℕ) (releases deadlines cycles : List ℕ) → count ≤ maxJobs
-    → take count (jobsIn maxJobs releases deadlines cycles) ≡ jobsIn count releases deadlines cycles
-first-records count releases deadlines cycles few =
-    let all : ℕ = length (jobsIn maxJobs releases deadlines cycles) in
-    let full : all ≡ maxJobs = length-jobsIn maxJobs releases deadlines cycles in
-    let size : length (take count (jobsIn maxJobs releases deadlines cycles)) ≡ count = length-take count _ ∙ omega (arith, full) in
-    ext-getD noJob _ _ (size ∙ sym (length-jobsIn count releases deadlines cycles))
-    (λ j below. let inside : j < count = omega (arith, size) in
-    getD-take count _ j noJob inside
-    ∙ job-in maxJobs releases deadlines cycles j (omega arith)
-    ∙ sym (job-in count releases deadlines cycles j inside))
-
--- One set after another, as the code fills them.
-module _ (sets : List ℕ) (j release deadline : ℕ) (times : List ℕ) where
-  abbrev added : (intervals i : ℕ) → ℕ
-  added intervals i = getD sets i 0 + onlyIf (ltb i intervals && openBetween release deadline times i) (2 ^ j)
-
-  pub open-none : length sets ≡ maxIntervals → sets ≡ withOpen sets j release deadline times 0
-  unfolding withOpen
-  open-none size =
-      sym (listOf-getD sets 0)
-      ∙ ap (λ (n : ℕ). listOf n (λ i. getD sets i 0)) size
-      ∙ listOf-cong maxIntervals _ (added 0) (λ i inside. rw (le-ltb i 0 (omega arith)) (omega arith))
-
-  -- the set of an interval that comes later is as it was
-  pub open-later : (i : ℕ) → i < maxIntervals → getD (withOpen sets j release deadline times i) i 0 ≡ getD sets i 0
-  unfolding withOpen
-  open-later i inside = getD-listOf maxIntervals (added i) i 0 inside ∙ rw (le-ltb i i (omega arith)) (omega arith)
-
-  pub open-more : (next : List ℕ) (i bit : ℕ) → i < maxIntervals → next ≡ withOpen sets j release deadline times i
-      → bit ≡ onlyIf (openBetween release deadline times i) (2 ^ j)
-      → set next i (getD next i 0 + bit) ≡ withOpen sets j release deadline times (i + 1)
-  unfolding withOpen
-  open-more next i bit inside filled is-bit =
-      rw (filled, is-bit)
-      (store-holds maxIntervals (added i) (added (i + 1)) i _ inside
-      (rw (getD-listOf maxIntervals (added i) i 0 inside, le-ltb i i (omega arith), lt-ltb i (i + 1) (omega arith)) (omega arith))
-      (λ k within other. kept k (lt-or-le k i) other))
-    where
-      kept : (k : ℕ) → (k < i) ⊎ (i ≤ k) → (k ≡ i → ⊥) → added (i + 1) k ≡ added i k
-      kept k (inl before) other = rw (lt-ltb k i before, lt-ltb k (i + 1) (omega arith))
-      kept k (inr after) other = let past : i < k = omega arith in rw (le-ltb k i after, le-ltb k (i + 1) (omega arith))
+pub same-tests : {a a′ : List ℕ} {b b′ : ℕ} {c c′ : List ℕ} → a ≡ a′ → b ≡ b′ → c ≡ c′ → testsIn a b c ≡ testsIn a′ b′ c′
+same-tests p q r = λ i. testsIn (p i) (q i) (r i)
 
 module _ (jobs : List Job) (times : List ℕ) (bounds : ℕ) where
   abbrev opened : (i j : ℕ) → Bool
@@ -133,7 +81,7 @@ module _ (jobs : List Job) (times : List ℕ) (bounds : ℕ) where
   sets-more : (j : ℕ)
       → withOpen (openSetsBelow jobs j times bounds) j (jobOf jobs j .release) (jobOf jobs j .deadline) times (bounds - 1)
       ≡ openSetsBelow jobs (j + 1) times bounds
-  unfolding withOpen openSetsBelow columnOf
+  unfolding withBits openSetsBelow columnOf
   sets-more j = listOf-cong maxIntervals _ _ (λ i inside. at i inside (lt-or-le i (bounds - 1)))
     where
       at : (i : ℕ) → i < maxIntervals → (i < bounds - 1) ⊎ (bounds - 1 ≤ i)

@@ -1,10 +1,14 @@
 -- The second half of the check over plain arrays.
-use Prim.Native.Nat.{ℕ, zero, suc, _+_, _-_, _*_, _<_, _≤_, min}
+use Prim.Native.Nat.{ℕ, zero, suc, _+_, _-_, _*_, _<_, _≤_}
 use mathlib.Core.Path.{_≡_}
-use mathlib.Core.Bool.{Bool, not, cond, _&&_, _||_}
+use mathlib.Core.Bool.{Bool, true, not, cond, _&&_, _||_}
 use mathlib.Core.List.{List}
 use lib.ListN.{length, getD}
 use lib.Dec.{ltb, leb, eqb}
+use lib.Bits.{bitOr}
+use Rattle.model.specs.Limits.{maxPoints}
+use Rattle.model.specs.Entries.{listOf}
+use Rattle.model.specs.Search.{someBelow}
 use Rattle.model.specs.Points.{Point}
 use Rattle.model.specs.Prices.{fitsLoad}
 use Rattle.model.specs.Steps.{stepCount, stepAt}
@@ -39,18 +43,23 @@ abbrev pub priceFaultIn : List Point → (times loads numbers : List ℕ) → (i
 priceFaultIn ws times loads numbers i =
     cond (fitsLoad ws (getD times (i + 1) 0 - getD times i 0) (getD loads i 0) (getD numbers i 0)) 0 23
 
--- The smallest price of the first `count` intervals that pass the test; `most` where none does or none has a smaller price.
-unfoldable pub cheapestBelow : (most count : ℕ) → (test : ℕ → Bool) → (price : ℕ → ℕ) → ℕ
-cheapestBelow most zero test price = most
-cheapestBelow most (suc count) test price =
-    let rest : ℕ = cheapestBelow most count test price in
-    cond (test count) (min (price count) rest) rest
+-- The union of those of the first `count` sets of jobs that pass a test.
+unfoldable pub unionOf : (count : ℕ) → (test : ℕ → Bool) → (set : ℕ → ℕ) → ℕ
+unionOf zero test set = 0
+unionOf (suc count) test set =
+    let rest : ℕ = unionOf count test set in
+    cond (test count) (bitOr rest (set count)) rest
 
--- The smallest price of the intervals that job j is open in, the number of bands where it is open in none.
-abbrev pub cheapestFor : (bands : ℕ) → (sets : List ℕ) → (bounds : ℕ) → (numbers : List ℕ) → (j : ℕ) → ℕ
-cheapestFor bands sets bounds numbers j = cheapestBelow bands (bounds - 1) (λ i. isMarked sets i j) (λ i. getD numbers i 0)
+-- For each price the jobs that are open in one of the first `count` intervals of that price.
+abbrev pub pricedSets : (count : ℕ) → (sets numbers : List ℕ) → List ℕ
+pricedSets count sets numbers = listOf maxPoints (λ p. unionOf count (λ i. eqb (getD numbers i 0) p) (λ i. getD sets i 0))
 
--- Refusal 24 at a step: its job has a cheaper interval than the step's; 0 for none.
-abbrev pub cheaperFaultIn : (cheapest numbers plan : List ℕ) → (s : ℕ) → ℕ
-cheaperFaultIn cheapest numbers plan s =
-    cond (ltb (getD cheapest (stepAt plan s .job) 0) (getD numbers (stepAt plan s .interval) 0)) 24 0
+-- For each price the jobs that the sets of the smaller prices have.
+abbrev pub cheaperSets : (priced : List ℕ) → List ℕ
+cheaperSets priced = listOf maxPoints (λ p. unionOf p (λ q. true) (λ q. getD priced q 0))
+
+-- Refusal 24 at a step: its job is open in an interval of a smaller price than the step's; 0 for none.
+abbrev pub cheaperFaultIn : (sets : List ℕ) → (bounds : ℕ) → (numbers plan : List ℕ) → (s : ℕ) → ℕ
+cheaperFaultIn sets bounds numbers plan s =
+    cond (someBelow (bounds - 1)
+    (λ i. isMarked sets i (stepAt plan s .job) && ltb (getD numbers i 0) (getD numbers (stepAt plan s .interval) 0))) 24 0

@@ -1,5 +1,5 @@
 -- What the check finds of the jobs in one pass over the list of records.
-use Prim.Native.Nat.{ℕ, _+_, _-_, _/_, _%_, _^_, _<_}
+use Prim.Native.Nat.{ℕ, _+_, _-_, _/_, _%_, _^_, _<_, _≤_}
 use mathlib.Core.Path.{_≡_}
 use mathlib.Core.Bool.{Bool, _&&_}
 use mathlib.Core.List.{List}
@@ -50,6 +50,10 @@ module _ (jobs : List Job) where
   abbrev pub testsOf : (times : List ℕ) → (bounds : ℕ) → (sums : List ℕ) → JobTests
   testsOf = testsBelow (length jobs)
 
+-- Findings that stand apart: the arrays are lent, and the set of the jobs that add up is a word.
+abbrev pub testsIn : (sets : List ℕ) → (summed : ℕ) → (cycles : List ℕ) → JobTests
+testsIn sets summed cycles = record { sets = sets; summed = summed; cycles = cycles }
+
 -- Before the first job.
 abbrev pub noTests : JobTests
 noTests = record { sets = replicate maxIntervals 0; summed = 0; cycles = replicate maxJobs 0 }
@@ -63,10 +67,29 @@ pub record SmallTests (j : ℕ) (tests : JobTests) : Type 0 where
   pub small-sets : SmallSets j (tests .sets)
   pub small-summed : tests .summed < 2 ^ j
 
+-- The number of bounds before a time: those below the number lie before it, the others do not.
+pub record BoundsBefore (bounds : ℕ) (times : List ℕ) (time number : ℕ) : Type 0 where
+  pub within : number ≤ bounds
+  pub before : (i : ℕ) → i < number → getD times i 0 < time
+  pub after : (i : ℕ) → number ≤ i → i < bounds → time ≤ getD times i 0
+
+-- The number of intervals that end by a deadline: those below the number do, the others do not.
+pub record EndsBy (bounds : ℕ) (times : List ℕ) (deadline number : ℕ) : Type 0 where
+  pub within : number ≤ bounds - 1
+  pub before : (i : ℕ) → i < number → getD times (i + 1) 0 ≤ deadline
+  pub after : (i : ℕ) → number ≤ i → i < bounds - 1 → deadline < getD times (i + 1) 0
+
+-- The sets with job j in those of the intervals that pass a test.
+unfoldable pub withBits : (sets : List ℕ) → (j : ℕ) → (test : ℕ → Bool) → List ℕ
+withBits sets j test = listOf maxIntervals (λ i. getD sets i 0 + onlyIf (test i) (2 ^ j))
+
+-- The sets with job j in those of the intervals from `first` to before `end`.
+abbrev pub withRange : (sets : List ℕ) → (j first end : ℕ) → List ℕ
+withRange sets j first end = withBits sets j (λ i. leb first i && ltb i end)
+
 -- The sets with job j in those of the first `intervals` that it is open in.
-unfoldable pub withOpen : (sets : List ℕ) → (j release deadline : ℕ) → (times : List ℕ) → (intervals : ℕ) → List ℕ
-withOpen sets j release deadline times intervals =
-    listOf maxIntervals (λ i. getD sets i 0 + onlyIf (ltb i intervals && openBetween release deadline times i) (2 ^ j))
+abbrev pub withOpen : (sets : List ℕ) → (j release deadline : ℕ) → (times : List ℕ) → (intervals : ℕ) → List ℕ
+withOpen sets j release deadline times intervals = withBits sets j (λ i. ltb i intervals && openBetween release deadline times i)
 
 -- One record more: job j.
 unfoldable pub withJob : JobTests → (j : ℕ) → Job → (times : List ℕ) → (bounds : ℕ) → (sums : List ℕ) → JobTests

@@ -1,41 +1,41 @@
-// The cheapest open interval of each job, and the steps held against it: refusal 24.
+// The steps of a plan held against the prices of the intervals that their jobs are open in: refusal 24. For each price there
+// is a word with the jobs that are open in an interval of a smaller price, bit number equal to job number.
 ghost use mathlib.Core.Path.{_≡_};
-ghost use Prim.Native.Nat.{ℕ, _+_, _*_, _<_, _≤_, min};
-ghost use lib.ListN.{length};
-ghost use Rattle.model.specs.Limits.{maxJobs, maxBounds, maxIntervals};
+ghost use Prim.Native.Nat.{ℕ, _+_, _-_, _*_, _<_, _≤_};
+ghost use lib.ListN.{length, getD};
+ghost use Rattle.model.specs.Limits.{maxBounds, maxPoints};
 ghost use Rattle.model.specs.Outcome.{byEntry};
 ghost use Rattle.model.specs.Steps.{stepCount, stepAt};
-ghost use Rattle.tables.specs.Column.{columnOf};
 ghost use Rattle.audit.specs.Verdicts.{verdictOf, passed};
-ghost use Rattle.audit.specs.SecondHalf.{cheapestFor, cheaperFaultIn};
+ghost use Rattle.audit.specs.SecondHalf.{pricedSets, cheaperSets, cheaperFaultIn};
 use crate::Verdict;
 use crate::cells::is_marked;
 use crate::steps::decode_step;
 use crate::steps::step_count;
 use model::MAX_INTERVALS;
-use model::MAX_JOBS;
+use model::MAX_POINTS;
 
 // Goes through the steps one after another.
 pub(crate) fn check_cheapest(
-    bands: u64,
     sets: &[u64; MAX_INTERVALS],
-    count: usize,
     bounds: usize,
     plan: &[u8],
     numbers: &[u64; MAX_INTERVALS],
 ) -> Verdict
-    requires { ⌜ (count ≤ maxJobs) × (bounds ≤ maxBounds) × (length (now plan) ≡ 4 + 6 * stepCount (now plan)) ⌝ }
-    requires { ⌜ ((s : ℕ) → s < stepCount (now plan) → stepAt (now plan) s .interval < maxIntervals) ⌝ }
-    ensures { λ r. ⌜ r ≡ verdictOf (byEntry (stepCount (now (plan .entry))) (cheaperFaultIn (columnOf maxJobs count (cheapestFor bands (now (sets .entry)) bounds (now (numbers .entry)))) (now (numbers .entry)) (now (plan .entry))) passed) ⌝ }
+    requires { ⌜ (bounds ≤ maxBounds) × (length (now plan) ≡ 4 + 6 * stepCount (now plan)) ⌝ }
+    requires { ⌜ ((i : ℕ) → i < bounds - 1 → getD (now numbers) i 0 < maxPoints) ⌝ }
+    requires { ⌜ ((s : ℕ) → s < stepCount (now plan) → stepAt (now plan) s .interval < bounds - 1) ⌝ }
+    ensures { λ r. ⌜ r ≡ verdictOf (byEntry (stepCount (now (plan .entry))) (cheaperFaultIn (now (sets .entry)) bounds (now (numbers .entry)) (now (plan .entry))) passed) ⌝ }
 {
-    let cheapest = cheapest_prices(bands, sets, count, bounds, numbers);
+    let priced = priced_sets(sets, bounds, numbers);
+    let cheaper = cheaper_sets(&priced);
     let steps = step_count(plan);
     let mut s = 0;
     while s < steps {
         let step = decode_step(plan, s);
         let interval = step.interval;
-        let job = step.job;
-        if cheapest[job] < numbers[interval] {
+        let price = numbers[interval] as usize;
+        if is_marked(cheaper[price], step.job) {
             return Verdict::Refused {
                 number: 24,
                 place: s as u32,
@@ -46,50 +46,36 @@ pub(crate) fn check_cheapest(
     Verdict::Passed
 }
 
-// The smallest price of each job's open intervals; zeros past the last job.
-fn cheapest_prices(
-    bands: u64,
-    sets: &[u64; MAX_INTERVALS],
-    count: usize,
-    bounds: usize,
-    numbers: &[u64; MAX_INTERVALS],
-) -> [u64; MAX_JOBS]
-    requires { ⌜ (count ≤ maxJobs) × (bounds ≤ maxBounds) ⌝ }
-    ensures { λ r. ⌜ r ≡ columnOf maxJobs count (cheapestFor bands (now (sets .entry)) bounds (now (numbers .entry))) ⌝ }
-{
-    let mut cheapest = [0u64; MAX_JOBS];
-    let mut j = 0;
-    while j < count {
-        cheapest[j] = cheapest_price(bands, j, sets, bounds, numbers);
-        j += 1;
-    }
-    cheapest
-}
-
-// The smallest price of the intervals that a job is open in; the number of bands where it is open in none.
-fn cheapest_price(
-    bands: u64,
-    job: usize,
+// For each price the jobs that are open in an interval of that price.
+fn priced_sets(
     sets: &[u64; MAX_INTERVALS],
     bounds: usize,
     numbers: &[u64; MAX_INTERVALS],
-) -> u64
-    requires { ⌜ (job < maxJobs) × (bounds ≤ maxBounds) ⌝ }
-    ensures { λ r. ⌜ r ≡ cheapestFor bands (now (sets .entry)) bounds (now (numbers .entry)) job ⌝ }
+) -> [u64; MAX_POINTS]
+    requires { ⌜ (bounds ≤ maxBounds) × ((i : ℕ) → i < bounds - 1 → getD (now numbers) i 0 < maxPoints) ⌝ }
+    ensures { λ r. ⌜ r ≡ pricedSets (bounds - 1) (now (sets .entry)) (now (numbers .entry)) ⌝ }
 {
-    let mut least = bands;
+    let mut priced = [0u64; MAX_POINTS];
     let mut i = 0;
     while i + 1 < bounds {
-        if is_marked(sets[i], job) {
-            least = smaller(numbers[i], least);
-        }
+        let price = numbers[i] as usize;
+        priced[price] |= sets[i];
         i += 1;
     }
-    least
+    priced
 }
 
-fn smaller(a: u64, b: u64) -> u64
-    ensures { λ r. ⌜ r ≡ min a b ⌝ }
+// For each price the jobs that the sets of the smaller prices have.
+fn cheaper_sets(priced: &[u64; MAX_POINTS]) -> [u64; MAX_POINTS]
+    ensures { λ r. ⌜ r ≡ cheaperSets (now (priced .entry)) ⌝ }
 {
-    if a < b { a } else { b }
+    let mut cheaper = [0u64; MAX_POINTS];
+    let mut union = 0;
+    let mut price = 0;
+    while price < MAX_POINTS {
+        cheaper[price] = union;
+        union |= priced[price];
+        price += 1;
+    }
+    cheaper
 }

@@ -89,7 +89,7 @@ fn check_tables<'a>(
 {
     let mut times = [0u64; MAX_BOUNDS];
     let bounds = bounds_of(releases, deadlines, count, &mut times);
-    let jobs = job_records(releases, deadlines, cycles);
+    let jobs = job_records(releases, deadlines, cycles, count);
     let sums = plan_sums(plan);
     let tests = tests_of(jobs, count, &times, bounds, &sums);
     let fitted = fit(top, tests, count, &times, bounds, plan);

@@ -3,6 +3,7 @@ mod cells;
 mod cheapest;
 mod checking;
 mod fitting;
+mod opening;
 mod pricing;
 mod records;
 mod steps;

@@ -60,7 +60,7 @@ pub(crate) fn price(
     if let Verdict::Refused { number, place } = fits {
         return Verdict::Refused { number, place };
     }
-    check_cheapest(bands, sets, count, bounds, plan, &numbers)
+    check_cheapest(sets, bounds, plan, &numbers)
 }
 
 // Whether the bytes are under 2, have another number of intervals or are not 2 + 5 × that number.

@@ -1,9 +1,6 @@
 -- `cells::mark` meets its contract. The set has room for the bit, as it requires. Assumes nothing.
-use mathlib.Core.Path.{_≡_}
-use Prim.Native.Nat.{ℕ, _*_, _%_, _^_, _<_}
-use native.Mathlib.Omega.{arith}
-use lib.Pow.{pow-lt}
 use borrow.Author.Needs.{needs}
+use Rattle.audit.proofs.OpenRange.{shifted}
 use Rattle.audit.proofs.cells.mark.Statement.{statement}
 use Rattle.audit.proofs.cells.mark.Tie as tie
 
@@ -21,10 +18,6 @@ add-seen c = search needs
 
 element-write-seen : tie.Need-element-write-seen
 element-write-seen c = search needs
-
--- a shifted 1 below 64 places loses nothing
-shifted : (j : ℕ) → j < 64 → 1 * 2 ^ j % 2 ^ 64 ≡ 2 ^ j
-shifted j below = omega (arith, pow-lt below)
 
 returns : tie.Need-returns
 returns c = rw (shifted _ (c .before .pre .1))

@@ -14,7 +14,7 @@ use Rattle.energy.specs.Figures.{SmallBounds}
 use Rattle.audit.specs.declared.records.JobTests.{JobTests}
 use Rattle.audit.specs.TestedJobs.{openSetsBelow, testsOf}
 use Rattle.audit.specs.FirstHalf.{boundsIn, planSums, loadsOf, fittedOf}
-use Rattle.audit.proofs.TestedJobs.{first-records, sets-found}
+use Rattle.audit.proofs.TestedJobs.{sets-found}
 use Rattle.audit.proofs.BothHalves.{bounds-small, first-refused, planned, second-refused, all-passed}
 use Rattle.audit.proofs.checking.check_tables.Statement.{statement}
 use Rattle.audit.proofs.checking.check_tables.Tie as tie
@@ -40,15 +40,7 @@ found : (c : tie.After-tests-of)
     (bounded .bounds-of .last .1 .1 .1 .0) (bounded .bounds-of .result) (planSums (now (a .plan)))
 found c =
     let summed = c .before .before .before in
-    let listed = summed .before in
-    let start = listed .before .before .before .before .before in
-    let a = start .args in
-    c .tests-of .ensures
-    ∙ rw (
-      summed .plan-sums .ensures,
-      listed .job-records .ensures,
-      first-records (a .count) (now (a .releases)) (now (a .deadlines)) (now (a .cycles)) (few start),
-    )
+    c .tests-of .ensures ∙ rw (summed .plan-sums .ensures, summed .before .job-records .ensures)
 
 opened : (c : tie.After-tests-of)
     → let bounded = c .before .before .before .before .before in
@@ -81,7 +73,7 @@ bounds-of-requires : tie.Need-bounds-of-requires
 bounds-of-requires c κs = (few (c .before .before .before), refl)
 
 job-records-requires : tie.Need-job-records-requires
-job-records-requires c κs = search needs
+job-records-requires c κs = few (c .before .before .before .before)
 
 plan-sums-requires : tie.Need-plan-sums-requires
 plan-sums-requires c κs = search needs
@@ -89,7 +81,7 @@ plan-sums-requires c κs = search needs
 tests-of-requires : tie.Need-tests-of-requires
 tests-of-requires c κs =
     let bounded = c .before .before .before .before in
-    (few (bounded .before .before .before .before), small bounded .few)
+    (few (bounded .before .before .before .before), small bounded)
 
 fit-requires : tie.Need-fit-requires
 fit-requires c κs =

@@ -3,14 +3,14 @@
 use mathlib.Core.Path.{_≡_, sym, _∙_}
 use mathlib.Core.Bool.{false}
 use mathlib.Core.List.{[]}
-use Prim.Native.Nat.{_+_, _*_, _≤_}
+use Prim.Native.Nat.{_+_, _-_, _*_, _≤_}
 use native.Mathlib.Omega.{arith}
 use lib.ListN.{length}
 use denote.Ref.{now}
 use borrow.Author.Needs.{needs}
 use Rattle.model.specs.Limits.{maxIntervals}
 use Rattle.levels.proofs.PointTables.{length-pointsOf}
-use Rattle.audit.specs.SecondHalf.{wrongLengthIn}
+use Rattle.audit.specs.SecondHalf.{BandNumbers, wrongLengthIn}
 use Rattle.audit.proofs.SecondHalf.{wrong-length-refused, price-size, entries-refuse, band-numbers, fits-refuse, cheapest-decides}
 use Rattle.audit.proofs.pricing.price.Statement.{statement}
 use Rattle.audit.proofs.pricing.price.Tie as tie
@@ -79,23 +79,26 @@ returns-2 c =
 enum-told : tie.Need-enum-told
 enum-told c = search needs
 
-check-fits-requires : tie.Need-check-fits-requires
-check-fits-requires c κs =
-    let numbered = c .before in
-    let entered = numbered .before .before in
+-- past the refusal 22 each price is the number of a band
+banded : (c : tie.After-enum-told)
+    → let filled = c .before .before .before .before .before in
+    let a = filled .before .before .before .before .before .before .args in
+    BandNumbers (a .working .count - 1) (a .bounds - 1) (filled .price-numbers .result)
+banded c =
+    let entered = c .before .before in
     let filled = entered .before .before .before in
     let sound = filled .before in
     let start = sound .before .before .before .before .before in
-    let a = start .args in (
-      start .pre .0,
-      (
-        start .pre .1 .0 .0,
-        band-numbers
-            (a .working) (now (a .sets)) _ _ _ _ _ _
-            (start .pre .1 .0 .0) (start .pre .1 .0 .1) (start .pre .1 .1) _ (sound .before .before .interval-count .ensures) [] (right sound)
-            _ (filled .price-numbers .ensures) _ (entered .check-entries .ensures) (numbered .enum-told .given .1),
-      ),
-    )
+    let a = start .args in
+    band-numbers
+    (a .working) (now (a .sets)) _ _ _ _ _ _
+    (start .pre .1 .0 .0) (start .pre .1 .0 .1) (start .pre .1 .1) _ (sound .before .before .interval-count .ensures) [] (right sound)
+    _ (filled .price-numbers .ensures) _ (entered .check-entries .ensures) (c .enum-told .given .1)
+
+check-fits-requires : tie.Need-check-fits-requires
+check-fits-requires c κs =
+    let start = c .before .before .before .before .before .before .before .before .before .before .before .before in
+    (start .pre .0, (start .pre .1 .0 .0, banded (c .before)))
 
 enum-known-fits : tie.Need-enum-known-fits
 enum-known-fits c = search needs
@@ -120,10 +123,13 @@ enum-told-2 c = search needs
 
 check-cheapest-requires : tie.Need-check-cheapest-requires
 check-cheapest-requires c κs =
-    let start = c .before .before .before .before .before .before .before .before .before .before .before .before .before .before .before .before in
-    let small = start .pre .1 .0 .0 in
+    let numbered = c .before .before .before .before .before in
+    let start = numbered .before .before .before .before .before .before .before .before .before .before .before in
     let planned = start .pre .1 .1 in
-    ((start .pre .1 .0 .1, small .few, planned .size), λ s below. omega (arith, planned .step-interval s below, small .few))
+    let points = start .pre .0 .0 in (
+      (start .pre .1 .0 .0 .few, planned .size),
+      (λ i below. omega (arith, banded numbered .high i below, points .few), planned .step-interval),
+    )
 
 returns-4 : tie.Need-returns-4
 returns-4 c =

@@ -1,18 +1,12 @@
 -- `records::bit_if` meets its contract. A shifted 1 below 64 places loses nothing. Assumes nothing.
-use mathlib.Core.Path.{_≡_}
-use Prim.Native.Nat.{ℕ, _*_, _^_, _%_, _<_}
 use native.Mathlib.Nat.{le-of-eq}
-use native.Mathlib.Omega.{arith}
-use lib.Pow.{pow-lt}
 use borrow.Author.Needs.{needs}
+use Rattle.audit.proofs.OpenRange.{shifted}
 use Rattle.audit.proofs.records.bit_if.Statement.{statement}
 use Rattle.audit.proofs.records.bit_if.Tie as tie
 
 shl-result : tie.Need-shl-result
 shl-result c = search needs
-
-shifted : (j : ℕ) → j < 64 → 1 * 2 ^ j % 2 ^ 64 ≡ 2 ^ j
-shifted j below = omega (arith, pow-lt below)
 
 returns : tie.Need-returns
 returns c = let bit = shifted _ (c .before .pre) in (rw (c .if1 .taken) bit, le-of-eq bit)

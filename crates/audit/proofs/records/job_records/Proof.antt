@@ -4,8 +4,8 @@ use mathlib.Core.List.{List}
 use Prim.Native.Nat.{ℕ, _+_, _-_, _<_, _≤_}
 use native.Mathlib.Decide.{ℕ-discrete}
 use native.Mathlib.Omega.{arith}
-use lib.ListN.{length, getD, set, length-set, length-replicate}
-use lib.Seq.{ext-getD, getD-set-same, getD-set-other}
+use lib.ListN.{length, getD, set, take, length-set, length-replicate, length-take}
+use lib.Seq.{ext-getD, getD-set-same, getD-set-other, getD-take}
 use denote.Ref.{now}
 use borrow.Author.Count.{below-none}
 use Rattle.model.specs.declared.Job.{Job}
@@ -30,38 +30,41 @@ module _ (releases deadlines cycles : List ℕ) where
       at (yes same) = rw same (getD-set-same jobs j (entry j) noJob (omega (arith, size)))
       at (no other) = getD-set-other jobs j k (entry j) noJob other ∙ before k (omega arith)
 
-  filled-all : (jobs : List Job) (j : ℕ) → length jobs ≡ maxJobs → maxJobs ≤ j → Filled j jobs → jobs ≡ jobsIn maxJobs releases deadlines cycles
+  filled-all : (jobs : List Job) (count j : ℕ) → length jobs ≡ maxJobs → count ≤ maxJobs → count ≤ j → Filled j jobs
+      → take count jobs ≡ jobsIn count releases deadlines cycles
   unfolding jobsIn
-  filled-all jobs j size past before =
-      ext-getD noJob _ _ (size ∙ sym (length-listOf maxJobs entry))
-      (λ k below. let inside : k < maxJobs = omega (arith, size) in before k (omega arith) ∙ sym (getD-listOf maxJobs entry k noJob inside))
+  filled-all jobs count j size few past before =
+      let taken : length (take count jobs) ≡ count = length-take count jobs ∙ omega (arith, size) in
+      ext-getD noJob _ _ (taken ∙ sym (length-listOf count entry))
+      (λ k below. let inside : k < count = omega (arith, taken) in
+      getD-take count jobs k noJob inside ∙ before k (omega arith) ∙ sym (getD-listOf count entry k noJob inside))
 
 abbrev Inv-loop : tie.InvT-loop
-Inv-loop releases deadlines cycles jobs₀ j₀ jobs j = (j ≤ maxJobs) × (length jobs ≡ maxJobs) × Filled releases deadlines cycles j jobs
+Inv-loop releases deadlines cycles count jobs₀ j₀ jobs j = (j ≤ count) × (length jobs ≡ maxJobs) × Filled releases deadlines cycles j jobs
 
 abbrev μ-loop : tie.MeasureT-loop
-μ-loop releases deadlines cycles jobs₀ j₀ jobs j = maxJobs - j
+μ-loop releases deadlines cycles count jobs₀ j₀ jobs j = count - j
 
 loop-holds : tie.Need-loop-holds Inv-loop μ-loop
 loop-holds c = (omega arith, length-replicate maxJobs noJob, below-none _)
 
-mul-t8 : tie.Need-mul-t8 Inv-loop μ-loop
-mul-t8 c = omega arith
+mul-t9 : tie.Need-mul-t9 Inv-loop μ-loop
+mul-t9 c = omega arith
 
-element-copy-out-t11 : tie.Need-element-copy-out-t11 Inv-loop μ-loop
-element-copy-out-t11 c = omega arith
+element-copy-out-t12 : tie.Need-element-copy-out-t12 Inv-loop μ-loop
+element-copy-out-t12 c = omega arith
 
-mul-t12 : tie.Need-mul-t12 Inv-loop μ-loop
-mul-t12 c = omega arith
+mul-t13 : tie.Need-mul-t13 Inv-loop μ-loop
+mul-t13 c = omega arith
 
-element-copy-out-t15 : tie.Need-element-copy-out-t15 Inv-loop μ-loop
-element-copy-out-t15 c = omega arith
+element-copy-out-t16 : tie.Need-element-copy-out-t16 Inv-loop μ-loop
+element-copy-out-t16 c = omega arith
 
-mul-t16 : tie.Need-mul-t16 Inv-loop μ-loop
-mul-t16 c = omega arith
+mul-t17 : tie.Need-mul-t17 Inv-loop μ-loop
+mul-t17 c = omega arith
 
-element-copy-out-t19 : tie.Need-element-copy-out-t19 Inv-loop μ-loop
-element-copy-out-t19 c = omega arith
+element-copy-out-t20 : tie.Need-element-copy-out-t20 Inv-loop μ-loop
+element-copy-out-t20 c = omega arith
 
 mul-jobs : tie.Need-mul-jobs Inv-loop μ-loop
 mul-jobs c = omega arith
@@ -91,8 +94,8 @@ returns : tie.Need-returns Inv-loop μ-loop
 returns c =
     let turn = c .before in
     let a = turn .before .args in
-    filled-all (now (a .releases)) (now (a .deadlines)) (now (a .cycles)) (turn .loop .jobs) (turn .loop .j)
-    (turn .loop .inv .1) (omega arith) (turn .loop .inv .2)
+    filled-all (now (a .releases)) (now (a .deadlines)) (now (a .cycles)) (turn .loop .jobs) (a .count) (turn .loop .j)
+    (turn .loop .inv .1) (turn .before .pre) (omega arith) (turn .loop .inv .2)
 
 pub job-records-spec : {M : Type 1} → statement M
 job-records-spec =
@@ -101,12 +104,12 @@ job-records-spec =
     Inv-loop
     μ-loop
     loop-holds
-    mul-t8
-    element-copy-out-t11
-    mul-t12
-    element-copy-out-t15
-    mul-t16
-    element-copy-out-t19
+    mul-t9
+    element-copy-out-t12
+    mul-t13
+    element-copy-out-t16
+    mul-t17
+    element-copy-out-t20
     mul-jobs
     array-set-from-jobs
     add-j

@@ -1,0 +1,181 @@
+-- Laws of the intervals that a job is open in: the search for a bound by halving, one set after another as the code fills
+-- them, and that the intervals between the two bounds are those that the job is open in.
+-- Assumes nothing.
+use mathlib.Core.Path.{_≡_, sym, _∙_, ap}
+use mathlib.Core.Bool.{Bool, false, _&&_, and-false}
+use mathlib.Core.Logic.{_⊎_, inl, inr}
+use mathlib.Core.List.{List}
+use Prim.Native.Nat.{ℕ, _+_, _-_, _*_, _%_, _^_, _<_, _≤_, max}
+use native.Mathlib.Omega.{arith}
+use lib.ListN.{length, getD, set}
+use lib.Pow.{pow-lt}
+use lib.Dec.{ltb, leb}
+use borrow.Author.Tests.{lt-ltb, le-ltb, le-leb, lt-leb}
+use Rattle.model.specs.Limits.{maxIntervals}
+use Rattle.model.specs.Entries.{listOf}
+use Rattle.model.specs.Sum.{onlyIf}
+use Rattle.model.proofs.Numbers.{lt-or-le, rises-between}
+use Rattle.model.proofs.Entries.{getD-listOf, listOf-cong, listOf-getD}
+use Rattle.energy.specs.Figures.{SmallBounds}
+use Rattle.audit.specs.TestedJobs.{openBetween, BoundsBefore, EndsBy, withBits, withRange, withOpen}
+use Rattle.audit.proofs.Arrays.{store-holds}
+
+-- a shifted 1 below 64 places loses nothing
+pub shifted : (j : ℕ) → j < 64 → 1 * 2 ^ j % 2 ^ 64 ≡ 2 ^ j
+shifted j below = omega (arith, pow-lt below)
+
+module _ (bounds : ℕ) (times : List ℕ) (time : ℕ) where
+  -- The number of bounds before the time lies from `low` to `high`.
+  pub record Halved (low high : ℕ) : Type 0 where
+    pub ordered : low ≤ high
+    pub within : high ≤ bounds
+    pub before : (i : ℕ) → i < low → getD times i 0 < time
+    pub after : (i : ℕ) → high ≤ i → i < bounds → time ≤ getD times i 0
+
+  pub halved-none : Halved 0 bounds
+  halved-none = record {
+    ordered = omega arith;
+    within = omega arith;
+    before = λ i below. omega arith;
+    after = λ i past below. omega arith;
+  }
+
+  module _ (small : SmallBounds bounds times) (low high middle : ℕ) (halved : Halved low high) where
+    -- bounds that are not after the middle one, and those that are not before it
+    lower : (i : ℕ) → i ≤ middle → middle < bounds → getD times i 0 ≤ getD times middle 0
+    lower i below inside = go (lt-or-le i middle)
+      where
+        go : (i < middle) ⊎ (middle ≤ i) → getD times i 0 ≤ getD times middle 0
+        go (inl less) = omega (arith, rises-between (λ k. getD times k 0) bounds (small .rises) i middle less inside)
+        go (inr least) = let same : i ≡ middle = omega arith in rw same (omega arith)
+
+    higher : (i : ℕ) → middle ≤ i → i < bounds → getD times middle 0 ≤ getD times i 0
+    higher i past inside = go (lt-or-le middle i)
+      where
+        go : (middle < i) ⊎ (i ≤ middle) → getD times middle 0 ≤ getD times i 0
+        go (inl less) = omega (arith, rises-between (λ k. getD times k 0) bounds (small .rises) middle i less inside)
+        go (inr least) = let same : i ≡ middle = omega arith in rw same (omega arith)
+
+    pub halved-up : middle < high → getD times middle 0 < time → Halved (middle + 1) high
+    halved-up below less = record {
+      ordered = omega arith;
+      within = halved .within;
+      before = λ i under. omega (arith, lower i (omega arith) (omega (arith, halved .within)));
+      after = halved .after;
+    }
+
+    pub halved-down : low ≤ middle → middle < high → time ≤ getD times middle 0 → Halved low middle
+    halved-down above below most = record {
+      ordered = above;
+      within = omega (arith, halved .within);
+      before = halved .before;
+      after = λ i past inside. omega (arith, higher i past inside);
+    }
+
+  pub halved-whole : (low high : ℕ) → Halved low high → high ≤ low → BoundsBefore bounds times time low
+  halved-whole low high halved met = record {
+    within = omega (arith, halved .ordered, halved .within);
+    before = halved .before;
+    after = λ i past inside. halved .after i (omega (arith, halved .ordered)) inside;
+  }
+
+  -- the bound at the number is the time, or no bound is
+  module _ (number : ℕ) (split : BoundsBefore bounds times time number) (small : SmallBounds bounds times) where
+    pub ends-at : number < bounds → getD times number 0 ≡ time → EndsBy bounds times time number
+    ends-at below same = record {
+      within = omega arith;
+      before = λ i under. up-to i (lt-or-le (i + 1) number) under;
+      after = λ i past inside. omega (arith, rises-between (λ k. getD times k 0) bounds (small .rises) number (i + 1) (omega arith) (omega arith));
+    }
+      where
+        up-to : (i : ℕ) → (i + 1 < number) ⊎ (number ≤ i + 1) → i < number → getD times (i + 1) 0 ≤ time
+        up-to i (inl less) under = omega (arith, split .before (i + 1) less)
+        up-to i (inr last) under = let at : i + 1 ≡ number = omega arith in rw at (omega arith)
+
+    pub ends-before : (number < bounds → getD times number 0 ≡ time → ⊥) → EndsBy bounds times time (number - 1)
+    ends-before other = record {
+      within = omega (arith, split .within);
+      before = λ i under. omega (arith, split .before (i + 1) (omega arith));
+      after = λ i past inside. from i (lt-or-le number (i + 1)) past inside;
+    }
+      where
+        apart : (i : ℕ) → i ≡ number → i < bounds → getD times i 0 ≡ time → ⊥
+        apart i at inside same = other (omega arith) (rw at at same)
+
+        from : (i : ℕ) → (number < i + 1) ⊎ (i + 1 ≤ number) → number - 1 ≤ i → i < bounds - 1 → time < getD times (i + 1) 0
+        from i (inl less) past inside =
+            omega (arith, split .after (i + 1) (omega arith) (omega arith), rises-between (λ k. getD times k 0) bounds (small .rises) number (i + 1) less (omega arith), split .after number (omega arith) (omega arith))
+        from i (inr last) past inside =
+            let at : i + 1 ≡ number = omega arith in
+            omega (arith, split .after (i + 1) (omega arith) (omega arith), apart (i + 1) at (omega arith))
+
+-- One set after another, as the code fills them.
+module _ (sets : List ℕ) (j : ℕ) where
+  abbrev added : (test : ℕ → Bool) → (i : ℕ) → ℕ
+  added test i = getD sets i 0 + onlyIf (test i) (2 ^ j)
+
+  pub bits-cong : (f g : ℕ → Bool) → ((i : ℕ) → i < maxIntervals → f i ≡ g i) → withBits sets j f ≡ withBits sets j g
+  unfolding withBits
+  bits-cong f g same = listOf-cong maxIntervals (added f) (added g) (λ i inside. rw (same i inside))
+
+  abbrev inRange : (first end i : ℕ) → Bool
+  inRange first end i = leb first i && ltb i end
+
+  outside : (first end i : ℕ) → end ≤ i → inRange first end i ≡ false
+  outside first end i past = rw (le-ltb i end past, and-false)
+
+  module _ (first : ℕ) where
+    pub range-none : length sets ≡ maxIntervals → sets ≡ withRange sets j first first
+    unfolding withBits
+    range-none size =
+        sym (listOf-getD sets 0)
+        ∙ ap (λ (n : ℕ). listOf n (λ i. getD sets i 0)) size
+        ∙ listOf-cong maxIntervals _ (added (inRange first first)) (λ i inside. rw (empty i (lt-or-le i first)) (omega arith))
+      where
+        empty : (i : ℕ) → (i < first) ⊎ (first ≤ i) → inRange first first i ≡ false
+        empty i (inl before) = rw (lt-leb first i before)
+        empty i (inr past) = outside first first i past
+
+    -- the set of an interval that comes later is as it was
+    pub range-later : (i : ℕ) → i < maxIntervals → getD (withRange sets j first i) i 0 ≡ getD sets i 0
+    unfolding withBits
+    range-later i inside = getD-listOf maxIntervals (added (inRange first i)) i 0 inside ∙ rw (outside first i i (omega arith)) (omega arith)
+
+    pub range-more : (next : List ℕ) (i bit : ℕ) → i < maxIntervals → first ≤ i → next ≡ withRange sets j first i → bit ≡ 2 ^ j
+        → set next i (getD next i 0 + bit) ≡ withRange sets j first (i + 1)
+    unfolding withBits
+    range-more next i bit inside from filled is-bit =
+        rw (filled, is-bit)
+        (store-holds maxIntervals (added (inRange first i)) (added (inRange first (i + 1))) i _ inside
+        (rw (getD-listOf maxIntervals (added (inRange first i)) i 0 inside, outside first i i (omega arith), le-leb first i from, lt-ltb i (i + 1) (omega arith)) (omega arith))
+        (λ k within other. kept k (lt-or-le k i) other))
+      where
+        kept : (k : ℕ) → (k < i) ⊎ (i ≤ k) → (k ≡ i → ⊥) → added (inRange first (i + 1)) k ≡ added (inRange first i) k
+        kept k (inl before) other = rw (lt-ltb k i before, lt-ltb k (i + 1) (omega arith))
+        kept k (inr after) other = let past : i + 1 ≤ k = omega arith in rw (outside first i k after, outside first (i + 1) k past)
+
+    -- a range that was filled to its end; it may be empty
+    pub range-whole : (i end : ℕ) → end ≤ i → i ≤ max first end → withRange sets j first i ≡ withRange sets j first end
+    range-whole i end met last = bits-cong (inRange first i) (inRange first end) (λ k inside. same k (lt-or-le k first) (lt-or-le k end))
+      where
+        same : (k : ℕ) → (k < first) ⊎ (first ≤ k) → (k < end) ⊎ (end ≤ k) → inRange first i k ≡ inRange first end k
+        same k (inl before) either = rw (lt-leb first k before)
+        same k (inr from) (inl below) = rw (lt-ltb k end below, lt-ltb k i (omega arith))
+        same k (inr from) (inr past) = rw (outside first end k past, outside first i k (omega arith))
+
+    -- the intervals between the bounds are those that the job is open in
+    pub range-open : (release deadline : ℕ) (times : List ℕ) (bounds end : ℕ)
+        → BoundsBefore bounds times release first → EndsBy bounds times deadline end
+        → withRange sets j first end ≡ withOpen sets j release deadline times (bounds - 1)
+    range-open release deadline times bounds end starts ends =
+        bits-cong (inRange first end) _ (λ i inside. at i (lt-or-le i (bounds - 1)) (lt-or-le i first) (lt-or-le i end))
+      where
+        at : (i : ℕ) → (i < bounds - 1) ⊎ (bounds - 1 ≤ i) → (i < first) ⊎ (first ≤ i) → (i < end) ⊎ (end ≤ i)
+            → inRange first end i ≡ (ltb i (bounds - 1) && openBetween release deadline times i)
+        at i (inr past) start final = rw (le-ltb i (bounds - 1) past) (outside first end i (omega (arith, ends .within)))
+        at i (inl below) (inl before) final =
+            rw (lt-ltb i (bounds - 1) below, lt-leb first i before, lt-leb release (getD times i 0) (starts .before i before))
+        at i (inl below) (inr from) (inl under) =
+            rw (lt-ltb i (bounds - 1) below, le-leb first i from, lt-ltb i end under, le-leb release (getD times i 0) (starts .after i from (omega arith)), le-leb (getD times (i + 1) 0) deadline (ends .before i under))
+        at i (inl below) (inr from) (inr over) =
+            rw (lt-ltb i (bounds - 1) below, le-leb first i from, le-ltb i end over, le-leb release (getD times i 0) (starts .after i from (omega arith)), lt-leb (getD times (i + 1) 0) deadline (ends .after i over below))
