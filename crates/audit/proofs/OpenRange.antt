@@ -1,5 +1,5 @@
--- Laws of the intervals that a job is open in: the search for a bound by halving, one set after another as the code fills
--- them, and that the intervals between the two bounds are those that the job is open in.
+-- Laws of the intervals that a job is open in: the bounds before a time, one set after another as the code fills them,
+-- and that the intervals between the two bounds are those that the job is open in.
 -- Assumes nothing.
 use mathlib.Core.Path.{_≡_, sym, _∙_, ap}
 use mathlib.Core.Bool.{Bool, false, _&&_, and-false}
@@ -10,74 +10,53 @@ use native.Mathlib.Omega.{arith}
 use lib.ListN.{length, getD, set}
 use lib.Pow.{pow-lt}
 use lib.Dec.{ltb, leb}
-use borrow.Author.Tests.{lt-ltb, le-ltb, le-leb, lt-leb}
+use borrow.Author.Tests.{lt-ltb, le-ltb, le-leb, lt-leb, leb-true, leb-false}
 use Rattle.model.specs.Limits.{maxIntervals}
 use Rattle.model.specs.Entries.{listOf}
 use Rattle.model.specs.Sum.{onlyIf}
+use Rattle.model.specs.Search.{firstBelow}
 use Rattle.model.proofs.Numbers.{lt-or-le, rises-between}
+use Rattle.model.proofs.Search.{FirstBelow, firstBelow-law}
 use Rattle.model.proofs.Entries.{getD-listOf, listOf-cong, listOf-getD}
 use Rattle.energy.specs.Figures.{SmallBounds}
-use Rattle.audit.specs.TestedJobs.{openBetween, BoundsBefore, EndsBy, withBits, withRange, withOpen}
+use Rattle.windows.specs.Answers.{RisingTimes}
+use Rattle.audit.specs.TestedJobs.{openBetween, EndsBy, withBits, withRange, withOpen}
 use Rattle.audit.proofs.Arrays.{store-holds}
 
 -- a shifted 1 below 64 places loses nothing
 pub shifted : (j : ℕ) → j < 64 → 1 * 2 ^ j % 2 ^ 64 ≡ 2 ^ j
 shifted j below = omega (arith, pow-lt below)
 
+-- bounds rise, as the search for one of them asks
+pub bounds-rising : {bounds : ℕ} {times : List ℕ} → SmallBounds bounds times → RisingTimes bounds times
+bounds-rising small = record { few = small .few; rises = small .rises }
+
+-- The number of bounds before a time: those below the number lie before it, the others do not.
+pub record BoundsBefore (bounds : ℕ) (times : List ℕ) (time number : ℕ) : Type 0 where
+  pub within : number ≤ bounds
+  pub before : (i : ℕ) → i < number → getD times i 0 < time
+  pub after : (i : ℕ) → number ≤ i → i < bounds → time ≤ getD times i 0
+
 module _ (bounds : ℕ) (times : List ℕ) (time : ℕ) where
-  -- The number of bounds before the time lies from `low` to `high`.
-  pub record Halved (low high : ℕ) : Type 0 where
-    pub ordered : low ≤ high
-    pub within : high ≤ bounds
-    pub before : (i : ℕ) → i < low → getD times i 0 < time
-    pub after : (i : ℕ) → high ≤ i → i < bounds → time ≤ getD times i 0
-
-  pub halved-none : Halved 0 bounds
-  halved-none = record {
-    ordered = omega arith;
-    within = omega arith;
-    before = λ i below. omega arith;
-    after = λ i past below. omega arith;
+  -- the first bound that is not before the time has that number
+  pub bounds-before : SmallBounds bounds times → (number : ℕ) → number ≡ firstBelow bounds (λ i. leb time (getD times i 0))
+      → BoundsBefore bounds times time number
+  bounds-before small number found = record {
+    within = first .within;
+    before = λ i under. leb-false time (getD times i 0) (first .before i under);
+    after = λ i past inside. from i (lt-or-le number i) past inside;
   }
+    where
+      first : FirstBelow bounds (λ i. leb time (getD times i 0)) number
+      first = rw found (firstBelow-law bounds (λ i. leb time (getD times i 0)))
 
-  module _ (small : SmallBounds bounds times) (low high middle : ℕ) (halved : Halved low high) where
-    -- bounds that are not after the middle one, and those that are not before it
-    lower : (i : ℕ) → i ≤ middle → middle < bounds → getD times i 0 ≤ getD times middle 0
-    lower i below inside = go (lt-or-le i middle)
-      where
-        go : (i < middle) ⊎ (middle ≤ i) → getD times i 0 ≤ getD times middle 0
-        go (inl less) = omega (arith, rises-between (λ k. getD times k 0) bounds (small .rises) i middle less inside)
-        go (inr least) = let same : i ≡ middle = omega arith in rw same (omega arith)
+      here : number < bounds → time ≤ getD times number 0
+      here inside = leb-true time (getD times number 0) (first .here inside)
 
-    higher : (i : ℕ) → middle ≤ i → i < bounds → getD times middle 0 ≤ getD times i 0
-    higher i past inside = go (lt-or-le middle i)
-      where
-        go : (middle < i) ⊎ (i ≤ middle) → getD times middle 0 ≤ getD times i 0
-        go (inl less) = omega (arith, rises-between (λ k. getD times k 0) bounds (small .rises) middle i less inside)
-        go (inr least) = let same : i ≡ middle = omega arith in rw same (omega arith)
-
-    pub halved-up : middle < high → getD times middle 0 < time → Halved (middle + 1) high
-    halved-up below less = record {
-      ordered = omega arith;
-      within = halved .within;
-      before = λ i under. omega (arith, lower i (omega arith) (omega (arith, halved .within)));
-      after = halved .after;
-    }
-
-    pub halved-down : low ≤ middle → middle < high → time ≤ getD times middle 0 → Halved low middle
-    halved-down above below most = record {
-      ordered = above;
-      within = omega (arith, halved .within);
-      before = halved .before;
-      after = λ i past inside. omega (arith, higher i past inside);
-    }
-
-  pub halved-whole : (low high : ℕ) → Halved low high → high ≤ low → BoundsBefore bounds times time low
-  halved-whole low high halved met = record {
-    within = omega (arith, halved .ordered, halved .within);
-    before = halved .before;
-    after = λ i past inside. halved .after i (omega (arith, halved .ordered)) inside;
-  }
+      from : (i : ℕ) → (number < i) ⊎ (i ≤ number) → number ≤ i → i < bounds → time ≤ getD times i 0
+      from i (inl less) past inside =
+          omega (arith, here (omega arith), rises-between (λ k. getD times k 0) bounds (small .rises) number i less inside)
+      from i (inr least) past inside = let same : i ≡ number = omega arith in rw same (here (omega arith))
 
   -- the bound at the number is the time, or no bound is
   module _ (number : ℕ) (split : BoundsBefore bounds times time number) (small : SmallBounds bounds times) where

@@ -67,12 +67,6 @@ pub record SmallTests (j : ℕ) (tests : JobTests) : Type 0 where
   pub small-sets : SmallSets j (tests .sets)
   pub small-summed : tests .summed < 2 ^ j
 
--- The number of bounds before a time: those below the number lie before it, the others do not.
-pub record BoundsBefore (bounds : ℕ) (times : List ℕ) (time number : ℕ) : Type 0 where
-  pub within : number ≤ bounds
-  pub before : (i : ℕ) → i < number → getD times i 0 < time
-  pub after : (i : ℕ) → number ≤ i → i < bounds → time ≤ getD times i 0
-
 -- The number of intervals that end by a deadline: those below the number do, the others do not.
 pub record EndsBy (bounds : ℕ) (times : List ℕ) (deadline number : ℕ) : Type 0 where
   pub within : number ≤ bounds - 1

@@ -3,9 +3,10 @@ ghost use mathlib.Core.Path.{_≡_};
 ghost use Prim.Native.Nat.{_-_, _<_, _≤_};
 ghost use Rattle.model.specs.Limits.{maxJobs, maxIntervals};
 ghost use Rattle.energy.specs.Figures.{SmallBounds};
-ghost use Rattle.audit.specs.TestedJobs.{SmallSets, BoundsBefore, EndsBy, withRange, withOpen};
+ghost use Rattle.audit.specs.TestedJobs.{SmallSets, EndsBy, withRange, withOpen};
 use model::MAX_BOUNDS;
 use model::MAX_INTERVALS;
+use windows::bound_number;
 use windows::interval_count;
 
 // Adds job j to the sets of the intervals that it is open in.
@@ -20,27 +21,9 @@ pub(crate) fn add_open(
     requires { ⌜ (j < maxJobs) × SmallBounds bounds (now times) × SmallSets j (now sets) ⌝ }
     ensures { λ _. ⌜ now (sets .exit) ≡ withOpen (now (sets .entry)) j release deadline (now (times .entry)) (bounds - 1) ⌝ }
 {
-    let first = bounds_before(times, bounds, release);
+    let first = bound_number(times, bounds, release);
     let end = ends_by(times, bounds, deadline);
     add_range(sets, j, first, end);
-}
-
-// How many bounds lie before a time.
-fn bounds_before(times: &[u64; MAX_BOUNDS], bounds: usize, time: u64) -> usize
-    requires { ⌜ SmallBounds bounds (now times) ⌝ }
-    ensures { λ r. ⌜ BoundsBefore bounds (now (times .entry)) time r ⌝ }
-{
-    let mut low = 0;
-    let mut high = bounds;
-    while low < high {
-        let middle = (low + high) / 2;
-        if times[middle] < time {
-            low = middle + 1;
-        } else {
-            high = middle;
-        }
-    }
-    low
 }
 
 // How many intervals end by a deadline.
@@ -48,7 +31,7 @@ fn ends_by(times: &[u64; MAX_BOUNDS], bounds: usize, deadline: u64) -> usize
     requires { ⌜ SmallBounds bounds (now times) ⌝ }
     ensures { λ r. ⌜ EndsBy bounds (now (times .entry)) deadline r ⌝ }
 {
-    let before = bounds_before(times, bounds, deadline);
+    let before = bound_number(times, bounds, deadline);
     if before == bounds {
         return interval_count(before);
     }

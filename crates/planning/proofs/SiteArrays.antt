@@ -18,7 +18,7 @@ use Rattle.model.specs.Intervals.{Bounds, boundsOf, boundAt, intervalCount, len
 use Rattle.model.proofs.Numbers.{lt-or-le}
 use Rattle.model.proofs.Search.{firstBelow-is}
 use Rattle.model.proofs.Intervals.{open-range, bounds-rise}
-use Rattle.model.proofs.BoundsOf.{IsTimeOf, bounds-of, bound-in-jobs, length-boundsOf}
+use Rattle.model.proofs.BoundsOf.{IsTimeOf, bounds-of, boundsOf-rises, bound-in-jobs, length-boundsOf}
 use Rattle.tables.specs.Column.{columnOf}
 use Rattle.tables.specs.Tables.{jobsIn}
 use Rattle.tables.proofs.Column.{length-column, column-at, column-past}
@@ -26,7 +26,8 @@ use Rattle.tables.proofs.Read.{length-jobsIn, job-in}
 use Rattle.levels.specs.declared.points.PointTable.{PointTable}
 use Rattle.levels.specs.PointTables.{pointsOf}
 use Rattle.levels.proofs.PointTables.{length-pointsOf}
-use Rattle.windows.specs.Answers.{HoldsTimes}
+use Rattle.windows.specs.Answers.{HoldsTimes, RisingTimes}
+use Rattle.windows.proofs.Padded.{holds-rising}
 use Rattle.planner.specs.declared.workload.Workload.{Workload}
 use Rattle.planner.specs.Placement.{SoundProblem}
 use Rattle.planner.specs.SiteProblem.{problemOf}
@@ -73,11 +74,9 @@ module _ (count : ℕ) (releases deadlines cycles : List ℕ) (valid : ValidJobs
       ap (λ (array : List ℕ). getD array i 0) (held .array)
       ∙ column-at maxBounds _ _ i (omega (arith, length-boundsOf jobs, valid .few)) below
 
-  -- neighbouring times rise
-  pub times-rise : (i : ℕ) → i < bounds - 1 → getD times i 0 ≤ getD times (i + 1) 0
-  times-rise i below =
-      let inside : i + 1 < length (boundsOf jobs) = omega (arith, held .counted) in
-      rw (time-at i (omega arith), time-at (i + 1) inside) (omega (arith, bounds-rise B i (i + 1) (omega arith) inside))
+  -- the times rise
+  pub times-rise : RisingTimes bounds times
+  times-rise = holds-rising held bounds-few (boundsOf-rises jobs)
 
   -- the bound that is a time is found by its number
   number-found : (i time : ℕ) → i < length (boundsOf jobs) → boundAt (boundsOf jobs) i ≡ time → numberOf bounds times time ≡ i

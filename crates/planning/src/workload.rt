@@ -2,13 +2,13 @@
 ghost use mathlib.Core.Path.{_≡_};
 ghost use Prim.Native.Nat.{ℕ, _+_, _-_, _<_, _≤_};
 ghost use lib.ListN.{getD, replicate};
-ghost use Rattle.model.specs.Limits.{maxJobs, maxBounds, maxIntervals};
+ghost use Rattle.model.specs.Limits.{maxJobs, maxIntervals};
 ghost use Rattle.model.specs.Jobs.{ValidJobs};
 ghost use Rattle.model.specs.Intervals.{boundsOf};
 ghost use Rattle.tables.specs.Column.{columnOf};
 ghost use Rattle.tables.specs.Tables.{jobsIn};
 ghost use Rattle.levels.specs.PointTables.{pointsOf};
-ghost use Rattle.windows.specs.Answers.{HoldsTimes};
+ghost use Rattle.windows.specs.Answers.{HoldsTimes, RisingTimes};
 ghost use Rattle.planning.specs.Workloads.{numberOf, PaddedCycles, WorkingTable, SiteWorkload};
 use levels::PointTable;
 use model::MAX_BOUNDS;
@@ -60,7 +60,7 @@ fn bound_numbers(
     count: usize,
     numbers: &mut [usize; MAX_JOBS],
 )
-    requires { ⌜ (jobs ≤ maxJobs) × (count ≤ maxBounds) × (now numbers ≡ replicate maxJobs 0) ⌝ }
+    requires { ⌜ (jobs ≤ maxJobs) × RisingTimes count (now times) × (now numbers ≡ replicate maxJobs 0) ⌝ }
     ensures { λ _. ⌜ now (numbers .exit) ≡ columnOf maxJobs jobs (λ j. numberOf count (now (times .entry)) (getD (now (moments .entry)) j 0)) ⌝ }
 {
     let mut j = 0;

@@ -5,3 +5,4 @@ pub mod Bits
 pub mod Capacity
 pub mod Inserted
 pub mod Padded
+pub mod Halving

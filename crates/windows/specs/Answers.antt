@@ -1,5 +1,5 @@
 -- The answers of this crate: the paper's number and values for each case of an enum, and lists in plain arrays.
-use Prim.Native.Nat.{ℕ, _^_, min}
+use Prim.Native.Nat.{ℕ, suc, _^_, _<_, _≤_, min}
 use mathlib.Core.Path.{_≡_}
 use mathlib.Core.Bool.{Bool, not, _&&_, _||_}
 use mathlib.Core.List.{List, _∷_, _++_}
@@ -71,6 +71,11 @@ padded times = columnOf maxBounds (length times) (λ i. getD times i 0)
 pub record HoldsTimes (times : List ℕ) (count : ℕ) (l : List ℕ) : Type 0 where
   pub array : times ≡ padded l
   pub counted : count ≡ length l
+
+-- The first `count` times of an array, as many as bounds at most, rise.
+pub record RisingTimes (count : ℕ) (times : List ℕ) : Type 0 where
+  pub few : count ≤ maxBounds
+  pub rises : (i : ℕ) → suc i < count → getD times i 0 < getD times (suc i) 0
 
 -- A list with a time put in at a place, and what stood from there on after it.
 abbrev pub insertedAt : (at time : ℕ) → List ℕ → List ℕ

@@ -2,12 +2,12 @@
 -- (proofs/OpenRange.antt). Assumes nothing.
 use mathlib.Core.Path.{_∙_}
 use borrow.Author.Needs.{needs}
-use Rattle.audit.proofs.OpenRange.{range-open}
+use Rattle.audit.proofs.OpenRange.{bounds-rising, bounds-before, range-open}
 use Rattle.audit.proofs.opening.add_open.Statement.{statement}
 use Rattle.audit.proofs.opening.add_open.Tie as tie
 
-bounds-before-requires : tie.Need-bounds-before-requires
-bounds-before-requires c κs = search needs
+bound-number-requires : tie.Need-bound-number-requires
+bound-number-requires c κs = bounds-rising (c .pre .1)
 
 ends-by-requires : tie.Need-ends-by-requires
 ends-by-requires c κs = search needs
@@ -16,7 +16,10 @@ add-range-requires : tie.Need-add-range-requires
 add-range-requires c κs = search needs
 
 returns : tie.Need-returns
-returns c = c .add-range .ensures ∙ range-open _ _ _ _ _ _ _ _ (c .before .before .before .bounds-before .ensures) (c .before .before .ends-by .ensures)
+returns c =
+    let found = c .before .before .before in
+    c .add-range .ensures
+    ∙ range-open _ _ _ _ _ _ _ _ (bounds-before _ _ _ (found .before .pre .1) _ (found .bound-number .ensures)) (c .before .before .ends-by .ensures)
 
 pub add-open-spec : {M : Type 1} → statement M
-add-open-spec = tie.close (tie.spec bounds-before-requires ends-by-requires add-range-requires returns)
+add-open-spec = tie.close (tie.spec bound-number-requires ends-by-requires add-range-requires returns)

@@ -27,7 +27,7 @@ element-copy-out-bound-number : tie.Need-element-copy-out-bound-number Inv-loop 
 element-copy-out-bound-number c = omega arith
 
 bound-number-requires : tie.Need-bound-number-requires Inv-loop μ-loop
-bound-number-requires c κs = omega arith
+bound-number-requires c κs = c .before .before .before .pre .1
 
 mul-numbers : tie.Need-mul-numbers Inv-loop μ-loop
 mul-numbers c = omega arith

@@ -2,16 +2,22 @@
 -- Assumes nothing.
 use mathlib.Core.Path.{refl}
 use Prim.Native.Nat.{_≤_}
+use native.Mathlib.Numerals.{add-one}
 use native.Mathlib.Omega.{arith}
+use denote.Ref.{now}
 use borrow.Author.Needs.{needs}
 use Rattle.model.specs.Limits.{maxJobs, maxBounds}
 use Rattle.levels.proofs.PointTables.{length-pointsOf}
+use Rattle.windows.specs.Answers.{RisingTimes}
 use Rattle.planning.proofs.SiteArrays.{jobs-few, bounds-few, times-rise, site-workload}
 use Rattle.planning.proofs.workload.workload_of.Statement.{statement}
 use Rattle.planning.proofs.workload.workload_of.Tie as tie
 
 few : (c : tie.Start) → (c .args .count ≤ maxJobs) × (c .args .bounds ≤ maxBounds)
 few c = (jobs-few _ _ _ _ (c .pre .0) _ _ (c .pre .1 .0), bounds-few _ _ _ _ (c .pre .0) _ _ (c .pre .1 .0))
+
+rise : (c : tie.Start) → RisingTimes (c .args .bounds) (now (c .args .times))
+rise c = times-rise _ _ _ _ (c .pre .0) _ _ (c .pre .1 .0)
 
 interval-count-requires : tie.Need-interval-count-requires
 interval-count-requires c κs = search needs
@@ -22,10 +28,10 @@ sub-t11 c =
     omega (arith, length-pointsOf (start .args .working), start .pre .1 .1 .0 .curve .some)
 
 bound-numbers-requires : tie.Need-bound-numbers-requires
-bound-numbers-requires c κs = let start = c .before .before .before .before .before in (few start .0, few start .1, refl)
+bound-numbers-requires c κs = let start = c .before .before .before .before .before in (few start .0, rise start, refl)
 
 bound-numbers-requires-2 : tie.Need-bound-numbers-requires-2
-bound-numbers-requires-2 c κs = let start = c .before .before .before .before .before .before .before in (few start .0, few start .1, refl)
+bound-numbers-requires-2 c κs = let start = c .before .before .before .before .before .before .before in (few start .0, rise start, refl)
 
 sizes-requires : tie.Need-sizes-requires
 sizes-requires c κs =
@@ -33,7 +39,7 @@ sizes-requires c κs =
     let start = counted .before in (
       omega (arith, counted .interval-count .ensures, few start .1),
       refl,
-      λ i below. times-rise _ _ _ _ (start .pre .0) _ _ (start .pre .1 .0) i (omega (arith, counted .interval-count .ensures)),
+      λ i below. rw (add-one i) (omega (arith, rise start .rises i (omega (arith, counted .interval-count .ensures)))),
     )
 
 returns : tie.Need-returns
