@@ -26,6 +26,20 @@ problemIn work =
       frequency = numbersIn (work .frequency);
     }
 
+-- A workload of counts and arrays that are lent.
+abbrev pub workloadWith : (cycles : List ℕ) → (jobs intervals bands : ℕ) → (first last size frequency : List ℕ) → Workload
+workloadWith cycles jobs intervals bands first last size frequency =
+    record {
+      jobs = jobs;
+      intervals = intervals;
+      bands = bands;
+      first = first;
+      last = last;
+      cycles = cycles;
+      size = size;
+      frequency = frequency;
+    }
+
 -- What a workload's arrays hold is sound, and within the limits of document 01.
 pub record SoundWorkload (work : Workload) : Type 0 where
   pub sound : SoundProblem (problemIn work)

@@ -10,7 +10,7 @@ use Rattle.model.specs.Sum.{sum}
 use Rattle.model.specs.Plans.{Shares, sharesIn}
 use Rattle.planner.specs.declared.workload.Workload.{Workload}
 use Rattle.planner.specs.Placement.{Problem, Raised, Open, Priced, loadOf}
-use Rattle.planner.specs.Arrays.{numbersIn, problemIn, SoundWorkload, Stored, lentWindows}
+use Rattle.planner.specs.Arrays.{numbersIn, problemIn, workloadWith, SoundWorkload, Stored, lentWindows}
 
 -- The least band, of `bands`, that ends at or above a load.
 pub record LeastBand (frequency : ℕ → ℕ) (bands size load band : ℕ) : Type 0 where
@@ -89,20 +89,6 @@ pub record RisePass (work : Workload) (table before after : List ℕ) (count : �
   pub falls : changed ≡ true → roomLeft (work .intervals) (work .bands) (numbersIn after) < roomLeft (work .intervals) (work .bands) (numbersIn before)
   pub same : changed ≡ false → after ≡ before
   pub settled : changed ≡ false → (j : ℕ) → j < count → Settled (problemIn work) (sharesIn (work .jobs) table) (numbersIn after) j
-
--- A workload of counts and arrays that are lent; prices do not depend on its cycles.
-abbrev pub workloadWith : (cycles : List ℕ) → (jobs intervals bands : ℕ) → (first last size frequency : List ℕ) → Workload
-workloadWith cycles jobs intervals bands first last size frequency =
-    record {
-      jobs = jobs;
-      intervals = intervals;
-      bands = bands;
-      first = first;
-      last = last;
-      cycles = cycles;
-      size = size;
-      frequency = frequency;
-    }
 
 -- To a function that is lent all of a workload but its cycles: some prices fit, with some cycles, and with any such the
 -- smallest are found.

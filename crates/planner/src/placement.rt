@@ -2,50 +2,56 @@
 ghost use mathlib.Core.Path.{_≡_};
 ghost use Prim.Native.Nat.{ℕ, _*_, _<_, _≤_};
 ghost use lib.ListN.{length};
+ghost use Rattle.model.specs.Limits.{maxJobs};
 ghost use Rattle.planner.specs.RangesFit.{RangesFit};
-ghost use Rattle.planner.specs.Arrays.{numbersIn, problemIn, SoundWorkload, KeptPast};
+ghost use Rattle.planner.specs.Arrays.{numbersIn, problemIn, workloadWith, SoundWorkload, KeptPast};
 ghost use Rattle.planner.specs.PlacedTables.{PlacedTables};
 ghost use Rattle.planner.specs.BandPasses.{SizesPass, SizesPassed, SizesRaise, SizesRaised};
 use crate::filling::fill_job;
 use crate::moving::move_job;
 use crate::order::by_deadline;
-use crate::workload::Workload;
 use model::MAX_INTERVALS;
 use model::MAX_JOBS;
+use model::MAX_POINTS;
 
 // Places all jobs, from an empty table. Prices are bands, counted from 0. At each band the jobs go into their own windows as
 // far as these have room, and what is still left of them goes along paths.
-pub fn place(
-    work: Workload,
+// The arrays of a workload are lent at one lifetime, so that they can be fields of one struct.
+pub fn place<'a>(
+    jobs: usize,
+    intervals: usize,
+    bands: usize,
+    first: &'a [usize; MAX_JOBS],
+    last: &'a [usize; MAX_JOBS],
+    cycles: &'a [u64; MAX_JOBS],
+    size: &'a [u64; MAX_INTERVALS],
+    frequency: &'a [u64; MAX_POINTS],
     shares: &mut [u32],
     loads: &mut [u64; MAX_INTERVALS],
     prices: &mut [u64; MAX_INTERVALS],
 )
-    requires { ⌜ SoundWorkload work ⌝ }
-    requires { ⌜ RangesFit (problemIn work) ⌝ }
-    requires { ⌜ work .intervals * work .jobs ≤ length (now shares) ⌝ }
-    ensures { λ _. ⌜ PlacedTables work (now (shares .exit)) (now (loads .exit)) (now (prices .exit))
-        × KeptPast (work .intervals * work .jobs) (now (shares .entry)) (now (shares .exit)) ⌝ }
+    requires { ⌜ SoundWorkload (workloadWith (now cycles) jobs intervals bands (now first) (now last) (now size) (now frequency)) ⌝ }
+    requires { ⌜ RangesFit (problemIn (workloadWith (now cycles) jobs intervals bands (now first) (now last) (now size) (now frequency))) ⌝ }
+    requires { ⌜ intervals * jobs ≤ length (now shares) ⌝ }
+    requires { ⌜ length (now cycles) ≡ maxJobs ⌝ }
+    ensures { λ _. ⌜ PlacedTables (workloadWith (now (cycles .entry)) jobs intervals bands (now (first .entry)) (now (last .entry)) (now (size .entry)) (now (frequency .entry)))
+        (now (shares .exit)) (now (loads .exit)) (now (prices .exit))
+        × KeptPast (intervals * jobs) (now (shares .entry)) (now (shares .exit)) ⌝ }
 {
-    clear(shares, work.intervals * work.jobs);
+    clear(shares, intervals * jobs);
     *loads = [0; MAX_INTERVALS];
     *prices = [0; MAX_INTERVALS];
     let mut holders = [0u64; MAX_INTERVALS];
-    let mut left = work.cycles;
-    let jobs = work.jobs;
-    let bands = work.bands;
-    let first = work.first;
-    let last = work.last;
-    let size = work.size;
-    let order = by_deadline(&last, jobs);
+    let mut left = *cycles;
+    let order = by_deadline(last, jobs);
     let mut band = 0;
     while band < bands {
-        let frequency = work.frequency[band + 1];
+        let band_end = frequency[band + 1];
         fill_jobs(
-            &first,
-            &last,
-            &size,
-            frequency,
+            first,
+            last,
+            size,
+            band_end,
             jobs,
             &order,
             shares,
@@ -54,10 +60,10 @@ pub fn place(
             &mut left,
         );
         move_jobs(
-            &first,
-            &last,
-            &size,
-            frequency,
+            first,
+            last,
+            size,
+            band_end,
             jobs,
             shares,
             loads,

@@ -59,8 +59,20 @@ pub(crate) fn make_plan(
     let work = workload_of(releases, deadlines, cycles, count, times, bounds, working);
     let mut loads = [0u64; MAX_INTERVALS];
     let mut numbers = [0u64; MAX_INTERVALS];
-    place(work, shares, &mut loads, &mut numbers);
     let intervals = work.intervals;
+    place(
+        work.jobs,
+        intervals,
+        work.bands,
+        &work.first,
+        &work.last,
+        &work.cycles,
+        &work.size,
+        &work.frequency,
+        shares,
+        &mut loads,
+        &mut numbers,
+    );
     smallest_prices(
         work.jobs,
         intervals,

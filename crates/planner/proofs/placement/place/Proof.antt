@@ -3,10 +3,10 @@ use mathlib.Core.Path.{_≡_, refl}
 use Prim.Native.Nat.{_+_, _-_, _*_, _<_, _≤_}
 use native.Mathlib.Omega.{arith}
 use lib.ListN.{length}
-use borrow.Author.Needs.{needs}
 use denote.Ref.{now}
-use Rattle.model.specs.Limits.{maxLevels, maxJobs, maxIntervals}
-use Rattle.planner.specs.Arrays.{numbersIn, KeptPast}
+use Rattle.model.specs.Limits.{maxLevels, maxIntervals}
+use Rattle.planner.specs.declared.workload.Workload.{Workload}
+use Rattle.planner.specs.Arrays.{numbersIn, workloadWith, KeptPast}
 use Rattle.planner.specs.PlacedTables.{FillingTables}
 use Rattle.planner.specs.BandPasses.{CanRaise}
 use Rattle.planner.proofs.SharesTable.{kept-refl, kept-trans}
@@ -15,81 +15,83 @@ use Rattle.planner.proofs.placement.place.Statement.{statement}
 use Rattle.planner.proofs.placement.place.Tie as tie
 
 abbrev Inv-loop : tie.InvT-loop
-Inv-loop shares₀ loads₀ prices₀ work holders₀ left₀ jobs bands first last size order band₀ shares loads prices holders left band =
+Inv-loop jobs intervals bands first last cycles size frequency shares₀ loads₀ prices₀ holders₀ left₀ order band₀ shares loads prices holders left band =
     (band ≤ bands)
-    × KeptPast (work .intervals * work .jobs) shares₀ shares
+    × KeptPast (intervals * jobs) shares₀ shares
     × (length prices ≡ maxIntervals)
-    × FillingTables work shares loads holders left (numbersIn prices) band 0
+    × FillingTables (workloadWith cycles jobs intervals bands first last size frequency) shares loads holders left (numbersIn prices) band 0
 
 abbrev μ-loop : tie.MeasureT-loop
-μ-loop shares₀ loads₀ prices₀ work holders₀ left₀ jobs bands first last size order band₀ shares loads prices holders left band = bands - band
+μ-loop jobs intervals bands first last cycles size frequency shares₀ loads₀ prices₀ holders₀ left₀ order band₀ shares loads prices holders left band = bands - band
 
 mul-clear : tie.Need-mul-clear Inv-loop μ-loop
-mul-clear c = omega (arith, c .before .before .pre .1 .1)
+mul-clear c = omega (arith, c .before .before .pre .1 .1 .0)
 
 clear-requires : tie.Need-clear-requires Inv-loop μ-loop
-clear-requires c κs = c .before .before .pre .1 .1
+clear-requires c κs = c .before .before .pre .1 .1 .0
 
 by-deadline-requires : tie.Need-by-deadline-requires Inv-loop μ-loop
-by-deadline-requires c κs = c .before .before .before .before .before .before .before .before .before .before .before .before .pre .0 .jobs-most
+by-deadline-requires c κs = c .before .before .before .before .before .before .before .before .pre .0 .jobs-most
 
 -- the function's entry
 abbrev entry : tie.At-loop Inv-loop μ-loop → tie.Start Inv-loop μ-loop
-entry c = c .before .before .before .before .before .before .before .before .before .before .before .before .before .before
+entry c = c .before .before .before .before .before .before .before .before .before .before
 
--- the array of cycles has a number for each job
-cycles-length : (c : tie.Start Inv-loop μ-loop) → length (c .args .t1 .cycles) ≡ maxJobs
-cycles-length c = search needs
+-- the workload that is lent
+abbrev lent : tie.Start Inv-loop μ-loop → Workload
+lent c =
+    let a = c .args in
+    workloadWith (now (a .cycles)) (a .jobs) (a .intervals) (a .bands) (now (a .first)) (now (a .last)) (now (a .size)) (now (a .frequency))
 
 loop-holds : tie.Need-loop-holds Inv-loop μ-loop
 loop-holds c =
-    let start = c .before .before .before .before .before .before .before .before .before .before .before .before .before in
-    let clear = c .before .before .before .before .before .before .before .before .before .before .clear in (
+    let start = c .before .before .before .before .before .before .before .before .before in
+    let clear = c .before .before .before .before .before .before .clear in (
       omega arith,
       kept-refl _ _,
       refl,
-      tables-start (start .pre .0) (cycles-length start) (clear .last .0) (omega (arith, start .pre .1 .1, clear .ensures .0 .same-length)) (clear .ensures .1),
+      tables-start (start .pre .0) (start .pre .1 .1 .1) (clear .last .0) (omega (arith, start .pre .1 .1 .0, clear .ensures .0 .same-length)) (clear .ensures .1),
     )
 
 -- the band has an end
 end-inside : (c : tie.In-loop Inv-loop μ-loop) → c .before .loop .band + 1 < maxLevels + 1
 end-inside c = omega (arith, c .loop-test .taken, entry (c .before) .pre .0 .bands-most)
 
-add-frequency : tie.Need-add-frequency Inv-loop μ-loop
-add-frequency c = omega (arith, end-inside c)
+add-band-end : tie.Need-add-band-end Inv-loop μ-loop
+add-band-end c = omega (arith, end-inside c)
 
-mul-frequency : tie.Need-mul-frequency Inv-loop μ-loop
-mul-frequency c = omega (arith, end-inside c)
+mul-band-end : tie.Need-mul-band-end Inv-loop μ-loop
+mul-band-end c = omega (arith, end-inside c)
 
-element-copy-out-frequency : tie.Need-element-copy-out-frequency Inv-loop μ-loop
-element-copy-out-frequency c = omega (arith, end-inside c)
+element-copy-out-band-end : tie.Need-element-copy-out-band-end Inv-loop μ-loop
+element-copy-out-band-end c = omega (arith, end-inside c)
 
 fill-jobs-requires : tie.Need-fill-jobs-requires Inv-loop μ-loop
 fill-jobs-requires c κs =
-    let turn = c .before .before .before .before .before .before .before .before .before in
+    let turn = c .before .before .before .before .before .before in
     let head = turn .before in (
-      (entry head .args .t1, head .loop .band, numbersIn (head .loop .prices), refl, turn .loop-test .taken, head .loop .inv .3),
+      (lent (entry head), head .loop .band, numbersIn (head .loop .prices), refl, turn .loop-test .taken, head .loop .inv .3),
       head .before .by-deadline .ensures,
     )
 
 -- the windows are filled
 own-filled : (c : tie.After-fill-jobs Inv-loop μ-loop)
-    → let head = c .before .before .before .before .before .before .before .before .before .before .before in
-    let work = entry head .args .t1 in
+    → let head = c .before .before .before .before .before .before .before .before in
+    let work = lent (entry head) in
     KeptPast (work .intervals * work .jobs) (head .loop .shares) (c .fill-jobs .last .1 .1 .1 .1 .1 .1 .0)
     × FillingTables work (c .fill-jobs .last .1 .1 .1 .1 .1 .1 .0) (c .fill-jobs .last .1 .1 .1 .1 .1 .1 .1 .0) (c .fill-jobs .last .1 .1 .1 .1 .1 .1 .1 .1 .0)
     (c .fill-jobs .last .1 .1 .1 .1 .1 .1 .1 .1 .1 .0) (numbersIn (head .loop .prices)) (head .loop .band) 0
 own-filled c =
-    let turn = c .before .before .before .before .before .before .before .before .before .before in
+    let turn = c .before .before .before .before .before .before .before in
     let head = turn .before in
-    c .fill-jobs .ensures (entry head .args .t1) (head .loop .band) (numbersIn (head .loop .prices)) refl (turn .loop-test .taken) (head .loop .inv .3)
+    c .fill-jobs .ensures (lent (entry head)) (head .loop .band) (numbersIn (head .loop .prices)) refl (turn .loop-test .taken) (head .loop .inv .3)
 
 can-move : (c : tie.After-fill-jobs Inv-loop μ-loop)
-    → let head = c .before .before .before .before .before .before .before .before .before .before .before in
-    CanRaise (entry head .args .t1) (c .fill-jobs .last .1 .1 .1 .1 .1 .1 .0) (c .fill-jobs .last .1 .1 .1 .1 .1 .1 .1 .0) (c .fill-jobs .last .1 .1 .1 .1 .1 .1 .1 .1 .0)
+    → let head = c .before .before .before .before .before .before .before .before in
+    CanRaise (lent (entry head)) (c .fill-jobs .last .1 .1 .1 .1 .1 .1 .0) (c .fill-jobs .last .1 .1 .1 .1 .1 .1 .1 .0) (c .fill-jobs .last .1 .1 .1 .1 .1 .1 .1 .1 .0)
     (head .loop .prices) (c .fill-jobs .last .1 .1 .1 .1 .1 .1 .1 .1 .1 .0) (head .loop .band) 0
 can-move c =
-    let turn = c .before .before .before .before .before .before .before .before .before .before in
+    let turn = c .before .before .before .before .before .before .before in
     let head = turn .before in
     record {
       fit = entry head .pre .1 .0;
@@ -100,20 +102,20 @@ can-move c =
 
 move-jobs-requires : tie.Need-move-jobs-requires Inv-loop μ-loop
 move-jobs-requires c κs =
-    let head = c .before .before .before .before .before .before .before .before .before .before .before .before .before .before .before .before .before .before .before .before .before in
-    (entry head .args .t1, refl, can-move (c .before .before .before .before .before .before .before .before .before .before))
+    let filled = c .before .before .before .before .before .before .before in
+    (lent (entry (filled .before .before .before .before .before .before .before .before)), refl, can-move filled)
 
 add-band : tie.Need-add-band Inv-loop μ-loop
-add-band c = omega (arith, end-inside (c .before .before .before .before .before .before .before .before .before .before .before .before .before .before .before .before .before .before .before .before .before .before .before))
+add-band c = omega (arith, end-inside (c .before .before .before .before .before .before .before .before .before .before .before .before .before .before .before .before .before))
 
 loop-less : tie.Need-loop-less Inv-loop μ-loop
-loop-less c = omega (arith, c .before .before .before .before .before .before .before .before .before .before .before .before .before .before .before .before .before .before .before .before .before .before .before .loop-test .taken)
+loop-less c = omega (arith, c .before .before .before .before .before .before .before .before .before .before .before .before .before .before .before .before .before .loop-test .taken)
 
 loop-again : tie.Need-loop-again Inv-loop μ-loop
 loop-again c =
-    let turn = c .before .before .before .before .before .before .before .before .before .before .before .before .before .before .before .before .before .before .before .before .before .before .before in
-    let filled = c .before .before .before .before .before .before .before .before .before .before .before .before .before in
-    let (kept, moved) = c .before .before .move-jobs .ensures (entry (turn .before) .args .t1) refl (can-move filled) in (
+    let turn = c .before .before .before .before .before .before .before .before .before .before .before .before .before .before .before .before .before in
+    let filled = c .before .before .before .before .before .before .before .before .before .before in
+    let (kept, moved) = c .before .before .move-jobs .ensures (lent (entry (turn .before))) refl (can-move filled) in (
       omega (arith, turn .loop-test .taken),
       kept-trans (turn .before .loop .inv .1) (kept-trans (own-filled filled .0) kept),
       moved .prices-length,
@@ -123,8 +125,8 @@ loop-again c =
 -- what lies past the table stays from the entry on
 kept : (c : tie.After-loop Inv-loop μ-loop)
     → let a = entry (c .before) .args in
-    KeptPast (a .t1 .intervals * a .t1 .jobs) (now (a .shares)) (c .before .loop .shares)
-kept c = kept-trans (c .before .before .before .before .before .before .before .before .before .before .before .before .clear .ensures .0) (c .before .loop .inv .1)
+    KeptPast (a .intervals * a .jobs) (now (a .shares)) (c .before .loop .shares)
+kept c = kept-trans (c .before .before .before .before .before .before .before .before .clear .ensures .0) (c .before .loop .inv .1)
 
 same-length : tie.Need-same-length Inv-loop μ-loop
 same-length c = kept c .same-length
@@ -142,9 +144,9 @@ place-spec =
     clear-requires
     by-deadline-requires
     loop-holds
-    add-frequency
-    mul-frequency
-    element-copy-out-frequency
+    add-band-end
+    mul-band-end
+    element-copy-out-band-end
     fill-jobs-requires
     move-jobs-requires
     add-band

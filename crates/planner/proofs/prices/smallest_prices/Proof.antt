@@ -4,8 +4,8 @@ use Prim.Native.Nat.{ℕ}
 use mathlib.Core.List.{List}
 use denote.Ref.{now}
 use Rattle.planner.specs.declared.workload.Workload.{Workload}
-use Rattle.planner.specs.Arrays.{numbersIn}
-use Rattle.planner.specs.RisingPrices.{roomLeft, CanPrice, CanRise, RisePass, workloadWith}
+use Rattle.planner.specs.Arrays.{numbersIn, workloadWith}
+use Rattle.planner.specs.RisingPrices.{roomLeft, CanPrice, CanRise, RisePass}
 use Rattle.planner.proofs.RisePasses.{rise-start, rise-again, rise-end}
 use Rattle.planner.proofs.prices.smallest_prices.Statement.{statement}
 use Rattle.planner.proofs.prices.smallest_prices.Tie as tie
