@@ -5,10 +5,9 @@ use mathlib.Core.Path.{_≡_, sym, _∙_, ap}
 use mathlib.Core.Bool.{Bool, false, _&&_, and-false}
 use mathlib.Core.Logic.{_⊎_, inl, inr}
 use mathlib.Core.List.{List}
-use Prim.Native.Nat.{ℕ, _+_, _-_, _*_, _%_, _^_, _<_, _≤_, max}
+use Prim.Native.Nat.{ℕ, _+_, _-_, _^_, _<_, _≤_, max}
 use native.Mathlib.Omega.{arith}
 use lib.ListN.{length, getD, set}
-use lib.Pow.{pow-lt}
 use lib.Dec.{ltb, leb}
 use borrow.Author.Tests.{lt-ltb, le-ltb, le-leb, lt-leb, leb-true, leb-false}
 use Rattle.model.specs.Limits.{maxIntervals}
@@ -22,10 +21,6 @@ use Rattle.energy.specs.Figures.{SmallBounds}
 use Rattle.windows.specs.Answers.{RisingTimes}
 use Rattle.audit.specs.TestedJobs.{openBetween, EndsBy, withBits, withRange, withOpen}
 use Rattle.audit.proofs.Arrays.{store-holds}
-
--- a shifted 1 below 64 places loses nothing
-pub shifted : (j : ℕ) → j < 64 → 1 * 2 ^ j % 2 ^ 64 ≡ 2 ^ j
-shifted j below = omega (arith, pow-lt below)
 
 -- bounds rise, as the search for one of them asks
 pub bounds-rising : {bounds : ℕ} {times : List ℕ} → SmallBounds bounds times → RisingTimes bounds times

@@ -8,7 +8,7 @@ use mathlib.Core.List.{List}
 use Prim.Native.Nat.{ℕ, _+_, _-_, _^_, _<_, _≤_}
 use native.Mathlib.Omega.{arith}
 use lib.ListN.{length, getD, replicate, List·getD-eq-default}
-use lib.Pow.{pow-pos, pow-mono}
+use lib.Pow.{pow-pos}
 use lib.Dec.{ltb, eqb}
 use borrow.Author.Tests.{lt-ltb, le-ltb}
 use Rattle.model.specs.declared.Job.{Job}
@@ -31,10 +31,6 @@ bit-is-one false = refl
 -- the set of the jobs that pass a test has those and no others
 pub set-has : (test : ℕ → Bool) (count j : ℕ) → j < count → hasJob (setOf count test) j ≡ test j
 set-has test count j below = rw (bits-at test count j below) (bit-is-one (test j))
-
--- a set of jobs below j has room for job j
-pub bit-room : (j set bit : ℕ) → j < maxJobs → set < 2 ^ j → bit ≤ 2 ^ j → set + bit < 2 ^ 64
-bit-room j set bit below small high = omega (arith, pow-mono {i = j} {j = 63} (omega arith))
 
 -- findings that agree part by part
 pub same-tests : {a a′ : List ℕ} {b b′ : ℕ} {c c′ : List ℕ} → a ≡ a′ → b ≡ b′ → c ≡ c′ → testsIn a b c ≡ testsIn a′ b′ c′

@@ -5,7 +5,7 @@ use mathlib.Core.Path.{_≡_, refl}
 use Prim.Native.Nat.{ℕ, zero, suc, _+_, _-_, _*_, _/_, _%_, _^_, _<_, _≤_, min}
 use native.Mathlib.Nat.{pow-suc}
 use native.Mathlib.Omega.{arith}
-use lib.Pow.{pow-pos, pow-lt}
+use lib.Pow.{pow-pos}
 use lib.Bits.{bitAnd, and-step}
 use lib.Count.{trailingZeros, under}
 use Rattle.planner.specs.Words.{bit}
@@ -19,10 +19,6 @@ pub bit-none : (j : ℕ) → bit j 0 ≡ 0
 unfolding bit
 bit-none zero = refl
 bit-none (suc j) = bit-none j
-
--- a 1 shifted in a machine word by fewer than 64 places
-pub bit-shifted : (j : ℕ) → j < 64 → 1 * 2 ^ j % 2 ^ 64 ≡ 2 ^ j
-bit-shifted j below = omega (arith, pow-lt below)
 
 -- one bit more
 pub bit-put : (t word : ℕ) → bit t word ≡ 0 → bit t (word + 2 ^ t) ≡ 1

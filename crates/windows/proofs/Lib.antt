@@ -1,7 +1,6 @@
 -- Laws for the proofs of the functions.
 pub mod Loops
 pub mod Repeats
-pub mod Bits
 pub mod Capacity
 pub mod Inserted
 pub mod Padded

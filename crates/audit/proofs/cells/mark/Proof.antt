@@ -1,6 +1,6 @@
 -- `cells::mark` meets its contract. The set has room for the bit, as it requires. Assumes nothing.
 use borrow.Author.Needs.{needs}
-use Rattle.audit.proofs.OpenRange.{shifted}
+use Rattle.model.proofs.OpenSets.{bit-shifted}
 use Rattle.audit.proofs.cells.mark.Statement.{statement}
 use Rattle.audit.proofs.cells.mark.Tie as tie
 
@@ -20,7 +20,7 @@ element-write-seen : tie.Need-element-write-seen
 element-write-seen c = search needs
 
 returns : tie.Need-returns
-returns c = rw (shifted _ (c .before .pre .1))
+returns c = rw (bit-shifted _ (c .before .pre .1))
 
 pub mark-spec : {M : Type 1} → statement M
 mark-spec =

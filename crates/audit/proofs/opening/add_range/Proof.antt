@@ -8,8 +8,8 @@ use denote.Ref.{now}
 use borrow.Author.Needs.{needs}
 use Rattle.model.specs.Limits.{maxIntervals}
 use Rattle.audit.specs.TestedJobs.{withRange}
-use Rattle.audit.proofs.TestedJobs.{bit-room}
-use Rattle.audit.proofs.OpenRange.{shifted, range-none, range-later, range-more, range-whole}
+use Rattle.model.proofs.OpenSets.{bit-shifted, bit-room}
+use Rattle.audit.proofs.OpenRange.{range-none, range-later, range-more, range-whole}
 use Rattle.audit.proofs.opening.add_range.Statement.{statement}
 use Rattle.audit.proofs.opening.add_range.Tie as tie
 
@@ -38,7 +38,7 @@ add-sets c =
     let a = start .args in
     let inside : turn .loop .i < maxIntervals = omega arith in
     let before = range-later (now (a .sets)) (a .j) (a .first) (turn .loop .i) inside in
-    record { fits = bit-room _ _ _ (start .pre .0) (rw (turn .loop .inv .2, before) (start .pre .2 .small (turn .loop .i))) (le-of-eq (shifted _ (start .pre .0))) }
+    record { fits = bit-room _ _ _ (start .pre .0) (rw (turn .loop .inv .2, before) (start .pre .2 .small (turn .loop .i))) (le-of-eq (bit-shifted _ (start .pre .0))) }
 
 element-write-sets : tie.Need-element-write-sets Inv-loop μ-loop
 element-write-sets c = omega arith
@@ -52,7 +52,7 @@ loop-less c = omega arith
 loop-again : tie.Need-loop-again Inv-loop μ-loop
 loop-again c =
     let turn = c .before .before in
-    (omega arith, omega arith, range-more _ _ _ _ _ _ (omega arith) (turn .loop .inv .0) (turn .loop .inv .2) (shifted _ (turn .before .pre .0)))
+    (omega arith, omega arith, range-more _ _ _ _ _ _ (omega arith) (turn .loop .inv .0) (turn .loop .inv .2) (bit-shifted _ (turn .before .pre .0)))
 
 returns : tie.Need-returns Inv-loop μ-loop
 returns c = let inv = c .before .loop .inv in inv .2 ∙ range-whole _ _ _ _ _ (c .loop-test .left) (inv .1)

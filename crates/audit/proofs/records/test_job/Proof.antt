@@ -3,7 +3,8 @@ use mathlib.Core.Path.{refl, ap}
 use Prim.Native.Nat.{ℕ, _+_}
 use borrow.Author.Needs.{needs}
 use Rattle.audit.specs.TestedJobs.{withJob}
-use Rattle.audit.proofs.TestedJobs.{bit-room, same-tests}
+use Rattle.model.proofs.OpenSets.{bit-room}
+use Rattle.audit.proofs.TestedJobs.{same-tests}
 use Rattle.audit.proofs.records.test_job.Statement.{statement}
 use Rattle.audit.proofs.records.test_job.Tie as tie
 

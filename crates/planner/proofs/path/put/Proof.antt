@@ -4,7 +4,7 @@ use mathlib.Core.Logic.{⊎-elim}
 use native.Mathlib.Omega.{arith}
 use borrow.Author.Needs.{needs}
 use borrow.Author.Tests.{eq-eqb, ne-eqb}
-use Rattle.planner.proofs.Words.{bit-shifted}
+use Rattle.model.proofs.OpenSets.{bit-shifted}
 use Rattle.planner.proofs.path.put.Statement.{statement}
 use Rattle.planner.proofs.path.put.Tie as tie
 

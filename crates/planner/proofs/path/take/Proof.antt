@@ -3,7 +3,7 @@ use mathlib.Core.Path.{refl}
 use mathlib.Core.Logic.{⊎-elim}
 use borrow.Author.Needs.{needs}
 use borrow.Author.Tests.{eq-eqb, ne-eqb}
-use Rattle.planner.proofs.Words.{bit-shifted}
+use Rattle.model.proofs.OpenSets.{bit-shifted}
 use Rattle.planner.proofs.path.take.Statement.{statement}
 use Rattle.planner.proofs.path.take.Tie as tie
 

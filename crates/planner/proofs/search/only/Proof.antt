@@ -1,6 +1,6 @@
 -- `search::only` meets its contract. Assumes nothing.
 use borrow.Author.Needs.{needs}
-use Rattle.planner.proofs.Words.{bit-shifted}
+use Rattle.model.proofs.OpenSets.{bit-shifted}
 use Rattle.planner.proofs.search.only.Statement.{statement}
 use Rattle.planner.proofs.search.only.Tie as tie
 

@@ -10,7 +10,8 @@ use Rattle.model.specs.Plans.{Shares}
 use Rattle.planner.specs.Words.{bit}
 use Rattle.planner.specs.Placement.{Problem}
 use Rattle.planner.specs.Reaching.{SearchState, stateOf, withWindows, ToScan, ScanOf}
-use Rattle.planner.proofs.Words.{bit-shifted, bit-least, lowest-bit}
+use Rattle.model.proofs.OpenSets.{bit-shifted}
+use Rattle.planner.proofs.Words.{bit-least, lowest-bit}
 use Rattle.planner.proofs.ScanSteps.{scan-start, scan-room, scan-least, scan-reach}
 use Rattle.planner.proofs.search.scan.Statement.{statement}
 use Rattle.planner.proofs.search.scan.Tie as tie

@@ -4,7 +4,7 @@ use native.Mathlib.Nat.{le-of-eq}
 use native.Mathlib.Omega.{arith}
 use borrow.Author.Needs.{needs}
 use borrow.Author.Tests.{lt-leb, le-leb}
-use Rattle.windows.proofs.Bits.{bit-shifted}
+use Rattle.model.proofs.OpenSets.{bit-shifted}
 use Rattle.windows.proofs.intervals.bit_if_open.Statement.{statement}
 use Rattle.windows.proofs.intervals.bit_if_open.Tie as tie
 

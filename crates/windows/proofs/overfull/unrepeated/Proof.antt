@@ -7,9 +7,8 @@ use mathlib.Core.List.{List}
 use Prim.Native.Nat.{ℕ, _+_, _-_, _*_, _^_, _%_, _≤_, _<_}
 use native.Mathlib.Omega.{arith}
 use Rattle.model.specs.Sum.{onlyIf}
-use Rattle.model.proofs.OpenSets.{bits-below}
+use Rattle.model.proofs.OpenSets.{bit-shifted, bit-room, bits-below}
 use Rattle.windows.specs.Answers.{isRepeated, unrepeatedSet}
-use Rattle.windows.proofs.Bits.{bit-shifted, bit-room}
 use Rattle.windows.proofs.Loops.{sum-none, sum-more}
 use Rattle.windows.proofs.overfull.unrepeated.Statement.{statement}
 use Rattle.windows.proofs.overfull.unrepeated.Tie as tie
@@ -17,7 +16,7 @@ use Rattle.windows.proofs.overfull.unrepeated.Tie as tie
 -- one more job
 module _ (numbers : List ℕ) (j set : ℕ) (before : set ≡ unrepeatedSet j numbers) where
   room : j < 64 → set + 1 * 2 ^ j % 2 ^ 64 < 2 ^ 64
-  room below = rw (bit-shifted j below) (bit-room j set below (rw before (bits-below (λ i. not (isRepeated numbers i)) j)))
+  room below = rw (bit-shifted j below) (bit-room j set (2 ^ j) below (rw before (bits-below (λ i. not (isRepeated numbers i)) j)) (omega arith))
 
   module _ (repeated : Bool) (is-repeated : repeated ≡ isRepeated numbers j) (next : ℕ) where
     set-more : j < 64 → not repeated ≡ true → next ≡ set + 1 * 2 ^ j % 2 ^ 64 → next ≡ unrepeatedSet (j + 1) numbers
