@@ -93,7 +93,7 @@ def others(folder):
     stack = read(folder, "stack.csv")
     table("Deepest stack over all sites, bytes", [r["function"] for r in stack], [[r["bytes"] for r in stack]])
     size = read(folder, "size.csv")
-    table("Machine code, bytes of text", [r["archive"] for r in size], [[r["text"] for r in size]])
+    table("The archive, its machine code and the plain planner's, bytes", [r["what"] for r in size], [[r["bytes"] for r in size]])
     counts = {}
     for r in read(folder, "instructions.csv"):
         counts.setdefault((r["family"], r["jobs"]), {})[r["function"]] = int(r["instructions"])
