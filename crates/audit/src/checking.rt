@@ -15,6 +15,7 @@ use crate::pricing::price;
 use crate::records::job_records;
 use crate::records::tests_of;
 use energy::energy_figure;
+use intervals::bounds_of;
 use levels::PointTable;
 use levels::working_levels;
 use model::MAX_BOUNDS;
@@ -22,7 +23,6 @@ use model::MAX_JOBS;
 use tables::Reading;
 use tables::read_jobs;
 use tables::read_levels;
-use intervals::bounds_of;
 
 // The energy figure of an accepted plan, or the refusal's number and place.
 pub enum CheckAnswer {

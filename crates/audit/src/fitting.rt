@@ -19,11 +19,11 @@ use crate::records::JobTests;
 use crate::steps::decode_step;
 use crate::steps::step_count;
 use crate::steps::wrong_length;
+use intervals::interval_count;
 use model::MAX_BOUNDS;
 use model::MAX_INTERVALS;
 use model::MAX_JOBS;
 use tables::number16;
-use intervals::interval_count;
 
 // The answer of the first half, with the loads of the intervals beside it: zeros past the last interval, and zeros
 // alone where the plan is refused.

@@ -4,10 +4,10 @@ ghost use Prim.Native.Nat.{_-_, _<_, _≤_};
 ghost use Rattle.model.specs.Limits.{maxJobs, maxIntervals};
 ghost use Rattle.energy.specs.Figures.{SmallBounds};
 ghost use Rattle.audit.specs.TestedJobs.{SmallSets, EndsBy, withRange, withOpen};
-use model::MAX_BOUNDS;
-use model::MAX_INTERVALS;
 use intervals::bound_number;
 use intervals::interval_count;
+use model::MAX_BOUNDS;
+use model::MAX_INTERVALS;
 
 // Adds job j to the sets of the intervals that it is open in.
 pub(crate) fn add_open(

@@ -20,12 +20,12 @@ ghost use Rattle.audit.specs.FirstHalf.{boundsIn};
 ghost use Rattle.audit.specs.SecondHalf.{Planned, BandNumbers, wrongLengthIn, entryFaultIn, priceFaultIn};
 use crate::Verdict;
 use crate::cheapest::check_cheapest;
+use intervals::interval_count;
 use levels::PointTable;
 use model::MAX_BOUNDS;
 use model::MAX_INTERVALS;
 use tables::number16;
 use tables::number32;
-use intervals::interval_count;
 
 // Checks a price list against a plan that fits, with the open sets and the loads of its intervals.
 pub(crate) fn price(

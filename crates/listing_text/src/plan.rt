@@ -16,10 +16,10 @@ use crate::lines::put_energy;
 use crate::lines::put_sizes;
 use crate::lines::put_span;
 use crate::lines::put_step;
+use intervals::bounds_of;
 use model::MAX_BOUNDS;
 use tables::Reading;
 use tables::read_jobs;
-use intervals::bounds_of;
 
 // Puts the text of a plan that was written for two tables.
 pub(crate) fn put_plan(

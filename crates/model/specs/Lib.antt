@@ -10,8 +10,10 @@ pub mod Sum
 pub mod Search
 pub mod Points
 pub mod Bands
+pub mod Processors
 pub mod Setting
 pub mod Intervals
+pub mod Sites
 pub mod Windows
 pub mod Plans
 pub mod Energy

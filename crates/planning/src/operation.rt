@@ -12,6 +12,7 @@ ghost use Rattle.planning.specs.Workloads.{PaddedCycles, WorkingTable};
 ghost use Rattle.planning.specs.PlanAnswers.{LevelStage, TableStage, PlanContract};
 use crate::making::make_plan;
 use crate::rooms::rooms_of;
+use intervals::bounds_of;
 use levels::PointTable;
 use levels::working_levels;
 use model::MAX_BOUNDS;
@@ -20,7 +21,6 @@ use tables::Reading;
 use tables::read_jobs;
 use tables::read_levels;
 use windows::Overfull;
-use intervals::bounds_of;
 use windows::earliest_overfull;
 use windows::window_spare;
 

@@ -6,10 +6,10 @@ ghost use Rattle.model.specs.Intervals.{boundsOf};
 ghost use Rattle.tables.specs.Tables.{jobsIn};
 ghost use Rattle.intervals.specs.Times.{HoldsTimes};
 ghost use Rattle.planning.specs.WantedRooms.{WantedRooms};
-use model::MAX_BOUNDS;
-use model::MAX_JOBS;
 use intervals::interval_count;
 use intervals::open_pairs;
+use model::MAX_BOUNDS;
+use model::MAX_JOBS;
 
 // The lengths wanted: bytes of the plan and of the prices, and shares.
 pub struct Rooms {

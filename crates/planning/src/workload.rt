@@ -10,13 +10,13 @@ ghost use Rattle.tables.specs.Tables.{jobsIn};
 ghost use Rattle.levels.specs.PointTables.{pointsOf};
 ghost use Rattle.intervals.specs.Times.{HoldsTimes, RisingTimes};
 ghost use Rattle.planning.specs.Workloads.{numberOf, PaddedCycles, WorkingTable, SiteWorkload};
+use intervals::bound_number;
+use intervals::interval_count;
 use levels::PointTable;
 use model::MAX_BOUNDS;
 use model::MAX_INTERVALS;
 use model::MAX_JOBS;
 use planner::Workload;
-use intervals::bound_number;
-use intervals::interval_count;
 
 // The jobs in the intervals between their bounds, at the working points.
 pub(crate) fn workload_of(
