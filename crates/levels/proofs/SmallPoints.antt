@@ -10,10 +10,10 @@ use native.Mathlib.Omega.{arith}
 use lib.ListN.{length}
 use Rattle.model.specs.Limits.{maxPoints}
 use Rattle.model.specs.declared.Level.{Level}
-use Rattle.model.specs.Outcome.{Outcome, refused, answer}
+use Rattle.model.specs.Outcome.{Outcome, refused, answer, andThen}
 use Rattle.model.specs.Levels.{readLevels, ValidLevels}
 use Rattle.model.specs.Points.{Point, points, pointAt, dropped, working, RisingPoints}
-use Rattle.model.specs.Setting.{workingOf}
+use Rattle.model.specs.Processors.{workingOf, processorOf, readProcessor}
 use Rattle.model.proofs.Levels.{levels-valid}
 use Rattle.model.proofs.Points.{points-length, points-level, valid-points-rise}
 use Rattle.model.proofs.Working.{place, working-curve}
@@ -70,21 +70,21 @@ module _ (levels : List Level) (valid : ValidLevels levels) where
   points-small = small-table (points 0 levels) few-points (valid-points-rise levels valid) small-points
 
   -- its working points
-  pub working-small : SmallPoints (pointTable (workingOf levels))
+  pub working-small : SmallPoints (pointTable (workingOf (processorOf levels)))
   working-small = small-working (points 0 levels) few-points (valid-points-rise levels valid) small-points
 
   -- both stand whole in their tables
   pub points-held : pointsOf (pointTable (points 0 levels)) ≡ points 0 levels
   points-held = table-points (points 0 levels) few-points
 
-  pub working-held : pointsOf (pointTable (workingOf levels)) ≡ workingOf levels
-  working-held = table-points (workingOf levels) (working-small .few)
+  pub working-held : pointsOf (pointTable (workingOf (processorOf levels))) ≡ workingOf (processorOf levels)
+  working-held = table-points (workingOf (processorOf levels)) (working-small .few)
 
 -- the working points of any bytes
-pub read-few : (bytes : List ℕ) → length (workingRead (readLevels bytes)) ≤ maxPoints
+pub read-few : (bytes : List ℕ) → length (workingRead (readProcessor bytes)) ≤ maxPoints
 read-few bytes = go (readLevels bytes) (levels-valid bytes)
   where
     go : (outcome : Outcome (List Level)) → ((levels : List Level) → outcome ≡ answer levels → ValidLevels levels)
-        → length (workingRead outcome) ≤ maxPoints
+        → length (workingRead (andThen outcome (λ levels. answer (processorOf levels)))) ≤ maxPoints
     go (refused number place) valid = omega arith
     go (answer levels) valid = working-small levels (valid levels refl) .few
