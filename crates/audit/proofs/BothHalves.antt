@@ -31,16 +31,16 @@ use Rattle.intervals.specs.Times.{padded, HoldsTimes}
 use Rattle.intervals.proofs.Padded.{take-padded, holds-first}
 use Rattle.energy.specs.Figures.{SmallBounds, figureOfLoads}
 use Rattle.energy.proofs.Figures.{figure-of-plan, small-bounds}
-use Rattle.audit.specs.declared.Verdict.{Verdict}
-use Rattle.audit.specs.declared.Verdict.the-variants.{Passed, Refused}
-use Rattle.audit.specs.declared.fitting.Fitted.{Fitted}
+use Rattle.fitting.specs.declared.Verdict.{Verdict}
+use Rattle.fitting.specs.declared.Verdict.the-variants.{Passed, Refused}
+use Rattle.fitting.specs.declared.fitting.Fitted.{Fitted}
 use Rattle.audit.specs.declared.checking.CheckAnswer.the-variants.{Accepted, Refused as RefusedCheck}
-use Rattle.audit.specs.Verdicts.{verdictOf, passed}
-use Rattle.audit.specs.FirstHalf.{boundsIn, loadsOf, fittedOf}
-use Rattle.audit.specs.SecondHalf.{Planned}
+use Rattle.fitting.specs.Verdicts.{verdictOf, passed}
+use Rattle.fitting.specs.FirstHalf.{boundsIn, loadsOf, fittedOf}
+use Rattle.pricing.specs.SecondHalf.{Planned}
 use Rattle.audit.specs.Answers.{checkAnswer, checkedTables}
-use Rattle.audit.proofs.Verdicts.{Both, both-alone, both-when, both-entries, both-refused, both-passed}
-use Rattle.audit.proofs.FirstHalf.{loads-added}
+use Rattle.fitting.proofs.Verdicts.{Both, both-alone, both-when, both-entries, both-refused, both-passed}
+use Rattle.fitting.proofs.FirstHalf.{loads-added}
 
 -- each half, and then whatever is next
 fitting-both : {A B : Type 0} (top : ℕ) (jobs : List Job) (bounds plan : List ℕ) (a : A) (next : Outcome B)

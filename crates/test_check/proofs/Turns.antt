@@ -12,13 +12,13 @@ use lib.WfN.{Nat·lt-wfRel}
 use denote.Ref.{RefT, now}
 use Rattle.model.specs.Steps.{stepCount, stepAt, wrongPlanLength, walk}
 use Rattle.model.proofs.Numbers.{lt-or-le, true≢false}
-use Rattle.audit.specs.declared.steps.StepAnswer.{StepAnswer}
-use Rattle.audit.specs.declared.steps.StepAnswer.the-variants.{Step as Found, End, Refused}
-use Rattle.audit.specs.declared.walk.StepReading.{StepReading}
-use Rattle.audit.specs.declared.walk.Taken.{Taken}
-use Rattle.audit.specs.Walking.{stepAnswer, numberAfter}
-use Rattle.audit.specs.Readings.{answerOf, taken}
-use Rattle.audit.proofs.Walking.{step-past, walk-refused, walk-answered}
+use Rattle.walking.specs.declared.steps.StepAnswer.{StepAnswer}
+use Rattle.walking.specs.declared.steps.StepAnswer.the-variants.{Step as Found, End, Refused}
+use Rattle.walking.specs.declared.walk.StepReading.{StepReading}
+use Rattle.walking.specs.declared.walk.Taken.{Taken}
+use Rattle.walking.specs.Walking.{stepAnswer, numberAfter}
+use Rattle.walking.specs.Readings.{answerOf, taken}
+use Rattle.walking.proofs.Walking.{step-past, walk-refused, walk-answered}
 use Rattle.test_check.specs.Printing.{isStep}
 
 -- only below the step count does a step stand

@@ -4,12 +4,12 @@ ghost use mathlib.Core.Path.{_≡_};
 ghost use Prim.Native.Nat.{_≤_};
 ghost use lib.ListN.{length};
 ghost use Rattle.test_check.specs.Printing.{isStep};
-use audit::Step;
-use audit::StepAnswer;
 use test_support::encode::encode;
 use test_support::show;
 use test_support::text::next;
 use test_support::text::number;
+use walking::Step;
+use walking::StepAnswer;
 
 pub(crate) fn case(bytes: &mut [u8], line: &[u8], kind: usize)
     requires { ⌜ kind ≤ length (now line) ⌝ }
@@ -27,14 +27,14 @@ pub(crate) fn step_case(bytes: &mut [u8], line: &[u8], kind: usize)
     let position = next(line, place);
     encode(bytes, 2, line, next(line, position));
     let count = io::count(number(line, place) as isize, bytes);
-    print(audit::step_at(&bytes[..count], number(line, position) as usize));
+    print(walking::step_at(&bytes[..count], number(line, position) as usize));
 }
 
 // A step is taken from the reading that the step before left, until there is none.
 fn walk(plan: &[u8]) {
-    let mut taken = audit::next(audit::start(plan));
+    let mut taken = walking::next(walking::start(plan));
     while print(taken.answer) {
-        taken = audit::next(taken.rest);
+        taken = walking::next(taken.rest);
     }
 }
 

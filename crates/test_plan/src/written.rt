@@ -3,11 +3,11 @@ use crate::buffers::Lengths;
 use crate::buffers::within_bytes;
 use crate::buffers::within_numbers;
 use crate::print;
-use audit::Step;
-use audit::StepAnswer;
-use audit::step_at;
 use model::MAX_INTERVALS;
 use model::MAX_JOBS;
+use walking::Step;
+use walking::StepAnswer;
+use walking::step_at;
 
 pub(crate) fn print(
     levels: &[u8],

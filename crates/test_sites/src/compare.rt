@@ -12,10 +12,10 @@ use crate::table::LevelColumns;
 use crate::table::put_jobs;
 use crate::table::put_levels;
 use audit::CheckAnswer;
-use audit::StepAnswer;
 use planning::PlanAnswer;
 use std::num::wrapping_add_u64;
 use test_support::encode::ROOM;
+use walking::StepAnswer;
 
 // Whether a plan came out, whether everything agrees with the search, and the plan's exact energy, multiplied out.
 pub(crate) struct Outcome {
@@ -142,7 +142,7 @@ fn loads_of(plan: &[u8]) -> u64 {
     let mut loads = 0;
     let mut position = 0;
     while position < 28 {
-        loads = wrapping_add_u64(loads, step_load(audit::step_at(plan, position)));
+        loads = wrapping_add_u64(loads, step_load(walking::step_at(plan, position)));
         position += 1;
     }
     loads

@@ -11,10 +11,10 @@ use Rattle.model.specs.Checking.{fitting}
 use Rattle.tables.specs.Tables.{jobsIn}
 use Rattle.tables.proofs.Read.{length-jobsIn, jobs-count}
 use Rattle.energy.specs.Figures.{SmallBounds}
-use Rattle.audit.specs.declared.records.JobTests.{JobTests}
-use Rattle.audit.specs.TestedJobs.{openSetsBelow, testsOf}
-use Rattle.audit.specs.FirstHalf.{boundsIn, planSums, loadsOf, fittedOf}
-use Rattle.audit.proofs.TestedJobs.{sets-found}
+use Rattle.fitting.specs.declared.records.JobTests.{JobTests}
+use Rattle.fitting.specs.TestedJobs.{openSetsBelow, testsOf}
+use Rattle.fitting.specs.FirstHalf.{boundsIn, planSums, loadsOf, fittedOf}
+use Rattle.fitting.proofs.TestedJobs.{sets-found}
 use Rattle.audit.proofs.BothHalves.{bounds-small, first-refused, planned, second-refused, all-passed}
 use Rattle.audit.proofs.checking.check_tables.Statement.{statement}
 use Rattle.audit.proofs.checking.check_tables.Tie as tie

@@ -43,23 +43,23 @@ use denote.Triple.Table.{entered, cited}
 use denote.Triple.Walked.{Stays, stay-none-slice, walkOf, goes-none-slice, Walks, ends-at, walked, walk-meets}
 use denote.Exit.{yes}
 use denote.Triple.Clauses.{ensured, lasts}
-use Rattle.audit.specs.declared.walk.StepReading.{StepReading}
-use Rattle.audit.specs.declared.walk.Taken.{Taken}
-use Rattle.audit.specs.Readings.{started, taken}
-use Rattle.audit.proofs.steps.StepAnswer as S
-use Rattle.audit.proofs.steps.StepAnswer.Laws as S′
-use Rattle.audit.proofs.walk.StepReading as T
-use Rattle.audit.proofs.walk.StepReading.Laws as T′
-use Rattle.audit.proofs.walk.Taken as K
-use Rattle.audit.proofs.walk.Taken.Laws as K′
-use Rattle.audit.proofs.start as start
-use Rattle.audit.proofs.start.Symbol as start-def
-use Rattle.audit.proofs.start.Symbol.{name as #audit·start}
-use Rattle.audit.proofs.start.Met as start-thm
-use Rattle.audit.proofs.next as next
-use Rattle.audit.proofs.next.Symbol as next-def
-use Rattle.audit.proofs.next.Symbol.{name as #audit·next}
-use Rattle.audit.proofs.next.Met as next-thm
+use Rattle.walking.specs.declared.walk.StepReading.{StepReading}
+use Rattle.walking.specs.declared.walk.Taken.{Taken}
+use Rattle.walking.specs.Readings.{started, taken}
+use Rattle.walking.proofs.steps.StepAnswer as S
+use Rattle.walking.proofs.steps.StepAnswer.Laws as S′
+use Rattle.walking.proofs.walk.StepReading as T
+use Rattle.walking.proofs.walk.StepReading.Laws as T′
+use Rattle.walking.proofs.walk.Taken as K
+use Rattle.walking.proofs.walk.Taken.Laws as K′
+use Rattle.walking.proofs.start as start
+use Rattle.walking.proofs.start.Symbol as start-def
+use Rattle.walking.proofs.start.Symbol.{name as #walking·start}
+use Rattle.walking.proofs.start.Met as start-thm
+use Rattle.walking.proofs.next as next
+use Rattle.walking.proofs.next.Symbol as next-def
+use Rattle.walking.proofs.next.Symbol.{name as #walking·next}
+use Rattle.walking.proofs.next.Met as next-thm
 use Rattle.test_check.specs.Printing.{isStep}
 use Rattle.test_check.proofs.Turns.{Turn, Nearer, nearer-ends, first-turn, next-turn, next-nearer}
 use Rattle.test_check.proofs.walk.print as print
@@ -91,7 +91,7 @@ abbrev ρ : Ty
 
 -- what a turn does after its test
 abbrev goes-on : Body
-goes-on = seq (assign (place 6 []) (rvOpd (copy (place 2 (field 1 ∷ []))))) (call #audit·next (copy (place 6 []) ∷ []) (place 2 []))
+goes-on = seq (assign (place 6 []) (rvOpd (copy (place 2 (field 1 ∷ []))))) (call #walking·next (copy (place 6 []) ∷ []) (place 2 []))
 
 abbrev stayed : Stays (walk.ended .signature .params) (walk.ended .kept)
 stayed = (stay-none-slice (0 ∷ []) tt (plain (λ _. u8)) yes, tt)
@@ -197,7 +197,7 @@ module _ {M : Type 1} (𝓤 : URA M) (H : Heap 𝓤) (A : Atoms 𝓤) (W : Given
       suffices ! _ (ends-at 𝓤 H A walk.ended stayed (walk.clauses 𝓤 H A mem run) W (((κ, tt), (q, tt), tt, (s, tt), (v ∷ [], tt)), tt) vunit tt (tt, tt) (tt, tt)) $ says-nothing ! $
       frame ! $ nothing ! $ move ! (1 ∷ 0 ∷ []) $ fjoin ! $ frame ! $ feqI ! (List Val) (vunit ∷ []) (vunit ∷ []) refl $ done !
 
-  module _ (𝓣 : Tables 𝓤 H) (known-start : Triple 𝓤 (𝓣 .C #audit·start) (Start 𝓤 H A mem run)) (known-next : Triple 𝓤 (𝓣 .C #audit·next) (Next 𝓤 H A mem run)) (known-print : Triple 𝓤 (𝓣 .C #test-check·print) (Print 𝓤 H A mem run)) where
+  module _ (𝓣 : Tables 𝓤 H) (known-start : Triple 𝓤 (𝓣 .C #walking·start) (Start 𝓤 H A mem run)) (known-next : Triple 𝓤 (𝓣 .C #walking·next) (Next 𝓤 H A mem run)) (known-print : Triple 𝓤 (𝓣 .C #test-check·print) (Print 𝓤 H A mem run)) where
     abbrev fm : FmC 𝓤 H (W .laws) (𝓣 .C)
     fm = fmOf 𝓤 H (W .laws) 𝓣
 
@@ -283,12 +283,12 @@ module _ {M : Type 1} (𝓤 : URA M) (H : Heap 𝓤) (A : Atoms 𝓤) (W : Given
         begun l₀ l₁ l₂ l₃ l₄ l₅ l₆ d u e)))))))))))
 
 module _ {M : Type 1} (𝓤 : URA M) (H : Heap 𝓤) (A : Atoms 𝓤) (W : Given 𝓤 H A) (mem : Memory → SProp 𝓤) (run : Routine → Fun 𝓤) (𝓣 : Tables 𝓤 H) where
-  walk-walks : Triple 𝓤 (𝓣 .C #audit·start) (Start 𝓤 H A mem run) → Triple 𝓤 (𝓣 .C #audit·next) (Next 𝓤 H A mem run) → Triple 𝓤 (𝓣 .C #test-check·print) (Print 𝓤 H A mem run)
+  walk-walks : Triple 𝓤 (𝓣 .C #walking·start) (Start 𝓤 H A mem run) → Triple 𝓤 (𝓣 .C #walking·next) (Next 𝓤 H A mem run) → Triple 𝓤 (𝓣 .C #test-check·print) (Print 𝓤 H A mem run)
       → Walks 𝓤 H A walk.ended stayed (WpFn 𝓤 H (𝓣 .C) (𝓣 .Λ) code.function) (walk.clauses 𝓤 H A mem run)
   walk-walks known-start known-next known-print = walked 𝓤 H A walk.ended stayed (walk.clauses 𝓤 H A mem run) (WpFn 𝓤 H (𝓣 .C) (𝓣 .Λ) code.function) (λ κs. (slice-vals, tt)) (λ κs. (shr-slice-tells (named 0) (κs .0) u8, tt))
       (λ κs qs bounds a g are. via 𝓤 _ (fst∗ 𝓤 _ (emp 𝓤)) (whole-walk 𝓤 H A W mem run (κs .0) (qs .0) (a .0) 𝓣 known-start known-next known-print (are .0)))
 
-  walk-meets-contract : Triple 𝓤 (𝓣 .C #audit·start) (Start 𝓤 H A mem run) → Triple 𝓤 (𝓣 .C #audit·next) (Next 𝓤 H A mem run) → Triple 𝓤 (𝓣 .C #test-check·print) (Print 𝓤 H A mem run)
+  walk-meets-contract : Triple 𝓤 (𝓣 .C #walking·start) (Start 𝓤 H A mem run) → Triple 𝓤 (𝓣 .C #walking·next) (Next 𝓤 H A mem run) → Triple 𝓤 (𝓣 .C #test-check·print) (Print 𝓤 H A mem run)
       → Meets 𝓤 H A walk.signature (WpFn 𝓤 H (𝓣 .C) (𝓣 .Λ) code.function) (walk.spec 𝓤 H A mem run)
   walk-meets-contract known-start known-next known-print = walk-meets 𝓤 H A walk.ended stayed W (goes-none-slice 𝓤 H A W 1 (0 ∷ []) tt (plain (λ _. u8)) yes, tt) (walk.clauses 𝓤 H A mem run) (WpFn 𝓤 H (𝓣 .C) (𝓣 .Λ) code.function) (WpFn-mono 𝓤 H (W .laws) 𝓣 code.function)
       (walk-walks known-start known-next known-print)
@@ -299,6 +299,6 @@ walk-spec 𝓤 H 𝓜 𝓖 𝓡 =
     entered 𝓤 H (tripleOf 𝓤 H (𝓖 .A) walk.signature (walk.spec 𝓤 H (𝓖 .A) (𝓜 .mem) (𝓡 .run)))
     (tables 𝓤 H 𝓜 𝓡 code.env .C) (tables 𝓤 H 𝓜 𝓡 code.env .Λ) #test-check·walk code.function (code.unfolded 𝓤 H 𝓜 𝓡)
     (walk-meets-contract 𝓤 H (𝓖 .A) (givenOf 𝓤 H 𝓜 𝓖) (𝓜 .mem) (𝓡 .run) (tablesOf 𝓤 H 𝓜 (tables 𝓤 H 𝓜 𝓡 code.env))
-    (cited 𝓤 H (Start 𝓤 H (𝓖 .A) (𝓜 .mem) (𝓡 .run)) 𝓜 𝓡 code.env #audit·start start-def.routine code.calls-audit·start (start-thm.met 𝓤 H 𝓜 𝓖 𝓡))
-    (cited 𝓤 H (Next 𝓤 H (𝓖 .A) (𝓜 .mem) (𝓡 .run)) 𝓜 𝓡 code.env #audit·next next-def.routine code.calls-audit·next (next-thm.met 𝓤 H 𝓜 𝓖 𝓡))
+    (cited 𝓤 H (Start 𝓤 H (𝓖 .A) (𝓜 .mem) (𝓡 .run)) 𝓜 𝓡 code.env #walking·start start-def.routine code.calls-walking·start (start-thm.met 𝓤 H 𝓜 𝓖 𝓡))
+    (cited 𝓤 H (Next 𝓤 H (𝓖 .A) (𝓜 .mem) (𝓡 .run)) 𝓜 𝓡 code.env #walking·next next-def.routine code.calls-walking·next (next-thm.met 𝓤 H 𝓜 𝓖 𝓡))
     (cited 𝓤 H (Print 𝓤 H (𝓖 .A) (𝓜 .mem) (𝓡 .run)) 𝓜 𝓡 code.env #test-check·print print-def.routine code.calls-test-check·walk·print (print-thm.met 𝓤 H 𝓜 𝓖 𝓡)))

@@ -1,0 +1,53 @@
+// The intervals that a job is open in: they lie between two of the bounds, which are found by halving.
+ghost use mathlib.Core.Path.{_≡_};
+ghost use Prim.Native.Nat.{_-_, _<_, _≤_};
+ghost use Rattle.model.specs.Limits.{maxJobs, maxIntervals};
+ghost use Rattle.energy.specs.Figures.{SmallBounds};
+ghost use Rattle.fitting.specs.TestedJobs.{SmallSets, EndsBy, withRange, withOpen};
+use model::MAX_BOUNDS;
+use model::MAX_INTERVALS;
+
+// Adds job j to the sets of the intervals that it is open in.
+pub(crate) fn add_open(
+    sets: &mut [u64; MAX_INTERVALS],
+    j: usize,
+    release: u64,
+    deadline: u64,
+    times: &[u64; MAX_BOUNDS],
+    bounds: usize,
+)
+    requires { ⌜ (j < maxJobs) × SmallBounds bounds (now times) × SmallSets j (now sets) ⌝ }
+    ensures { λ _. ⌜ now (sets .exit) ≡ withOpen (now (sets .entry)) j release deadline (now (times .entry)) (bounds - 1) ⌝ }
+{
+    let first = bound_number(times, bounds, release);
+    let end = ends_by(times, bounds, deadline);
+    add_range(sets, j, first, end);
+}
+
+// How many intervals end by a deadline.
+fn ends_by(times: &[u64; MAX_BOUNDS], bounds: usize, deadline: u64) -> usize
+    requires { ⌜ SmallBounds bounds (now times) ⌝ }
+    ensures { λ r. ⌜ EndsBy bounds (now (times .entry)) deadline r ⌝ }
+{
+    let before = bound_number(times, bounds, deadline);
+    if before == bounds {
+        return interval_count(before);
+    }
+    if times[before] == deadline {
+        return before;
+    }
+    interval_count(before)
+}
+
+// Adds job j to the sets of the intervals from `first` to before `end`.
+fn add_range(sets: &mut [u64; MAX_INTERVALS], j: usize, first: usize, end: usize)
+    requires { ⌜ (j < maxJobs) × (end ≤ maxIntervals) × SmallSets j (now sets) ⌝ }
+    ensures { λ _. ⌜ now (sets .exit) ≡ withRange (now (sets .entry)) j first end ⌝ }
+{
+    let bit = 1u64 << j;
+    let mut i = first;
+    while i < end {
+        sets[i] += bit;
+        i += 1;
+    }
+}
