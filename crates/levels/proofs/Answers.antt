@@ -17,6 +17,7 @@ use Rattle.model.specs.Bands.{Curve}
 use Rattle.model.specs.Processors.{workingOf, processorOf}
 use Rattle.model.specs.Setting.{settingOf, settingFor, setting}
 use Rattle.model.proofs.Points.{valid-points-rise}
+use Rattle.model.proofs.Sites.{valid-processor}
 use Rattle.model.proofs.Working.{working-curve, working-top}
 use Rattle.tables.specs.Tables.{levelsIn}
 use Rattle.tables.proofs.Read.{top-in, top-high}
@@ -65,10 +66,10 @@ module _ (count : ℕ) (frequencies voltages : List ℕ) (ticks load : ℕ) wher
       pub working-fits : (SmallPoints table × Curve (pointsOf table)) × ((ticks ≤ maxDeadline) × Fits (pointsOf table) ticks load)
       working-fits =
           let rising = valid-points-rise levels valid in
-          rw (working, working-held levels valid, working-top 0 levels rising)
-          ((working-small levels valid, working-curve _ rising), (few, top-fits))
+          rw (working, working-held (processorOf levels) (valid-processor levels valid), working-top 0 levels rising)
+          ((working-small (processorOf levels) (valid-processor levels valid), working-curve _ rising), (few, top-fits))
 
       pub settled : (result : SettingAnswer) → result ≡ answered (settingOf (pointsOf table) ticks load)
           → result ≡ settingAnswer (settingFor (processorOf levels) ticks load)
       settled result found =
-          found ∙ rw (working, working-held levels valid, le-leb 1 ticks some, le-leb ticks maxDeadline few, le-ltb _ _ top-fits)
+          found ∙ rw (working, working-held (processorOf levels) (valid-processor levels valid), le-leb 1 ticks some, le-leb ticks maxDeadline few, le-ltb _ _ top-fits)

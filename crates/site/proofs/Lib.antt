@@ -1,0 +1,2 @@
+-- Laws of reading a site, and of a site in arrays.
+pub mod ReadSites
