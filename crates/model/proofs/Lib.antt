@@ -34,6 +34,7 @@ pub mod PointNumbers
 pub mod PlansAreSchedules
 pub mod LeastEnergy
 pub mod Sites
+pub mod Hypotheses
 pub mod SiteLines
 pub mod Steps
 pub mod Faults

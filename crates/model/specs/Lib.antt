@@ -21,6 +21,7 @@ pub mod Prices
 pub mod Schedules
 pub mod CarriedOut
 pub mod LeastEnergy
+pub mod Hypotheses
 pub mod Steps
 pub mod PriceBytes
 pub mod Checking
