@@ -27,13 +27,6 @@ abbrev pub spareAnswer : Outcome ℤ → SpareAnswer
 spareAnswer (refused number place) = Refused number place
 spareAnswer (answer z) = Spare z
 
--- The spare once the levels were read: what `spare` of the crate model says after that.
-abbrev pub spareIn : (top : ℕ) → (jobBytes : List ℕ) → (start end : ℕ) → Outcome ℤ
-spareIn top jobBytes start end =
-    andThen (readJobs jobBytes) λ jobs.
-    refuseWhen (leb end start || ltb maxDeadline end) 27
-    (answer (spareOf top jobs start end))
-
 -- The earliest overfull window, or that the jobs fit.
 abbrev pub overfullAnswer : Option Window → Overfull
 overfullAnswer none = Fits
