@@ -27,8 +27,8 @@ use Rattle.tables.proofs.Column.{column-at}
 use Rattle.tables.proofs.Read.{length-jobsIn}
 use Rattle.levels.specs.declared.points.PointTable.{PointTable}
 use Rattle.levels.specs.PointTables.{pointsOf}
-use Rattle.windows.specs.Answers.{padded, HoldsTimes}
-use Rattle.windows.proofs.Padded.{take-padded, holds-first}
+use Rattle.intervals.specs.Times.{padded, HoldsTimes}
+use Rattle.intervals.proofs.Padded.{take-padded, holds-first}
 use Rattle.energy.specs.Figures.{SmallBounds, figureOfLoads}
 use Rattle.energy.proofs.Figures.{figure-of-plan, small-bounds}
 use Rattle.audit.specs.declared.Verdict.{Verdict}

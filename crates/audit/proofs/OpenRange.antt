@@ -18,7 +18,7 @@ use Rattle.model.proofs.Numbers.{lt-or-le, rises-between}
 use Rattle.model.proofs.Search.{FirstBelow, firstBelow-law}
 use Rattle.model.proofs.Entries.{getD-listOf, listOf-cong, listOf-getD}
 use Rattle.energy.specs.Figures.{SmallBounds}
-use Rattle.windows.specs.Answers.{RisingTimes}
+use Rattle.intervals.specs.Times.{RisingTimes}
 use Rattle.audit.specs.TestedJobs.{openBetween, EndsBy, withBits, withRange, withOpen}
 use Rattle.audit.proofs.Arrays.{store-holds}
 

@@ -22,7 +22,7 @@ use model::MAX_JOBS;
 use tables::Reading;
 use tables::read_jobs;
 use tables::read_levels;
-use windows::bounds_of;
+use intervals::bounds_of;
 
 // The energy figure of an accepted plan, or the refusal's number and place.
 pub enum CheckAnswer {

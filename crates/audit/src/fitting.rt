@@ -23,7 +23,7 @@ use model::MAX_BOUNDS;
 use model::MAX_INTERVALS;
 use model::MAX_JOBS;
 use tables::number16;
-use windows::interval_count;
+use intervals::interval_count;
 
 // The answer of the first half, with the loads of the intervals beside it: zeros past the last interval, and zeros
 // alone where the plan is refused.

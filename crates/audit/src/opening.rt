@@ -6,8 +6,8 @@ ghost use Rattle.energy.specs.Figures.{SmallBounds};
 ghost use Rattle.audit.specs.TestedJobs.{SmallSets, EndsBy, withRange, withOpen};
 use model::MAX_BOUNDS;
 use model::MAX_INTERVALS;
-use windows::bound_number;
-use windows::interval_count;
+use intervals::bound_number;
+use intervals::interval_count;
 
 // Adds job j to the sets of the intervals that it is open in.
 pub(crate) fn add_open(

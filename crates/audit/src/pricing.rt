@@ -25,7 +25,7 @@ use model::MAX_BOUNDS;
 use model::MAX_INTERVALS;
 use tables::number16;
 use tables::number32;
-use windows::interval_count;
+use intervals::interval_count;
 
 // Checks a price list against a plan that fits, with the open sets and the loads of its intervals.
 pub(crate) fn price(

@@ -29,8 +29,8 @@ use Rattle.model.proofs.Jobs.{jobs-valid}
 use Rattle.model.proofs.BoundsOf.{bounds-of, length-boundsOf, few-intervals}
 use Rattle.model.proofs.Accepted.{check-accepts, check-reads}
 use Rattle.levels.specs.PointTables.{workingRead}
-use Rattle.windows.specs.Answers.{padded}
-use Rattle.windows.proofs.Padded.{take-padded}
+use Rattle.intervals.specs.Times.{padded}
+use Rattle.intervals.proofs.Padded.{take-padded}
 use Rattle.energy.specs.Figures.{SmallBounds}
 use Rattle.energy.proofs.Figures.{small-bounds}
 use Rattle.writing.proofs.Joined.{joined-cong}

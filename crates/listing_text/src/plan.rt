@@ -19,7 +19,7 @@ use crate::lines::put_step;
 use model::MAX_BOUNDS;
 use tables::Reading;
 use tables::read_jobs;
-use windows::bounds_of;
+use intervals::bounds_of;
 
 // Puts the text of a plan that was written for two tables.
 pub(crate) fn put_plan(

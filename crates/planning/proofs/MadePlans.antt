@@ -19,8 +19,8 @@ use Rattle.model.specs.Prices.{PriceList, FittingPrices}
 use Rattle.model.proofs.BoundsOf.{bounds-of, length-boundsOf}
 use Rattle.tables.specs.Column.{columnOf}
 use Rattle.tables.proofs.Column.{column-at}
-use Rattle.windows.specs.Answers.{padded, HoldsTimes}
-use Rattle.windows.proofs.Padded.{take-padded}
+use Rattle.intervals.specs.Times.{padded, HoldsTimes}
+use Rattle.intervals.proofs.Padded.{take-padded}
 use Rattle.energy.specs.Figures.{SmallBounds, figureOfLoads}
 use Rattle.energy.proofs.Figures.{small-bounds}
 use Rattle.writing.specs.StepList.{stepsOf}

@@ -11,8 +11,8 @@ use Rattle.model.specs.Limits.{maxJobs, maxBounds}
 use Rattle.model.specs.Intervals.{boundsOf, intervalCount, openPairs}
 use Rattle.model.proofs.BoundsOf.{length-boundsOf}
 use Rattle.model.proofs.OpenSets.{open-pairs-few}
-use Rattle.windows.specs.Answers.{HoldsTimes}
-use Rattle.windows.proofs.Padded.{holds-first}
+use Rattle.intervals.specs.Times.{HoldsTimes}
+use Rattle.intervals.proofs.Padded.{holds-first}
 use Rattle.planning.specs.WantedRooms.{WantedRooms}
 
 module _ (jobs : List Job) (count : ℕ) (counted : length jobs ≡ count) (few : count ≤ maxJobs) (bounds : ℕ) (bounds-are : bounds ≡ length (boundsOf jobs)) where

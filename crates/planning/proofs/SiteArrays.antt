@@ -26,8 +26,8 @@ use Rattle.tables.proofs.Read.{length-jobsIn, job-in}
 use Rattle.levels.specs.declared.points.PointTable.{PointTable}
 use Rattle.levels.specs.PointTables.{pointsOf}
 use Rattle.levels.proofs.PointTables.{length-pointsOf}
-use Rattle.windows.specs.Answers.{HoldsTimes, RisingTimes}
-use Rattle.windows.proofs.Padded.{holds-rising}
+use Rattle.intervals.specs.Times.{HoldsTimes, RisingTimes}
+use Rattle.intervals.proofs.Padded.{holds-rising}
 use Rattle.planner.specs.declared.workload.Workload.{Workload}
 use Rattle.planner.specs.Placement.{SoundProblem}
 use Rattle.planner.specs.SiteProblem.{problemOf}

@@ -12,7 +12,7 @@ ghost use Rattle.model.specs.Demands.{LongEnough};
 ghost use Rattle.tables.specs.Column.{columnOf};
 ghost use Rattle.tables.specs.Tables.{jobsIn};
 ghost use Rattle.levels.specs.PointTables.{pointsOf};
-ghost use Rattle.windows.specs.Answers.{HoldsTimes};
+ghost use Rattle.intervals.specs.Times.{HoldsTimes};
 ghost use Rattle.planning.specs.Workloads.{PaddedCycles, WorkingTable};
 ghost use Rattle.planning.specs.MadePlans.{MadePlan};
 use crate::workload::workload_of;

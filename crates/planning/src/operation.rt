@@ -20,7 +20,7 @@ use tables::Reading;
 use tables::read_jobs;
 use tables::read_levels;
 use windows::Overfull;
-use windows::bounds_of;
+use intervals::bounds_of;
 use windows::earliest_overfull;
 use windows::window_spare;
 

@@ -4,12 +4,12 @@ ghost use Prim.Native.Nat.{ℕ, _≤_};
 ghost use Rattle.model.specs.Limits.{maxJobs};
 ghost use Rattle.model.specs.Intervals.{boundsOf};
 ghost use Rattle.tables.specs.Tables.{jobsIn};
-ghost use Rattle.windows.specs.Answers.{HoldsTimes};
+ghost use Rattle.intervals.specs.Times.{HoldsTimes};
 ghost use Rattle.planning.specs.WantedRooms.{WantedRooms};
 use model::MAX_BOUNDS;
 use model::MAX_JOBS;
-use windows::interval_count;
-use windows::open_pairs;
+use intervals::interval_count;
+use intervals::open_pairs;
 
 // The lengths wanted: bytes of the plan and of the prices, and shares.
 pub struct Rooms {

@@ -8,15 +8,15 @@ ghost use Rattle.model.specs.Intervals.{boundsOf};
 ghost use Rattle.tables.specs.Column.{columnOf};
 ghost use Rattle.tables.specs.Tables.{jobsIn};
 ghost use Rattle.levels.specs.PointTables.{pointsOf};
-ghost use Rattle.windows.specs.Answers.{HoldsTimes, RisingTimes};
+ghost use Rattle.intervals.specs.Times.{HoldsTimes, RisingTimes};
 ghost use Rattle.planning.specs.Workloads.{numberOf, PaddedCycles, WorkingTable, SiteWorkload};
 use levels::PointTable;
 use model::MAX_BOUNDS;
 use model::MAX_INTERVALS;
 use model::MAX_JOBS;
 use planner::Workload;
-use windows::bound_number;
-use windows::interval_count;
+use intervals::bound_number;
+use intervals::interval_count;
 
 // The jobs in the intervals between their bounds, at the working points.
 pub(crate) fn workload_of(

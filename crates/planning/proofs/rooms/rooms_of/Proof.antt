@@ -5,7 +5,7 @@ use Prim.Native.Nat.{_*_, _≤_}
 use native.Mathlib.Omega.{arith}
 use borrow.Author.Needs.{needs}
 use Rattle.tables.proofs.Read.{length-jobsIn}
-use Rattle.windows.proofs.Padded.{holds-length}
+use Rattle.intervals.proofs.Padded.{holds-length}
 use Rattle.planning.proofs.RoomSizes.{bounds-most, pairs-are, pairs-few, wanted-rooms}
 use Rattle.planning.proofs.rooms.rooms_of.Statement.{statement}
 use Rattle.planning.proofs.rooms.rooms_of.Tie as tie

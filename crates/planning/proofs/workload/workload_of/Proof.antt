@@ -8,7 +8,7 @@ use denote.Ref.{now}
 use borrow.Author.Needs.{needs}
 use Rattle.model.specs.Limits.{maxJobs, maxBounds}
 use Rattle.levels.proofs.PointTables.{length-pointsOf}
-use Rattle.windows.specs.Answers.{RisingTimes}
+use Rattle.intervals.specs.Times.{RisingTimes}
 use Rattle.planning.proofs.SiteArrays.{jobs-few, bounds-few, times-rise, site-workload}
 use Rattle.planning.proofs.workload.workload_of.Statement.{statement}
 use Rattle.planning.proofs.workload.workload_of.Tie as tie

@@ -9,7 +9,7 @@ use native.Mathlib.Omega.{arith}
 use Rattle.model.specs.Sum.{onlyIf}
 use Rattle.model.proofs.OpenSets.{bit-shifted, bit-room, bits-below}
 use Rattle.windows.specs.Answers.{isRepeated, unrepeatedSet}
-use Rattle.windows.proofs.Loops.{sum-none, sum-more}
+use Rattle.model.proofs.Sum.{sum-none, sum-more}
 use Rattle.windows.proofs.overfull.unrepeated.Statement.{statement}
 use Rattle.windows.proofs.overfull.unrepeated.Tie as tie
 

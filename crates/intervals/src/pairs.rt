@@ -10,7 +10,7 @@ ghost use Rattle.model.specs.Limits.{maxJobs, maxBounds};
 ghost use Rattle.model.specs.Sum.{onlyIf};
 ghost use Rattle.model.specs.Intervals.{openPairs};
 ghost use Rattle.tables.specs.Tables.{jobsIn};
-ghost use Rattle.windows.specs.Answers.{setBetween};
+ghost use Rattle.intervals.specs.OpenSets.{setBetween};
 use model::MAX_BOUNDS;
 use model::MAX_JOBS;
 

@@ -13,10 +13,10 @@ use Rattle.model.specs.Sum.{sum}
 use Rattle.model.specs.Intervals.{intervalCount, isOpen, openSet, openCount, openPairs}
 use Rattle.model.proofs.OpenSets.{open-set-ones}
 use Rattle.tables.specs.Tables.{jobsIn}
-use Rattle.windows.specs.Answers.{setBetween}
-use Rattle.windows.proofs.Loops.{sum-none, sum-more, sum-whole}
-use Rattle.windows.proofs.intervals.open_pairs.Statement.{statement}
-use Rattle.windows.proofs.intervals.open_pairs.Tie as tie
+use Rattle.intervals.specs.OpenSets.{setBetween}
+use Rattle.model.proofs.Sum.{sum-none, sum-more, sum-whole}
+use Rattle.intervals.proofs.pairs.open_pairs.Statement.{statement}
+use Rattle.intervals.proofs.pairs.open_pairs.Tie as tie
 
 module _ (bounds : ℕ) (times : List ℕ) (jobs : List Job) where
   -- the set between two neighbouring bounds is the interval's open set

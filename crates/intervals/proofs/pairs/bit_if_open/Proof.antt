@@ -5,8 +5,8 @@ use native.Mathlib.Omega.{arith}
 use borrow.Author.Needs.{needs}
 use borrow.Author.Tests.{lt-leb, le-leb}
 use Rattle.model.proofs.OpenSets.{bit-shifted}
-use Rattle.windows.proofs.intervals.bit_if_open.Statement.{statement}
-use Rattle.windows.proofs.intervals.bit_if_open.Tie as tie
+use Rattle.intervals.proofs.pairs.bit_if_open.Statement.{statement}
+use Rattle.intervals.proofs.pairs.bit_if_open.Tie as tie
 
 returns : tie.Need-returns
 returns c = (rw (lt-leb _ _ (c .if1 .taken)), omega arith)

@@ -15,9 +15,9 @@ use Rattle.model.specs.Sum.{sum, onlyIf}
 use Rattle.model.specs.Jobs.{jobOf}
 use Rattle.tables.specs.Tables.{jobsIn}
 use Rattle.tables.proofs.Read.{length-jobsIn, job-in}
-use Rattle.windows.proofs.Loops.{sum-none, sum-more, sum-whole}
-use Rattle.windows.proofs.intervals.open_set.Statement.{statement}
-use Rattle.windows.proofs.intervals.open_set.Tie as tie
+use Rattle.model.proofs.Sum.{sum-none, sum-more, sum-whole}
+use Rattle.intervals.proofs.pairs.open_set.Statement.{statement}
+use Rattle.intervals.proofs.pairs.open_set.Tie as tie
 
 -- bit j where a job is open from start to end, otherwise 0
 abbrev bitOf : (start end : ℕ) → Job → (j : ℕ) → ℕ

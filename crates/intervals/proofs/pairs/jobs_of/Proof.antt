@@ -3,8 +3,8 @@ use mathlib.Core.Path.{refl}
 use Prim.Native.Nat.{_≤_}
 use native.Mathlib.Omega.{arith}
 use lib.Count.{ones, ones-le}
-use Rattle.windows.proofs.intervals.jobs_of.Statement.{statement}
-use Rattle.windows.proofs.intervals.jobs_of.Tie as tie
+use Rattle.intervals.proofs.pairs.jobs_of.Statement.{statement}
+use Rattle.intervals.proofs.pairs.jobs_of.Tie as tie
 
 few : (c : tie.Start) → ones (c .args .set) ≤ 64
 few c = ones-le 64 (c .args .set) (c .fits .set .fits)

@@ -1,0 +1,4 @@
+-- Laws for the proofs of the functions.
+pub mod Inserted
+pub mod Padded
+pub mod Halving
