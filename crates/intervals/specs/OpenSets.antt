@@ -1,14 +1,12 @@
--- The set of the jobs that are open in an interval, bit number equal to job number.
-use Prim.Native.Nat.{ℕ, _^_}
+-- The set of the jobs that are open in an interval.
+use Prim.Native.Nat.{ℕ}
 use mathlib.Core.Bool.{_&&_}
 use mathlib.Core.List.{List}
-use lib.ListN.{length}
+use lib.ListN.{getD}
 use lib.Dec.{leb}
-use Rattle.model.specs.declared.Job.{Job}
-use Rattle.model.specs.Sum.{sum, onlyIf}
-use Rattle.model.specs.Jobs.{jobOf}
+use Rattle.job_sets.specs.declared.JobSet.{JobSet}
+use Rattle.job_sets.specs.JobSets.{setBelow}
 
--- The set of the jobs that are open from start to end.
-abbrev pub setBetween : (start end : ℕ) → List Job → ℕ
-setBetween start end jobs =
-    sum (length jobs) (λ j. onlyIf (leb (jobOf jobs j .release) start && leb end (jobOf jobs j .deadline)) (2 ^ j))
+-- The set of the first `count` jobs, by their times in arrays, that are open from start to end.
+abbrev pub setBetween : (start end count : ℕ) → (releases deadlines : List ℕ) → JobSet
+setBetween start end count releases deadlines = setBelow count (λ j. leb (getD releases j 0) start && leb end (getD deadlines j 0))

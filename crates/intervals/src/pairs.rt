@@ -1,16 +1,15 @@
-// Open sets: the jobs open in an interval, as a word; and K, the ones of all of them.
+// Open sets: the jobs open in an interval; and K, the number of the jobs of all of them.
 ghost use mathlib.Core.Path.{_≡_};
 ghost use mathlib.Core.Bool.{_&&_};
 ghost use mathlib.Core.List.{List};
-ghost use Prim.Native.Nat.{ℕ, _^_, _<_, _≤_};
+ghost use Prim.Native.Nat.{ℕ, _≤_};
 ghost use lib.ListN.{length, take};
 ghost use lib.Dec.{leb};
-ghost use lib.Count.{ones};
 ghost use Rattle.model.specs.Limits.{maxJobs, maxBounds};
-ghost use Rattle.model.specs.Sum.{onlyIf};
 ghost use Rattle.model.specs.Intervals.{openPairs};
 ghost use Rattle.tables.specs.Tables.{jobsIn};
 ghost use Rattle.intervals.specs.OpenSets.{setBetween};
+use job_sets::JobSet;
 use model::MAX_BOUNDS;
 use model::MAX_JOBS;
 
@@ -29,7 +28,7 @@ pub fn open_pairs(
     let mut i = 0;
     while i + 1 < bounds {
         let set = open_set(releases, deadlines, count, times[i], times[i + 1]);
-        pairs += jobs_of(set);
+        pairs += job_sets::count(set);
         i += 1;
     }
     pairs
@@ -42,36 +41,27 @@ fn open_set(
     count: usize,
     start: u64,
     end: u64,
-) -> u64
+) -> JobSet
     requires { ⌜ count ≤ maxJobs ⌝ }
-    ensures { λ r. ⌜ ((cycles : List ℕ) → r ≡ setBetween start end (jobsIn count (now (releases .entry)) (now (deadlines .entry)) cycles)) ⌝ }
+    ensures { λ r. ⌜ r ≡ setBetween start end count (now (releases .entry)) (now (deadlines .entry)) ⌝ }
 {
-    let mut set = 0;
+    let mut set = job_sets::none();
     let mut j = 0;
     while j < count {
-        set += bit_if_open(releases[j], deadlines[j], j, start, end);
+        if is_open(releases[j], deadlines[j], start, end) {
+            set = job_sets::with(set, j);
+        }
         j += 1;
     }
     set
 }
 
-// Bit j where a job is open from start to end, otherwise 0.
-fn bit_if_open(release: u64, deadline: u64, j: usize, start: u64, end: u64) -> u64
-    requires { ⌜ j < 64 ⌝ }
-    ensures { λ r. ⌜ (r ≡ onlyIf (leb release start && leb end deadline) (2 ^ j)) × (r ≤ 2 ^ j) ⌝ }
+// Whether a job is open from start to end.
+fn is_open(release: u64, deadline: u64, start: u64, end: u64) -> bool
+    ensures { λ r. ⌜ r ≡ (leb release start && leb end deadline) ⌝ }
 {
     if release > start {
-        return 0;
+        return false;
     }
-    if end > deadline {
-        return 0;
-    }
-    1u64 << j
-}
-
-// How many jobs a set has.
-fn jobs_of(set: u64) -> usize
-    ensures { λ r. ⌜ (r ≡ ones set) × (r ≤ 64) ⌝ }
-{
-    u64::count_ones(set) as usize
+    end <= deadline
 }

@@ -1,20 +1,19 @@
 -- The answers of this crate: the paper's number and values for each case of an enum, and lists in plain arrays.
-use Prim.Native.Nat.{ℕ, suc, _^_, _<_, _≤_, min}
-use mathlib.Core.Path.{_≡_}
+use Prim.Native.Nat.{ℕ, min}
 use mathlib.Core.Bool.{Bool, not, _&&_, _||_}
-use mathlib.Core.List.{List, _∷_, _++_}
+use mathlib.Core.List.{List}
 use mathlib.Core.Option.{Option, none, some}
-use lib.ListN.{length, getD, take, drop}
+use lib.ListN.{length, getD}
 use lib.IntN.{ℤ}
 use lib.Dec.{ltb, leb, eqb}
 use Rattle.model.specs.declared.Job.{Job}
-use Rattle.model.specs.Limits.{maxDeadline, maxBounds}
+use Rattle.model.specs.Limits.{maxDeadline}
 use Rattle.model.specs.Outcome.{Outcome, refused, answer, refuseWhen, andThen}
-use Rattle.model.specs.Sum.{sum, onlyIf}
 use Rattle.model.specs.Search.{someBelow}
 use Rattle.model.specs.Jobs.{jobOf, readJobs}
 use Rattle.model.specs.Windows.{Window, spareOf, overfullTo}
-use Rattle.tables.specs.Column.{columnOf}
+use Rattle.job_sets.specs.declared.JobSet.{JobSet}
+use Rattle.job_sets.specs.JobSets.{setBelow}
 use Rattle.windows.specs.declared.window.SpareAnswer.{SpareAnswer}
 use Rattle.windows.specs.declared.window.SpareAnswer.the-variants.{Spare, Refused}
 use Rattle.windows.specs.declared.overfull.Overfull.{Overfull}
@@ -48,9 +47,9 @@ isRepeated numbers j = someBelow j (λ i. eqb (getD numbers i 0) (getD numbers j
 abbrev pub unlessRepeated : (numbers : List ℕ) → (test : ℕ → Bool) → (j : ℕ) → Bool
 unlessRepeated numbers test j = not (isRepeated numbers j) && test j
 
--- The jobs whose number no earlier job has, bit number equal to job number.
-abbrev pub unrepeatedSet : (count : ℕ) → (numbers : List ℕ) → ℕ
-unrepeatedSet count numbers = sum count (λ j. onlyIf (not (isRepeated numbers j)) (2 ^ j))
+-- The jobs whose number no earlier job has.
+abbrev pub unrepeatedSet : (count : ℕ) → (numbers : List ℕ) → JobSet
+unrepeatedSet count numbers = setBelow count (λ j. not (isRepeated numbers j))
 
 -- Some window from the release of job j is overfull.
 abbrev pub startsOverfull : (top : ℕ) → List Job → (j : ℕ) → Bool

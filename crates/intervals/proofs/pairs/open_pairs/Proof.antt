@@ -1,38 +1,42 @@
--- `intervals::open_pairs` meets its contract. The loop's invariant: the pairs are the ones of the open sets passed, at most
--- 64 each. Assumes nothing.
-use mathlib.Core.Path.{_≡_, sym, _∙_, ap, ap₂}
+-- `pairs::open_pairs` meets its contract. The loop's invariant: the pairs are the jobs of the open sets passed, at most
+-- maxJobs each. Assumes nothing.
+use mathlib.Core.Path.{_≡_, _∙_, ap}
+use mathlib.Core.Bool.{_&&_}
 use mathlib.Core.List.{List}
 use Prim.Native.Nat.{ℕ, suc, _+_, _-_, _*_, _≤_, _<_}
 use native.Mathlib.Numerals.{add-one}
 use native.Mathlib.Omega.{arith}
-use lib.Count.{ones}
+use lib.Dec.{leb}
 use lib.ListN.{length, getD, take}
 use lib.Seq.{getD-take, length-take-le}
 use Rattle.model.specs.declared.Job.{Job}
+use Rattle.model.specs.Limits.{maxJobs}
 use Rattle.model.specs.Sum.{sum}
-use Rattle.model.specs.Intervals.{intervalCount, isOpen, openSet, openCount, openPairs}
-use Rattle.model.proofs.OpenSets.{open-set-ones}
+use Rattle.model.specs.Intervals.{intervalCount, isOpen, openCount, openPairs}
+use Rattle.job_sets.specs.declared.JobSet.{JobSet}
+use Rattle.job_sets.specs.JobSets.{memberCount}
+use Rattle.job_sets.proofs.JobSets.{count-most, below-count}
 use Rattle.tables.specs.Tables.{jobsIn}
+use Rattle.tables.proofs.Read.{length-jobsIn, job-in}
 use Rattle.intervals.specs.OpenSets.{setBetween}
-use Rattle.model.proofs.Sum.{sum-none, sum-more, sum-whole}
+use Rattle.model.proofs.Sum.{sum-cong, sum-none, sum-more, sum-whole}
 use Rattle.intervals.proofs.pairs.open_pairs.Statement.{statement}
 use Rattle.intervals.proofs.pairs.open_pairs.Tie as tie
 
-module _ (bounds : ℕ) (times : List ℕ) (jobs : List Job) where
-  -- the set between two neighbouring bounds is the interval's open set
-  set-open : (i set : ℕ) → i + 1 < bounds → set ≡ setBetween (getD times i 0) (getD times (i + 1) 0) jobs → set ≡ openSet (take bounds times) jobs i
-  unfolding openSet isOpen
-  set-open i set within found =
-      let start : getD times i 0 ≡ getD (take bounds times) i 0 = sym (getD-take bounds times i 0 (omega arith)) in
-      let end : getD times (i + 1) 0 ≡ getD (take bounds times) (suc i) 0 =
-      ap (λ (n : ℕ). getD times n 0) (add-one i) ∙ sym (getD-take bounds times (suc i) 0 (omega arith)) in
-      found ∙ ap₂ (λ (a b : ℕ). setBetween a b jobs) start end
+module _ (count : ℕ) (releases deadlines cycles times : List ℕ) (bounds : ℕ) where
+  abbrev jobs : List Job
+  jobs = jobsIn count releases deadlines cycles
 
-  -- its ones are the jobs that are open there
-  ones-open : (i set number : ℕ) → i + 1 < bounds → set ≡ setBetween (getD times i 0) (getD times (i + 1) 0) jobs → number ≡ ones set
+  -- the jobs of the set between two neighbouring bounds are those that are open there
+  count-open : (i number : ℕ) (set : JobSet) → count ≤ maxJobs → i + 1 < bounds
+      → set ≡ setBetween (getD times i 0) (getD times (i + 1) 0) count releases deadlines → number ≡ memberCount set
       → number ≡ openCount (take bounds times) jobs i
-  ones-open i set number within found counted =
-      counted ∙ (ap ones (set-open i set within found) ∙ open-set-ones (take bounds times) jobs i)
+  unfolding openCount isOpen
+  count-open i number set most within found counted =
+      counted ∙ ap memberCount found ∙ below-count (λ j. leb (getD releases j 0) (getD times i 0) && leb (getD times (i + 1) 0) (getD deadlines j 0)) count most
+      ∙ rw (length-jobsIn count releases deadlines cycles)
+      (sum-cong count (λ j below.
+      rw (add-one i, job-in count releases deadlines cycles j below, getD-take bounds times i 0 (omega arith), getD-take bounds times (suc i) 0 (omega arith))))
 
   -- after the last interval
   pairs-whole : (i pairs : ℕ) → bounds ≤ length times → i ≤ bounds - 1 → bounds ≤ i + 1
@@ -45,7 +49,7 @@ module _ (bounds : ℕ) (times : List ℕ) (jobs : List Job) where
 abbrev Inv-loop : tie.InvT-loop
 Inv-loop times bounds releases deadlines count pairs₀ i₀ pairs i =
     (i ≤ bounds - 1)
-    × (pairs ≤ 64 * i)
+    × (pairs ≤ maxJobs * i)
     × ((cycles : List ℕ) → pairs ≡ sum i (openCount (take bounds times) (jobsIn count releases deadlines cycles)))
 
 abbrev μ-loop : tie.MeasureT-loop
@@ -75,11 +79,11 @@ element-copy-out-open-set-2 c = omega arith
 open-set-requires : tie.Need-open-set-requires Inv-loop μ-loop
 open-set-requires c κs = omega arith
 
-jobs-of-requires : tie.Need-jobs-of-requires Inv-loop μ-loop
-jobs-of-requires c κs = tt
+count-requires : tie.Need-count-requires Inv-loop μ-loop
+count-requires c κs = tt
 
 add-pairs : tie.Need-add-pairs Inv-loop μ-loop
-add-pairs c = omega arith
+add-pairs c = omega (arith, count-most (c .before .open-set .result), c .count .ensures)
 
 add-i : tie.Need-add-i Inv-loop μ-loop
 add-i c = omega arith
@@ -93,16 +97,16 @@ loop-again c =
     let start = turn .before .before in
     let within : turn .before .loop .i + 1 < start .args .bounds = omega arith in (
       omega arith,
-      omega (arith, c .jobs-of .ensures .1),
+      omega (arith, count-most (c .before .open-set .result), c .count .ensures),
       λ cycles. sum-more _ _ _ _ (turn .before .loop .inv .2 cycles)
-          (ones-open (start .args .bounds) _ _ _ _ _ within (c .before .open-set .ensures cycles) (c .jobs-of .ensures .0)),
+          (count-open _ _ _ cycles _ (start .args .bounds) _ _ _ (start .pre .2) within (c .before .open-set .ensures) (c .count .ensures)),
     )
 
 returns : tie.Need-returns Inv-loop μ-loop
 returns c =
     let inv = c .before .loop .inv in
     let start = c .before .before in
-    λ cycles. pairs-whole (start .args .bounds) _ _ _ _ (omega arith) (inv .0) (omega arith) (inv .2 cycles)
+    λ cycles. pairs-whole _ _ _ cycles _ (start .args .bounds) _ _ (omega arith) (inv .0) (omega arith) (inv .2 cycles)
 
 pub open-pairs-spec : {M : Type 1} → statement M
 open-pairs-spec =
@@ -118,7 +122,7 @@ open-pairs-spec =
     mul-open-set-2
     element-copy-out-open-set-2
     open-set-requires
-    jobs-of-requires
+    count-requires
     add-pairs
     add-i
     loop-less
