@@ -12,10 +12,12 @@ use borrow.Author.Tests.{le-leb}
 use Rattle.model.specs.Sum.{sum, onlyIf}
 use Rattle.model.specs.Plans.{Shares}
 use Rattle.model.proofs.Sum.{sum-mono, sum-strict, sum-swap, sum-mul-right, sum-split, sum-pos}
-use Rattle.planner.specs.Placement.{Problem, SoundProblem, loadOf, placedOf, Placing, Reached, Scanned}
-use Rattle.planner.specs.RangesFit.{isWithin, RangesFit}
-use Rattle.planner.proofs.BandOrder.{placed-most}
-use Rattle.planner.proofs.RaisedPrices.{window-closed}
+use Rattle.workloads.specs.Placement.{Problem, SoundProblem, loadOf, placedOf}
+use Rattle.workloads.specs.RangesFit.{isWithin, RangesFit}
+use Rattle.searching.specs.Reached.{Reached, Scanned}
+use Rattle.paths.specs.Placing.{Placing}
+use Rattle.paths.proofs.Placing.{placed-most}
+use Rattle.planner.proofs.ClosedRange.{window-closed}
 
 -- part of a sum
 sum-part : (n start end : ℕ) (f : ℕ → ℕ) → start ≤ end → end ≤ n → sum (end - start) (λ d. f (start + d)) ≤ sum n f

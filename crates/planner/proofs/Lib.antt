@@ -1,26 +1,5 @@
 -- Laws for the proofs of the functions.
-pub mod Words
 pub mod BandOrder
-pub mod Listing
-pub mod ReachedRange
-pub mod ReachedPrices
-pub mod GrownShares
-pub mod HeldJobs
-pub mod PathLimit
-pub mod PathSteps
-pub mod RaisedPrices
+pub mod ClosedRange
 pub mod FullRange
-pub mod SiteProblem
-pub mod SharesTable
-pub mod Capacity
-pub mod StoredPrices
-pub mod PriceRanges
-pub mod RisingPrices
-pub mod RisePasses
-pub mod SitePrices
-pub mod WalkSteps
-pub mod MoveSteps
-pub mod FillSteps
-pub mod ScanSteps
-pub mod SearchSteps
 pub mod PlaceSteps

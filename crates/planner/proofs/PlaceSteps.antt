@@ -11,20 +11,24 @@ use lib.Seq.{getD-set-same, getD-set-other}
 use Rattle.model.specs.Limits.{maxJobs, maxDeadline, maxFrequency, maxIntervals}
 use Rattle.model.specs.Plans.{sharesIn}
 use Rattle.model.proofs.Sum.{sum-zero}
-use Rattle.planner.specs.declared.workload.Workload.{Workload}
-use Rattle.planner.specs.Placement.{Raised, Open}
-use Rattle.planner.specs.Arrays.{numbersIn, problemIn, SoundWorkload, KeptPast}
-use Rattle.planner.specs.Reaching.{SearchState, onlyJob, Reaching, HasRoom, ToSearch, Searched}
-use Rattle.planner.specs.PlacedTables.{PlacedTables, FillingTables, PlacingTables, CanFill, Filled}
+use Rattle.workloads.specs.declared.Workload.{Workload}
+use Rattle.workloads.specs.Placement.{Open}
+use Rattle.workloads.specs.Arrays.{numbersIn, problemIn, SoundWorkload, KeptPast}
+use Rattle.workloads.proofs.Capacity.{capacity-most}
+use Rattle.workloads.proofs.SharesTable.{place-below, kept-refl, kept-trans}
+use Rattle.workloads.proofs.StoredNumbers.{zeros}
+use Rattle.searching.specs.Reaching.{SearchState, onlyJob, Reaching, HasRoom, ToSearch, Searched}
+use Rattle.searching.proofs.ScanSteps.{reaching-start}
+use Rattle.searching.proofs.SearchSteps.{withTarget, reaching-target, search-room}
+use Rattle.paths.specs.FilledTargets.{CanFill, Filled}
+use Rattle.paths.proofs.HeldJobs.{holding-start}
+use Rattle.prices.specs.RisingPrices.{Raised}
+use Rattle.prices.proofs.RaisedPrices.{raised-up}
+use Rattle.planner.specs.PlacedTables.{PlacedTables, FillingTables, PlacingTables}
 use Rattle.planner.specs.BandPasses.{CanMoveJob, JobMoved, CanRaise}
 use Rattle.planner.proofs.BandOrder.{filling-none, placing-start, filling-passed, filling-next, filling-end, filling-turn, placing-lower}
-use Rattle.planner.proofs.RaisedPrices.{raised-up, placing-raised}
+use Rattle.planner.proofs.ClosedRange.{placing-raised}
 use Rattle.planner.proofs.FullRange.{range-order, next-band}
-use Rattle.planner.proofs.HeldJobs.{holding-start}
-use Rattle.planner.proofs.Capacity.{capacity-most}
-use Rattle.planner.proofs.ScanSteps.{reaching-start}
-use Rattle.planner.proofs.SearchSteps.{withTarget, reaching-target, search-room}
-use Rattle.planner.proofs.SharesTable.{place-below, kept-refl, kept-trans, zeros}
 
 -- nothing is placed
 pub tables-start : {work : Workload} → SoundWorkload work → length (work .cycles) ≡ maxJobs → (table : List ℕ)

@@ -5,10 +5,10 @@ use mathlib.Core.Path.{_≡_}
 use mathlib.Core.List.{List}
 use lib.ListN.{length}
 use Rattle.model.specs.Limits.{maxIntervals}
-use Rattle.planner.specs.declared.workload.Workload.{Workload}
-use Rattle.planner.specs.Placement.{Open}
-use Rattle.planner.specs.RangesFit.{RangesFit}
-use Rattle.planner.specs.Arrays.{numbersIn, problemIn, lentSizes, KeptPast}
+use Rattle.workloads.specs.declared.Workload.{Workload}
+use Rattle.workloads.specs.Placement.{Open}
+use Rattle.workloads.specs.RangesFit.{RangesFit}
+use Rattle.workloads.specs.Arrays.{numbersIn, problemIn, lentSizes, KeptPast}
 use Rattle.planner.specs.PlacedTables.{FillingTables, PlacingTables}
 
 -- A job is being placed, with some prices.

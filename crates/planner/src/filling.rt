@@ -3,12 +3,12 @@ ghost use mathlib.Core.Path.{_≡_};
 ghost use Prim.Native.Nat.{_<_, _≤_};
 ghost use lib.ListN.{length};
 ghost use Rattle.model.specs.Limits.{maxJobs};
-ghost use Rattle.planner.specs.Arrays.{numbersIn};
+ghost use Rattle.workloads.specs.Arrays.{numbersIn};
 ghost use Rattle.planner.specs.BandPasses.{SizesPlace, SizesPlaced, SizesPass, SizesPassed};
-use crate::path::fill;
-use crate::search::only;
 use model::MAX_INTERVALS;
 use model::MAX_JOBS;
+use paths::fill;
+use searching::only;
 
 // Fills the window of a job with what is left of it.
 pub(crate) fn fill_job(

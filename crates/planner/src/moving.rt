@@ -1,12 +1,12 @@
 // Placing what is left of a job along paths, at a band.
 ghost use Prim.Native.Nat.{_+_, _<_};
 ghost use Rattle.planner.specs.BandPasses.{SizesMove, SizesMoved, SizesRaise, SizesRaised};
-use crate::path::fill;
-use crate::prices::is_below;
-use crate::prices::raise;
-use crate::search::search;
 use model::MAX_INTERVALS;
 use model::MAX_JOBS;
+use paths::fill;
+use prices::is_below;
+use prices::raise;
+use searching::search;
 
 // Places what is left of a job, where a price of its window is not above the band.
 pub(crate) fn move_job(

@@ -28,10 +28,10 @@ use Rattle.writing.specs.PriceListBytes.{encodePrices}
 use Rattle.writing.proofs.WrittenPlan.{planOf, few-steps}
 use Rattle.writing.proofs.WrittenPrices.{length-price-list}
 use Rattle.writing.proofs.EncodedPlan.{length-plan}
-use Rattle.planner.specs.declared.workload.Workload.{Workload}
-use Rattle.planner.specs.Arrays.{numbersIn, problemIn, KeptPast}
+use Rattle.workloads.specs.declared.Workload.{Workload}
+use Rattle.workloads.specs.Arrays.{numbersIn, problemIn, KeptPast}
+use Rattle.workloads.specs.Placement.{SmallestPriced}
 use Rattle.planner.specs.PlacedTables.{PlacedTables}
-use Rattle.planner.specs.RisingPrices.{SmallestPriced}
 use Rattle.planning.specs.Workloads.{SiteWorkload}
 use Rattle.planning.specs.MadePlans.{MadePlan}
 use Rattle.planning.proofs.Placeable.{jobs-counted, intervals-counted, workload-gives, smallest-prices-fit, smallest-prices-least}

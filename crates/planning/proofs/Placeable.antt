@@ -16,15 +16,15 @@ use Rattle.model.specs.Plans.{Shares, Gives, sharesIn}
 use Rattle.model.specs.Prices.{PriceList, FittingPrices}
 use Rattle.model.proofs.BoundsOf.{bounds-of}
 use Rattle.model.proofs.Windows.{earliestOverfull-none}
-use Rattle.planner.specs.declared.workload.Workload.{Workload}
-use Rattle.planner.specs.Placement.{Problem, Placed}
-use Rattle.planner.specs.RangesFit.{RangesFit}
-use Rattle.planner.specs.SiteProblem.{problemOf}
-use Rattle.planner.specs.Arrays.{numbersIn, problemIn}
+use Rattle.workloads.specs.declared.Workload.{Workload}
+use Rattle.workloads.specs.Placement.{Problem, Placed, SmallestPriced}
+use Rattle.workloads.specs.RangesFit.{RangesFit}
+use Rattle.workloads.specs.SiteProblem.{problemOf}
+use Rattle.workloads.specs.Arrays.{numbersIn, problemIn}
+use Rattle.workloads.proofs.SiteProblem.{priced-fit, placed-gives}
+use Rattle.workloads.proofs.SitePrices.{ranges-fit, smallest-fit, smallest-least}
+use Rattle.prices.specs.RisingPrices.{CanPrice}
 use Rattle.planner.specs.PlacedTables.{PlacedTables}
-use Rattle.planner.specs.RisingPrices.{SmallestPriced, CanPrice}
-use Rattle.planner.proofs.SiteProblem.{priced-fit, placed-gives}
-use Rattle.planner.proofs.SitePrices.{ranges-fit, smallest-fit, smallest-least}
 use Rattle.planning.specs.Workloads.{SiteWorkload}
 
 module _ {ws : List Point} {jobs : List Job} {work : Workload}

@@ -28,12 +28,12 @@ use Rattle.levels.specs.PointTables.{pointsOf}
 use Rattle.levels.proofs.PointTables.{length-pointsOf}
 use Rattle.intervals.specs.Times.{HoldsTimes, RisingTimes}
 use Rattle.intervals.proofs.Padded.{holds-rising}
-use Rattle.planner.specs.declared.workload.Workload.{Workload}
-use Rattle.planner.specs.Placement.{SoundProblem}
-use Rattle.planner.specs.SiteProblem.{problemOf}
-use Rattle.planner.specs.Arrays.{numbersIn, problemIn, SoundWorkload}
-use Rattle.planner.proofs.SiteProblem.{problem-sound}
-use Rattle.planner.proofs.SitePrices.{problem-same}
+use Rattle.workloads.specs.declared.Workload.{Workload}
+use Rattle.workloads.specs.Placement.{SoundProblem}
+use Rattle.workloads.specs.SiteProblem.{problemOf}
+use Rattle.workloads.specs.Arrays.{numbersIn, problemIn, SoundWorkload}
+use Rattle.workloads.proofs.SiteProblem.{problem-sound}
+use Rattle.workloads.proofs.SitePrices.{problem-same}
 use Rattle.planning.specs.Workloads.{numberOf, WorkingTable, SiteWorkload}
 
 -- past the end of a list stands the default

@@ -13,9 +13,9 @@ use Rattle.model.specs.Intervals.{OpenRange}
 use Rattle.tables.specs.Column.{columnOf}
 use Rattle.levels.specs.declared.points.PointTable.{PointTable}
 use Rattle.levels.specs.PointTables.{pointTable, pointsOf, SmallPoints}
-use Rattle.planner.specs.declared.workload.Workload.{Workload}
-use Rattle.planner.specs.SiteProblem.{problemOf}
-use Rattle.planner.specs.Arrays.{numbersIn, problemIn, SoundWorkload}
+use Rattle.workloads.specs.declared.Workload.{Workload}
+use Rattle.workloads.specs.SiteProblem.{problemOf}
+use Rattle.workloads.specs.Arrays.{numbersIn, problemIn, SoundWorkload}
 
 -- The number of the first of `count` bounds that is not before a time.
 abbrev pub numberOf : (count : ℕ) → (times : List ℕ) → (time : ℕ) → ℕ

@@ -22,7 +22,7 @@ use model::MAX_BOUNDS;
 use model::MAX_INTERVALS;
 use model::MAX_JOBS;
 use planner::place;
-use planner::smallest_prices;
+use prices::smallest_prices;
 use writing::write_plan;
 use writing::write_prices;
 

@@ -16,7 +16,9 @@ use levels::PointTable;
 use model::MAX_BOUNDS;
 use model::MAX_INTERVALS;
 use model::MAX_JOBS;
-use planner::Workload;
+use intervals::bound_number;
+use intervals::interval_count;
+use workloads::Workload;
 
 // The jobs in the intervals between their bounds, at the working points.
 pub(crate) fn workload_of(

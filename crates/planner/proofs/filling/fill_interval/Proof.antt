@@ -6,11 +6,12 @@ use borrow.Author.Needs.{needs}
 use denote.Ref.{now}
 use Rattle.model.specs.Limits.{maxDeadline, maxFrequency, maxIntervals}
 use Rattle.model.specs.Plans.{sharesIn}
-use Rattle.planner.specs.declared.workload.Workload.{Workload}
-use Rattle.planner.specs.Arrays.{numbersIn, problemIn, lentSizes}
-use Rattle.planner.specs.Reaching.{SearchState, stateOf, Reaching, HasRoom}
-use Rattle.planner.specs.PlacedTables.{PlacingTables, CanFill, Filled}
-use Rattle.planner.proofs.SearchSteps.{withTarget}
+use Rattle.workloads.specs.declared.Workload.{Workload}
+use Rattle.workloads.specs.Arrays.{numbersIn, problemIn, lentSizes}
+use Rattle.searching.specs.Reaching.{SearchState, stateOf, Reaching, HasRoom}
+use Rattle.searching.proofs.SearchSteps.{withTarget}
+use Rattle.paths.specs.FilledTargets.{CanFill, Filled}
+use Rattle.planner.specs.PlacedTables.{PlacingTables}
 use Rattle.planner.proofs.PlaceSteps.{place-capacity, place-fill, place-filled, own-target}
 use Rattle.planner.proofs.filling.fill_interval.Statement.{statement}
 use Rattle.planner.proofs.filling.fill_interval.Tie as tie

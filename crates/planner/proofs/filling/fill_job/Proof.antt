@@ -2,7 +2,7 @@
 use Prim.Native.Nat.{_<_}
 use native.Mathlib.Omega.{arith}
 use denote.Ref.{now}
-use Rattle.planner.specs.Arrays.{numbersIn}
+use Rattle.workloads.specs.Arrays.{numbersIn}
 use Rattle.planner.proofs.PlaceSteps.{turn-start, turn-end}
 use borrow.Author.Needs.{needs}
 use Rattle.planner.proofs.filling.fill_job.Statement.{statement}

@@ -6,10 +6,10 @@ use native.Mathlib.Omega.{arith}
 use lib.ListN.{length-replicate}
 use denote.Ref.{now}
 use Rattle.model.specs.Limits.{maxJobs, maxIntervals}
-use Rattle.planner.specs.Arrays.{numbersIn, lentSizes, KeptPast}
+use Rattle.workloads.specs.Arrays.{numbersIn, lentSizes, KeptPast}
+use Rattle.workloads.proofs.SharesTable.{kept-refl, kept-trans}
 use Rattle.planner.specs.PlacedTables.{PlacingTables}
 use Rattle.planner.specs.BandPasses.{SizesPlaced}
-use Rattle.planner.proofs.SharesTable.{kept-refl, kept-trans}
 use Rattle.planner.proofs.filling.fill_window.Statement.{statement}
 use Rattle.planner.proofs.filling.fill_window.Tie as tie
 

@@ -7,10 +7,10 @@ use lib.ListN.{length, length-replicate}
 use denote.Ref.{now}
 use Rattle.model.specs.Limits.{maxJobs}
 use Rattle.model.specs.Plans.{sharesIn}
-use Rattle.planner.specs.declared.workload.Workload.{Workload}
-use Rattle.planner.specs.Arrays.{numbersIn, problemIn, lentSizes}
-use Rattle.planner.specs.Reaching.{stateOf, Searched}
-use Rattle.planner.specs.PlacedTables.{CanFill, Filled}
+use Rattle.workloads.specs.declared.Workload.{Workload}
+use Rattle.workloads.specs.Arrays.{numbersIn, problemIn, lentSizes}
+use Rattle.searching.specs.Reaching.{stateOf, Searched}
+use Rattle.paths.specs.FilledTargets.{CanFill, Filled}
 use Rattle.planner.specs.BandPasses.{CanMoveJob}
 use Rattle.planner.proofs.PlaceSteps.{MovingJob, moving-job-start, place-search, place-fill, moved-whole, moved-filled, closed-range, moved-closed}
 use Rattle.planner.proofs.moving.move_cycles.Statement.{statement}

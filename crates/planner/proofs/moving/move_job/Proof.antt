@@ -2,8 +2,8 @@
 use Prim.Native.Nat.{_<_}
 use native.Mathlib.Omega.{arith}
 use denote.Ref.{now}
-use Rattle.planner.specs.Arrays.{numbersIn}
-use Rattle.planner.proofs.SharesTable.{kept-refl}
+use Rattle.workloads.specs.Arrays.{numbersIn}
+use Rattle.workloads.proofs.SharesTable.{kept-refl}
 use Rattle.planner.proofs.PlaceSteps.{raise-start, raise-passed, raise-moved}
 use borrow.Author.Needs.{needs}
 use Rattle.planner.proofs.moving.move_job.Statement.{statement}

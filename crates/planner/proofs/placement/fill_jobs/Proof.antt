@@ -3,10 +3,10 @@ use Prim.Native.Nat.{_-_, _*_, _<_}
 use native.Mathlib.Omega.{arith}
 use denote.Ref.{now}
 use Rattle.model.specs.Limits.{maxJobs}
-use Rattle.planner.specs.Arrays.{lentSizes, KeptPast}
+use Rattle.workloads.specs.Arrays.{lentSizes, KeptPast}
+use Rattle.workloads.proofs.SharesTable.{kept-refl, kept-trans}
 use Rattle.planner.specs.PlacedTables.{FillingTables}
 use Rattle.planner.specs.BandPasses.{SizesPassed}
-use Rattle.planner.proofs.SharesTable.{kept-refl, kept-trans}
 use Rattle.planner.proofs.placement.fill_jobs.Statement.{statement}
 use Rattle.planner.proofs.placement.fill_jobs.Tie as tie
 

@@ -3,9 +3,9 @@ use mathlib.Core.Path.{_≡_}
 use Prim.Native.Nat.{_-_, _*_, _≤_}
 use native.Mathlib.Omega.{arith}
 use denote.Ref.{now}
-use Rattle.planner.specs.Arrays.{lentSizes, KeptPast}
+use Rattle.workloads.specs.Arrays.{lentSizes, KeptPast}
+use Rattle.workloads.proofs.SharesTable.{kept-refl, kept-trans}
 use Rattle.planner.specs.BandPasses.{CanRaise, SizesRaised}
-use Rattle.planner.proofs.SharesTable.{kept-refl, kept-trans}
 use Rattle.planner.proofs.placement.move_jobs.Statement.{statement}
 use Rattle.planner.proofs.placement.move_jobs.Tie as tie
 

@@ -5,11 +5,11 @@ use native.Mathlib.Omega.{arith}
 use lib.ListN.{length}
 use denote.Ref.{now}
 use Rattle.model.specs.Limits.{maxLevels, maxIntervals}
-use Rattle.planner.specs.declared.workload.Workload.{Workload}
-use Rattle.planner.specs.Arrays.{numbersIn, workloadWith, KeptPast}
+use Rattle.workloads.specs.declared.Workload.{Workload}
+use Rattle.workloads.specs.Arrays.{numbersIn, workloadWith, KeptPast}
+use Rattle.workloads.proofs.SharesTable.{kept-refl, kept-trans}
 use Rattle.planner.specs.PlacedTables.{FillingTables}
 use Rattle.planner.specs.BandPasses.{CanRaise}
-use Rattle.planner.proofs.SharesTable.{kept-refl, kept-trans}
 use Rattle.planner.proofs.PlaceSteps.{tables-start, band-next, tables-end}
 use Rattle.planner.proofs.placement.place.Statement.{statement}
 use Rattle.planner.proofs.placement.place.Tie as tie

@@ -7,9 +7,10 @@ use lib.ListN.{length}
 use borrow.Author.Needs.{needs}
 use Rattle.model.specs.Limits.{maxJobs}
 use Rattle.model.specs.Plans.{sharesIn}
-use Rattle.planner.specs.declared.workload.Workload.{Workload}
-use Rattle.planner.specs.Arrays.{numbersIn, problemIn}
-use Rattle.planner.specs.RisingPrices.{SmallestPriced, CanPrice}
+use Rattle.workloads.specs.declared.Workload.{Workload}
+use Rattle.workloads.specs.Arrays.{numbersIn, problemIn}
+use Rattle.workloads.specs.Placement.{SmallestPriced}
+use Rattle.prices.specs.RisingPrices.{CanPrice}
 use Rattle.planning.proofs.Placeable.{workload-fits, workload-can-price}
 use Rattle.planning.proofs.MadePlans.{bounds-small, rooms, steps-few, made-plan}
 use Rattle.planning.proofs.making.make_plan.Statement.{statement}
