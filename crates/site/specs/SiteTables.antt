@@ -6,7 +6,7 @@ use lib.ListN.{getD}
 use Rattle.model.specs.Limits.{maxJobs}
 use Rattle.model.specs.Outcome.{Outcome, refused, answer}
 use Rattle.model.specs.Processors.{workingOf, topOf}
-use Rattle.model.specs.Sites.{Site}
+use Rattle.model.specs.Sites.{Site, ValidSite}
 use Rattle.tables.specs.Column.{columnOf}
 use Rattle.tables.specs.Tables.{jobsIn}
 use Rattle.levels.specs.PointTables.{pointTable}
@@ -33,3 +33,7 @@ siteReading (answer site) = Read
 pub record SiteRead (outcome : Outcome Site) (table : SiteTable) (releases deadlines cycles times : List ℕ) : Type 0 where
   pub told : table .reading ≡ siteReading outcome
   pub held : (site : Site) → outcome ≡ answer site → HoldsSite site table releases deadlines cycles times
+
+-- They hold some valid site: what a function that works on a site that was read asks. What it promises holds of each.
+abbrev pub HoldsSome : SiteTable → (releases deadlines cycles times : List ℕ) → Type 0
+HoldsSome table releases deadlines cycles times = (site : Site) × ValidSite site × HoldsSite site table releases deadlines cycles times
