@@ -16,7 +16,10 @@ use Rattle.model.specs.Hypotheses.{
   EveryBounds,
   EveryTableHasBounds,
   EverySchedule,
+  EverySiteRead,
+  EveryBuffer,
 }
+use Rattle.model.proofs.Sites.{valid-tables, sites-are-valid}
 use Rattle.model.proofs.Levels.{levels-valid}
 use Rattle.model.proofs.Jobs.{jobs-valid}
 use Rattle.model.proofs.BoundsOf.{bounds-of}
@@ -95,3 +98,10 @@ every-schedule levels jobs q low slot named = (record { q = q; q-low = low; slot
         → IsGiven levels jobs slot
     given slot (inl e) = rw e tt
     given slot (inr (level, job, given-level, given-job, e)) = rw e (given-level, given-job)
+
+pub every-site-read : EverySiteRead
+every-site-read = (sites-are-valid, valid-tables)
+
+pub every-buffer : EveryBuffer
+every-buffer site planRoom priceRoom shareRoom plan-room price-room share-room =
+    record { plan-room = plan-room; price-room = price-room; share-room = share-room }

@@ -1,7 +1,7 @@
 -- The hypotheses of the theorems shut nothing out. What a theorem asks of tables, sites, bounds and schedules is a record;
 -- here each is built from document 01's own words, for every table, site, list of bounds and schedule that they fit, so that
 -- no further condition can stand in it. Proved in proofs/Hypotheses.antt.
-use Prim.Native.Nat.{ℕ, suc, _*_, _<_, _≤_}
+use Prim.Native.Nat.{ℕ, suc, _+_, _*_, _<_, _≤_}
 use mathlib.Core.Path.{_≡_}
 use mathlib.Core.Logic.{_⊎_}
 use mathlib.Core.List.{List}
@@ -12,9 +12,11 @@ use Rattle.model.specs.Outcome.{answer}
 use Rattle.model.specs.Levels.{levelOf, readLevels, ValidLevels}
 use Rattle.model.specs.Jobs.{jobOf, readJobs, ValidJobs}
 use Rattle.model.specs.Points.{powerOf}
-use Rattle.model.specs.Intervals.{boundsOf, intervalCount, boundAt, earliestRelease, latestDeadline, Bounds}
+use Rattle.model.specs.Intervals.{boundsOf, intervalCount, boundAt, earliestRelease, latestDeadline, openPairs, Bounds}
+use Rattle.model.specs.Sites.{Site, siteOf, ValidSite, SitesAreValid}
 use Rattle.model.specs.Schedules.{Slot, idles, runs, horizon, Schedule}
 use Rattle.model.specs.LeastEnergy.{SoundSite}
+use Rattle.model.specs.Demands.{LongEnough}
 
 -- "1 to 8 levels, frequencies 1 to 1,000 and strictly rising, voltages 1 to 500 and never falling": all such levels are valid.
 abbrev pub EveryLevelTable : Type 0
@@ -82,3 +84,15 @@ EverySchedule =
     → ((s : ℕ) → s < q * horizon jobs
     → (slot s ≡ idles) ⊎ ((level job : ℕ) × (level < length levels) × (job < length jobs) × (slot s ≡ runs level job)))
     → (schedule : Schedule levels jobs) × (schedule .q ≡ q) × (schedule .slot ≡ slot)
+
+-- Every site that is read is valid, and valid tables make one.
+abbrev pub EverySiteRead : Type 0
+EverySiteRead =
+    SitesAreValid × ((levels : List Level) (jobs : List Job) → ValidLevels levels → ValidJobs jobs → ValidSite (siteOf levels jobs))
+
+-- "Buffers [are] long enough when none of 12 to 14" holds: 4 + 6K bytes, 2 + 5N bytes and n × N shares are enough.
+abbrev pub EveryBuffer : Type 0
+EveryBuffer =
+    (site : Site) (planRoom priceRoom shareRoom : ℕ) → 4 + 6 * openPairs (site .bounds) (site .jobs) ≤ planRoom
+    → 2 + 5 * intervalCount (site .bounds) ≤ priceRoom → length (site .jobs) * intervalCount (site .bounds) ≤ shareRoom
+    → LongEnough site planRoom priceRoom shareRoom

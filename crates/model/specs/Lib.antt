@@ -21,11 +21,11 @@ pub mod Prices
 pub mod Schedules
 pub mod CarriedOut
 pub mod LeastEnergy
-pub mod Hypotheses
 pub mod Steps
 pub mod PriceBytes
 pub mod Checking
 pub mod Accepted
 pub mod Planning
 pub mod Demands
+pub mod Hypotheses
 pub mod SiteLines

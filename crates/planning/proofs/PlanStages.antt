@@ -120,7 +120,7 @@ refused-contract levelBytes jobBytes lent number place e =
 
 -- what holds of planning the site that was read is the whole promise
 module _ (levelBytes jobBytes : List ℕ) (site : Site) (read : readSite levelBytes jobBytes ≡ answer site) where
-  planned-as : (planRoom priceRoom shareRoom : ℕ) → planning levelBytes jobBytes planRoom priceRoom shareRoom ≡ planFor site planRoom priceRoom shareRoom
+  pub planned-as : (planRoom priceRoom shareRoom : ℕ) → planning levelBytes jobBytes planRoom priceRoom shareRoom ≡ planFor site planRoom priceRoom shareRoom
   unfolding planning
   planned-as planRoom priceRoom shareRoom = rw read
 
