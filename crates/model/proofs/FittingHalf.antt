@@ -15,7 +15,7 @@ use Rattle.model.specs.Outcome.{Outcome, answer}
 use Rattle.model.specs.Jobs.{jobOf}
 use Rattle.model.specs.Intervals.{intervalCount}
 use Rattle.model.specs.Plans.{Gives}
-use Rattle.model.specs.Steps.{planIntervals, stepCount, stepAt, wrongPlanLength, sharesOf}
+use Rattle.model.specs.Steps.{planIntervals, stepCount, wrongPlanLength, sharesOf}
 use Rattle.model.specs.Checking.{stepFault, jobSum, jobSumFault, loadFault, fitting}
 use Rattle.model.specs.Accepted.{IsPlan}
 use Rattle.model.proofs.Numbers.{true≢false}
