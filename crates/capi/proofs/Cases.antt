@@ -1,19 +1,19 @@
 -- From the case of an answer to the struct for C, and that a setting's gap fits its field.
 -- Assumes nothing.
 use mathlib.Core.Path.{_≡_, refl, ap}
-use mathlib.Core.Bool.{Bool, not, _&&_}
+use mathlib.Core.Bool.{not, _&&_}
 use mathlib.Core.Logic.{_⊎_, inl, inr}
 use mathlib.Core.List.{List}
-use Prim.Native.Nat.{ℕ, zero, suc, _*_, _-_, _<_, _≤_}
+use Prim.Native.Nat.{ℕ, zero, suc, _*_, _<_, _≤_}
 use native.Mathlib.Omega.{arith}
 use lib.Dec.{ltb, leb}
-use lib.ListN.{length, getD, List·getD-eq-default}
+use lib.ListN.{length, List·getD-eq-default}
 use lib.IntN.{ℤ, pos}
 use Rattle.model.specs.declared.Level.{Level}
 use Rattle.model.specs.Limits.{maxFrequency, maxDeadline}
-use Rattle.model.specs.Outcome.{Outcome, refused, answer, refuseWhen, andThen}
+use Rattle.model.specs.Outcome.{Outcome, refused, answer}
 use Rattle.model.specs.Levels.{readLevels, ValidLevels}
-use Rattle.model.specs.Points.{Point, pointAt, idlingPoint, topFrequency}
+use Rattle.model.specs.Points.{Point, idlingPoint, topFrequency}
 use Rattle.model.specs.Bands.{frequencyOf, gap}
 use Rattle.model.specs.Setting.{Setting, bandOf, settingOf, setting, workingOf}
 use Rattle.model.specs.Windows.{spare}
@@ -23,7 +23,6 @@ use Rattle.model.proofs.Outcome.{answered-past, answer-injective, andThen-answe
 use Rattle.model.proofs.Levels.{levels-valid}
 use Rattle.levels.specs.declared.interval.SettingAnswer.the-variants.{Set, Refused}
 use Rattle.levels.specs.Settings.{settingAnswer}
-use Rattle.levels.specs.PointTables.{pointsOf, pointTable}
 use Rattle.levels.proofs.SmallPoints.{working-small, working-held}
 use Rattle.windows.specs.declared.window.SpareAnswer.the-variants.{Spare, Refused as SpareRefused}
 use Rattle.windows.specs.Answers.{spareAnswer}

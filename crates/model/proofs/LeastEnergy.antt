@@ -1,6 +1,5 @@
 -- The theorems of least energy, with nothing left to supply, and the sites that they hold of: those of valid tables.
 -- Assumes nothing.
-use mathlib.Core.Path.{_≡_}
 use mathlib.Core.List.{List}
 use Prim.Native.Nat.{ℕ, _≤_}
 use native.Mathlib.Nat.{le-of-mul-le-mul-left}

@@ -1,5 +1,5 @@
 -- Checking a plan and its price list (document 01, "Checking").
-use Prim.Native.Nat.{ℕ, zero, suc, _+_, _*_}
+use Prim.Native.Nat.{ℕ, suc, _+_, _*_}
 use mathlib.Core.Bool.{Bool, not, cond, _||_, _&&_}
 use mathlib.Core.List.{List}
 use lib.ListN.{length}
