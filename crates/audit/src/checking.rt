@@ -11,12 +11,10 @@ ghost use Rattle.audit.specs.Answers.{checkAnswer, checkedTables, checke
 use energy::energy_figure;
 use fitting::Verdict;
 use fitting::fit;
-use fitting::job_records;
-use fitting::plan_sums;
-use fitting::tests_of;
 use levels::PointTable;
 use levels::working_levels;
 use model::MAX_BOUNDS;
+use model::MAX_INTERVALS;
 use model::MAX_JOBS;
 use pricing::price;
 use tables::Reading;
@@ -70,8 +68,7 @@ fn check_jobs(working: PointTable, top: u64, jobs: &[u8], plan: &[u8], prices: &
     }
 }
 
-// The check where both tables were read: the jobs become records, which are lent to the pass over them; then the two
-// halves, and the energy figure.
+// The check where both tables were read: the two halves, and the energy figure.
 fn check_tables<'a>(
     working: PointTable,
     top: u64,
@@ -88,16 +85,23 @@ fn check_tables<'a>(
 {
     let mut times = [0u64; MAX_BOUNDS];
     let bounds = bounds_of(releases, deadlines, count, &mut times);
-    let jobs = job_records(releases, deadlines, cycles, count);
-    let sums = plan_sums(plan);
-    let tests = tests_of(jobs, count, &times, bounds, &sums);
-    let fitted = fit(top, tests, count, &times, bounds, plan);
-    let first = fitted.verdict;
+    let mut sets = [0u64; MAX_INTERVALS];
+    let mut loads = [0u64; MAX_INTERVALS];
+    let first = fit(
+        top,
+        releases,
+        deadlines,
+        cycles,
+        count,
+        &times,
+        bounds,
+        plan,
+        &mut sets,
+        &mut loads,
+    );
     if let Verdict::Refused { number, place } = first {
         return CheckAnswer::Refused { number, place };
     }
-    let loads = fitted.loads;
-    let sets = tests.sets;
     let second = price(working, &sets, count, &times, bounds, plan, &loads, prices);
     if let Verdict::Refused { number, place } = second {
         return CheckAnswer::Refused { number, place };

@@ -20,10 +20,10 @@ use Rattle.model.proofs.Steps.{step-cell}
 use Rattle.model.proofs.Tests.{neither, no-fault}
 use Rattle.walking.specs.declared.steps.Step.{Step as CodeStep}
 use Rattle.walking.specs.Walking.{codeStep, modelStep}
-use Rattle.fitting.specs.TestedJobs.{isMarked, testsBelow}
+use Rattle.fitting.specs.TestedJobs.{isMarked, openSetsBelow, HoldsCycles}
 use Rattle.fitting.specs.FirstHalf.{boundsIn, openPairIn, faultWhere, faultOfStep, stepFaultIn}
 use Rattle.fitting.proofs.BoundsIn.{intervals-in, open-in}
-use Rattle.fitting.proofs.TestedJobs.{sets-found, open-has, cycles-found}
+use Rattle.fitting.proofs.TestedJobs.{open-has}
 use Rattle.fitting.proofs.SeenSets.{seenSets, marked-seen, seen-more, seen-room}
 
 module _ (sets cycles : List ℕ) (count bounds : ℕ) (seen : List ℕ) (step : Step) where
@@ -142,13 +142,10 @@ module _
     pub turn-marked : (next : List ℕ) → next ≡ set seen (step .interval) (getD seen (step .interval) 0 + 2 ^ step .job) → next ≡ seenSets plan (s + 1)
     turn-marked next stored = stored ∙ seen-more plan s (step .interval) (step .job) cell below seen filled inside (sound .2)
 
--- Over what was found of the jobs the faults are the definition's.
-module _ (jobs : List Job) (times : List ℕ) (bounds : ℕ) (sums : List ℕ) (few-jobs : length jobs ≤ maxJobs) (few-bounds : bounds ≤ maxBounds) where
+-- Over the open sets and the cycles of the jobs the faults are the definition's.
+module _ (jobs : List Job) (times : List ℕ) (bounds : ℕ) (cycles : List ℕ) (held : HoldsCycles jobs cycles) (few-bounds : bounds ≤ maxBounds) where
   abbrev sets : List ℕ
-  sets = testsBelow jobs (length jobs) times bounds sums .sets
-
-  abbrev cycles : List ℕ
-  cycles = testsBelow jobs (length jobs) times bounds sums .cycles
+  sets = openSetsBelow jobs (length jobs) times bounds
 
   abbrev bs : List ℕ
   bs = boundsIn bounds times
@@ -166,7 +163,6 @@ module _ (jobs : List Job) (times : List ℕ) (bounds : ℕ) (sums : List ℕ) (
             intervals-in bounds times,
             lt-ltb (step .interval) (bounds - 1) interval,
             lt-ltb (step .job) (length jobs) job,
-            sets-found jobs times bounds sums (length jobs),
             open-has jobs times bounds (length jobs) (step .interval) (step .job) interval (omega arith) job,
           )
           (open-in bounds times _ (step .interval) (omega arith))
@@ -178,6 +174,4 @@ module _ (jobs : List Job) (times : List ℕ) (bounds : ℕ) (sums : List ℕ) (
       go : (openPairIn sets (length jobs) bounds (stepAt plan s) ≡ true) ⊎ (openPairIn sets (length jobs) bounds (stepAt plan s) ≡ false)
           → stepFault top jobs bs plan s ≡ stepFaultIn sets cycles (length jobs) bounds plan s
       go (inr no-pair) = rw (same-pair (stepAt plan s), no-pair)
-      go (inl pair) =
-          let job = pair-numbers sets cycles (length jobs) bounds (stepAt plan s) pair .1 in
-          rw (same-pair (stepAt plan s), cycles-found jobs times bounds sums (length jobs) (stepAt plan s .job) job (omega (arith, job)))
+      go (inl pair) = rw (same-pair (stepAt plan s), held .at (stepAt plan s .job) (pair-numbers sets cycles (length jobs) bounds (stepAt plan s) pair .1))

@@ -8,13 +8,13 @@ use lib.ListN.{getD, set, replicate}
 use lib.Dec.{eqb}
 use borrow.Author.Tests.{eq-eqb, ne-eqb}
 use Rattle.model.specs.Sum.{sum, onlyIf}
-use Rattle.model.proofs.Entries.{getD-listOf}
+use Rattle.model.proofs.Entries.{getD-listOf, listOf-cong}
 use Rattle.model.proofs.Sum.{sum-mono, sum-const, sum-next}
 use Rattle.model.proofs.SumMore.{onlyIf-le}
 use Rattle.model.specs.Bytes.{IsBytes}
 use Rattle.model.specs.Steps.{stepCount, stepAt}
 use Rattle.model.proofs.Bytes.{numberAt-small}
-use Rattle.fitting.specs.FirstHalf.{tallyOf}
+use Rattle.fitting.specs.Sums.{tallyOf}
 use Rattle.fitting.proofs.Arrays.{zeros-hold, store-holds}
 
 module _ (size : ℕ) (key value : ℕ → ℕ) where
@@ -41,6 +41,12 @@ module _ (size : ℕ) (key value : ℕ → ℕ) where
       ))
       (λ i within other.
       rw (sum-next, ne-eqb (key s) i (λ e. other (sym e ∙ sym is-key))) (omega arith)))
+
+  -- an entry whose key is none of the array's
+  pub tally-past : (numbers : List ℕ) (s k : ℕ) → numbers ≡ tallyOf size s key value → k ≡ key s → size ≤ k → numbers ≡ tallyOf size (s + 1) key value
+  unfolding tallyOf
+  tally-past numbers s k filled is-key past =
+      filled ∙ listOf-cong size _ _ (λ i inside. rw (sum-next, ne-eqb (key s) i (λ e. omega arith)) (omega arith))
 
   -- at most as many times the largest value as there are entries
   tally-small : (count most k : ℕ) → ((s : ℕ) → s < count → value s ≤ most) → k < size

@@ -1,27 +1,30 @@
 -- Laws of what the check finds of the jobs: before the first record and after one more, that there is room for the next,
--- and that the sets and the cycles found are those of the jobs.
+-- and that the sets found are those of the jobs.
 -- Assumes nothing.
-use mathlib.Core.Path.{_≡_, refl, sym}
-use mathlib.Core.Bool.{Bool, true, false, cond, _&&_}
+use mathlib.Core.Path.{_≡_, refl, sym, _∙_}
+use mathlib.Core.Bool.{Bool, true, false, not, cond, _&&_, and-false}
 use mathlib.Core.Logic.{_⊎_, inl, inr}
 use mathlib.Core.List.{List}
 use Prim.Native.Nat.{ℕ, _+_, _-_, _^_, _<_, _≤_}
+use native.Mathlib.Decide.{ℕ-discrete}
 use native.Mathlib.Omega.{arith}
 use lib.ListN.{length, getD, replicate, List·getD-eq-default}
 use lib.Pow.{pow-pos}
 use lib.Dec.{ltb, eqb}
-use borrow.Author.Tests.{lt-ltb, le-ltb}
+use borrow.Author.Tests.{lt-ltb, le-ltb, eq-eqb, ne-eqb}
 use Rattle.model.specs.declared.Job.{Job}
-use Rattle.model.specs.Limits.{maxIntervals, maxJobs}
+use Rattle.model.specs.Limits.{maxIntervals}
 use Rattle.model.specs.Sum.{sum, onlyIf}
+use Rattle.model.specs.Search.{firstFrom, firstBelow}
 use Rattle.model.specs.Jobs.{jobOf}
-use Rattle.model.proofs.Numbers.{lt-or-le}
+use Rattle.model.proofs.Numbers.{lt-or-le, true-or-false}
 use Rattle.model.proofs.Entries.{listOf-cong}
 use Rattle.model.proofs.Sum.{sum-next}
+use Rattle.model.proofs.Search.{FirstBelow, firstBelow-law, firstBelow-is, firstBelow-none}
 use Rattle.model.proofs.OpenSets.{bits-below, bits-at}
 use Rattle.tables.specs.Column.{columnOf}
-use Rattle.tables.proofs.Column.{length-column, column-at, column-past, column-none, column-more}
-use Rattle.fitting.specs.TestedJobs.{setOf, hasJob, isMarked, openBetween, openSetsBelow, addsUp, testsBelow, testsIn, noTests, SmallTests, withBits, withOpen, withJob}
+use Rattle.tables.proofs.Column.{length-column, column-at, column-past}
+use Rattle.fitting.specs.TestedJobs.{setOf, hasJob, isMarked, openBetween, openSetsBelow, addsUp, summedBelow, TestedBelow, SmallSets, withBits, withOpen, JobTested}
 use Rattle.fitting.proofs.Arrays.{zeros-hold}
 
 bit-is-one : (t : Bool) → eqb (onlyIf t 1) 1 ≡ t
@@ -32,9 +35,32 @@ bit-is-one false = refl
 pub set-has : (test : ℕ → Bool) (count j : ℕ) → j < count → hasJob (setOf count test) j ≡ test j
 set-has test count j below = rw (bits-at test count j below) (bit-is-one (test j))
 
--- findings that agree part by part
-pub same-tests : {a a′ : List ℕ} {b b′ : ℕ} {c c′ : List ℕ} → a ≡ a′ → b ≡ b′ → c ≡ c′ → testsIn a b c ≡ testsIn a′ b′ c′
-same-tests p q r = λ i. testsIn (p i) (q i) (r i)
+-- how many numbers there are before the first that fails a test: one more where all before the next pass, and it too
+module _ (test : ℕ → Bool) (j : ℕ) where
+  abbrev fails : ℕ → Bool
+  fails i = not (test i)
+
+  abbrev before : ℕ
+  before = firstBelow j fails
+
+  before-more : cond (eqb before j && test j) (j + 1) before ≡ firstBelow (j + 1) fails
+  before-more = go (lt-or-le before j) (true-or-false (test j))
+    where
+      law : FirstBelow j fails before
+      law = firstBelow-law j fails
+
+      go : (before < j) ⊎ (j ≤ before) → (test j ≡ true) ⊎ (test j ≡ false) → cond (eqb before j && test j) (j + 1) before ≡ firstBelow (j + 1) fails
+      go (inl found) either =
+          rw (ne-eqb before j (λ e. omega arith)) (sym (firstBelow-is (j + 1) fails before (omega arith) (law .before) (law .here found)))
+      go (inr none) (inl passes) =
+          rw (eq-eqb before j (omega (arith, law .within)), passes) (sym (firstBelow-none (j + 1) fails (λ k below. all k below (ℕ-discrete k j))))
+        where
+          all : (k : ℕ) → k < j + 1 → Dec (k ≡ j) → fails k ≡ false
+          all k below (yes last) = rw (last, passes)
+          all k below (no other) = law .before k (omega arith)
+      go (inr none) (inr failed) =
+          let same : before ≡ j = omega (arith, law .within) in
+          rw (failed, and-false) (same ∙ sym (firstBelow-is (j + 1) fails j (omega arith) (λ k below. law .before k (omega arith)) (rw failed)))
 
 module _ (jobs : List Job) (times : List ℕ) (bounds : ℕ) where
   abbrev opened : (i j : ℕ) → Bool
@@ -86,31 +112,17 @@ module _ (jobs : List Job) (times : List ℕ) (bounds : ℕ) where
       at i inside (inl below) = rw (open-set j i below inside, lt-ltb i (bounds - 1) below, sum-next)
       at i inside (inr past) = rw (no-set j i past inside, le-ltb i (bounds - 1) past)
 
+  pub sets-small : (j : ℕ) → SmallSets j (openSetsBelow jobs j times bounds)
+  sets-small j = record { size = sets-length j; small = set-small j }
+
   module _ (sums : List ℕ) where
-    pub tests-none : noTests ≡ testsBelow jobs 0 times bounds sums
-    unfolding testsBelow sum
-    tests-none = same-tests sets-none refl (column-none maxJobs (λ j. jobOf jobs j .cycles))
+    pub tests-none : TestedBelow jobs 0 times bounds sums (replicate maxIntervals 0) 0
+    unfolding firstFrom
+    tests-none = record { opened = sets-none; added = refl }
 
-    pub tests-small : (j : ℕ) → SmallTests j (testsBelow jobs j times bounds sums)
-    unfolding testsBelow
-    tests-small j = record { small-sets = record { size = sets-length j; small = set-small j }; small-summed = bits-below (addsUp jobs sums) j }
-
-    pub tests-more : (j : ℕ) → j < maxJobs
-        → withJob (testsBelow jobs j times bounds sums) j (jobOf jobs j) times bounds sums ≡ testsBelow jobs (j + 1) times bounds sums
-    unfolding testsBelow withJob
-    tests-more j inside =
-        same-tests (sets-more j) (sym (sum-next j (λ k. onlyIf (addsUp jobs sums k) (2 ^ k))))
-        (column-more maxJobs (λ k. jobOf jobs k .cycles) (columnOf maxJobs j (λ k. jobOf jobs k .cycles)) j (jobOf jobs j .cycles) inside refl refl)
-
-    -- what was found of the jobs, part by part
-    pub sets-found : (count : ℕ) → testsBelow jobs count times bounds sums .sets ≡ openSetsBelow jobs count times bounds
-    unfolding testsBelow
-    sets-found count = refl
-
-    pub summed-found : (count j : ℕ) → j < count → hasJob (testsBelow jobs count times bounds sums .summed) j ≡ addsUp jobs sums j
-    unfolding testsBelow
-    summed-found count j below = set-has (addsUp jobs sums) count j below
-
-    pub cycles-found : (count j : ℕ) → j < count → j < maxJobs → getD (testsBelow jobs count times bounds sums .cycles) j 0 ≡ jobOf jobs j .cycles
-    unfolding testsBelow
-    cycles-found count j below inside = column-at maxJobs (λ k. jobOf jobs k .cycles) count j inside below
+    pub tests-more : {j : ℕ} {sets : List ℕ} {summed : ℕ} {after : List ℕ} {next : ℕ} → TestedBelow jobs j times bounds sums sets summed
+        → JobTested summed j (jobOf jobs j) times bounds sums sets after next → TestedBelow jobs (j + 1) times bounds sums after next
+    tests-more {j} found one = record {
+      opened = one .opened ∙ rw (found .opened) (sets-more j);
+      added = one .added ∙ rw (found .added) (before-more (addsUp jobs sums) j);
+    }

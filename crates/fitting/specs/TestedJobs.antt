@@ -1,17 +1,17 @@
 -- What the check finds of the jobs in one pass over the list of records.
 use Prim.Native.Nat.{ℕ, _+_, _-_, _/_, _%_, _^_, _<_, _≤_}
 use mathlib.Core.Path.{_≡_}
-use mathlib.Core.Bool.{Bool, _&&_}
+use mathlib.Core.Bool.{Bool, not, cond, _&&_}
 use mathlib.Core.List.{List}
-use lib.ListN.{length, getD, set, replicate}
+use lib.ListN.{length, getD}
 use lib.Dec.{ltb, leb, eqb}
 use Rattle.model.specs.declared.Job.{Job}
-use Rattle.model.specs.Limits.{maxIntervals, maxJobs}
+use Rattle.model.specs.Limits.{maxIntervals}
 use Rattle.model.specs.Entries.{listOf}
 use Rattle.model.specs.Sum.{sum, onlyIf}
+use Rattle.model.specs.Search.{firstBelow}
 use Rattle.model.specs.Jobs.{jobOf}
 use Rattle.tables.specs.Column.{columnOf}
-use Rattle.fitting.specs.declared.records.JobTests.{JobTests}
 
 -- The set of the first `count` jobs that pass a test, bit number equal to job number.
 abbrev pub setOf : (count : ℕ) → (test : ℕ → Bool) → ℕ
@@ -39,33 +39,23 @@ module _ (jobs : List Job) where
   abbrev pub addsUp : (sums : List ℕ) → (job : ℕ) → Bool
   addsUp sums j = eqb (getD sums j 0) (jobOf jobs j .cycles)
 
-  -- What the pass has found after the first `count` jobs, and after all.
-  unfoldable pub testsBelow : (count : ℕ) → (times : List ℕ) → (bounds : ℕ) → (sums : List ℕ) → JobTests
-  testsBelow count times bounds sums = record {
-    sets = openSetsBelow count times bounds;
-    summed = setOf count (addsUp sums);
-    cycles = columnOf maxJobs count (λ j. jobOf jobs j .cycles);
-  }
+  -- How many jobs there are, of the first `count`, before the first whose steps do not add to its cycles.
+  abbrev pub summedBelow : (count : ℕ) → (sums : List ℕ) → ℕ
+  summedBelow count sums = firstBelow count (λ j. not (addsUp sums j))
 
-  abbrev pub testsOf : (times : List ℕ) → (bounds : ℕ) → (sums : List ℕ) → JobTests
-  testsOf = testsBelow (length jobs)
+  -- What the pass has found after the first `count` jobs.
+  pub record TestedBelow (count : ℕ) (times : List ℕ) (bounds : ℕ) (sums sets : List ℕ) (summed : ℕ) : Type 0 where
+    pub opened : sets ≡ openSetsBelow count times bounds
+    pub added : summed ≡ summedBelow count sums
 
--- Findings that stand apart: the arrays are lent, and the set of the jobs that add up is a word.
-abbrev pub testsIn : (sets : List ℕ) → (summed : ℕ) → (cycles : List ℕ) → JobTests
-testsIn sets summed cycles = record { sets = sets; summed = summed; cycles = cycles }
-
--- Before the first job.
-abbrev pub noTests : JobTests
-noTests = record { sets = replicate maxIntervals 0; summed = 0; cycles = replicate maxJobs 0 }
+  -- An array has the cycles of the jobs.
+  pub record HoldsCycles (cycles : List ℕ) : Type 0 where
+    pub at : (j : ℕ) → j < length jobs → getD cycles j 0 ≡ jobOf jobs j .cycles
 
 -- A set for each interval, with no job from j on: job j can be added.
 pub record SmallSets (j : ℕ) (sets : List ℕ) : Type 0 where
   pub size : length sets ≡ maxIntervals
   pub small : (i : ℕ) → getD sets i 0 < 2 ^ j
-
-pub record SmallTests (j : ℕ) (tests : JobTests) : Type 0 where
-  pub small-sets : SmallSets j (tests .sets)
-  pub small-summed : tests .summed < 2 ^ j
 
 -- The number of intervals that end by a deadline: those below the number do, the others do not.
 pub record EndsBy (bounds : ℕ) (times : List ℕ) (deadline number : ℕ) : Type 0 where
@@ -85,10 +75,8 @@ withRange sets j first end = withBits sets j (λ i. leb first i && ltb i end)
 abbrev pub withOpen : (sets : List ℕ) → (j release deadline : ℕ) → (times : List ℕ) → (intervals : ℕ) → List ℕ
 withOpen sets j release deadline times intervals = withBits sets j (λ i. ltb i intervals && openBetween release deadline times i)
 
--- One record more: job j.
-unfoldable pub withJob : JobTests → (j : ℕ) → Job → (times : List ℕ) → (bounds : ℕ) → (sums : List ℕ) → JobTests
-withJob tests j job times bounds sums = record {
-  sets = withOpen (tests .sets) j (job .release) (job .deadline) times (bounds - 1);
-  summed = tests .summed + onlyIf (eqb (getD sums j 0) (job .cycles)) (2 ^ j);
-  cycles = set (tests .cycles) j (job .cycles);
-}
+-- One record more: job j is added to the sets of its intervals. Where all jobs before it add up and it does too, one job
+-- more adds up.
+pub record JobTested (summed j : ℕ) (job : Job) (times : List ℕ) (bounds : ℕ) (sums before after : List ℕ) (next : ℕ) : Type 0 where
+  pub opened : after ≡ withOpen before j (job .release) (job .deadline) times (bounds - 1)
+  pub added : next ≡ cond (eqb summed j && eqb (getD sums j 0) (job .cycles)) (j + 1) summed

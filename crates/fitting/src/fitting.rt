@@ -1,146 +1,93 @@
 // The first half of the check, refusals 15 to 20: the plan fits the jobs.
 ghost use mathlib.Core.Path.{_≡_};
-ghost use Prim.Native.Nat.{ℕ, _+_, _-_, _*_, _<_, _≤_};
+ghost use Prim.Native.Nat.{ℕ, _-_, _<_, _≤_};
 ghost use mathlib.Core.List.{List};
-ghost use lib.ListN.{length};
+ghost use lib.ListN.{length, replicate};
 ghost use Rattle.model.specs.declared.Job.{Job};
 ghost use Rattle.model.specs.Limits.{maxFrequency, maxJobs, maxIntervals};
-ghost use Rattle.model.specs.Outcome.{answer, refused, byEntry};
-ghost use Rattle.model.specs.Steps.{stepCount, stepAt};
+ghost use Rattle.model.specs.Outcome.{byEntry};
 ghost use Rattle.model.specs.Checking.{fitting};
+ghost use Rattle.tables.specs.Tables.{jobsIn};
 ghost use Rattle.energy.specs.Figures.{SmallBounds};
 ghost use Rattle.fitting.specs.Verdicts.{verdictOf, passed};
-ghost use Rattle.fitting.specs.TestedJobs.{testsOf};
-ghost use Rattle.fitting.specs.FirstHalf.{boundsIn, jobSums, planSums, intervalLoads, sumFaultIn, loadFaultIn, loadsOf, fittedOf};
+ghost use Rattle.fitting.specs.TestedJobs.{TestedBelow, HoldsCycles};
+ghost use Rattle.fitting.specs.Sums.{planSums, planLoads};
+ghost use Rattle.fitting.specs.FirstHalf.{boundsIn, loadFaultIn, Fitted};
 use crate::Verdict;
 use crate::cells::check_steps;
-use crate::cells::is_marked;
-use crate::records::JobTests;
+use crate::records::job_records;
+use crate::records::lend_jobs;
+use crate::sums::add_plan;
 use intervals::interval_count;
 use model::MAX_BOUNDS;
 use model::MAX_INTERVALS;
 use model::MAX_JOBS;
 use tables::number16;
-use walking::decode_step;
-use walking::step_count;
 use walking::wrong_length;
 
-// The answer of the first half, with the loads of the intervals beside it: zeros past the last interval, and zeros
-// alone where the plan is refused.
-pub struct Fitted {
-    pub verdict: Verdict,
-    pub loads: [u64; MAX_INTERVALS],
-}
-
-// Checks a plan against what was found of the jobs, and their bounds.
-pub fn fit(
+// Checks a plan against jobs that stand in three arrays, and their bounds. Fills the open sets of the intervals, and the
+// loads that the plan's steps make. The jobs become records, which are lent to the pass over them.
+pub fn fit<'a>(
     top: u64,
-    tests: JobTests,
+    releases: &'a [u64; MAX_JOBS],
+    deadlines: &'a [u64; MAX_JOBS],
+    cycles: &'a [u64; MAX_JOBS],
     count: usize,
     times: &[u64; MAX_BOUNDS],
     bounds: usize,
     plan: &[u8],
-) -> Fitted
+    sets: &mut [u64; MAX_INTERVALS],
+    loads: &mut [u64; MAX_INTERVALS],
+) -> Verdict
     requires { ⌜ (top ≤ maxFrequency) × (count ≤ maxJobs) × SmallBounds bounds (now times) ⌝ }
-    ensures { λ r. ⌜ ((jobs : List Job) → length jobs ≡ count → tests ≡ testsOf jobs (now (times .entry)) bounds (planSums (now (plan .entry))) → r ≡ fittedOf (fitting top jobs (boundsIn bounds (now (times .entry))) (now (plan .entry)) (answer (loadsOf jobs (boundsIn bounds (now (times .entry))) (now (plan .entry)))))) ⌝ }
+    requires { ⌜ (now sets ≡ replicate maxIntervals 0) × (now loads ≡ replicate maxIntervals 0) ⌝ }
+    ensures { λ r. ⌜ Fitted top (jobsIn count (now (releases .entry)) (now (deadlines .entry)) (now (cycles .entry))) (now (times .entry)) bounds (now (plan .entry)) r (now (sets .exit)) (now (loads .exit)) ⌝ }
+{
+    let mut sums = [0u64; MAX_JOBS];
+    add_plan(plan, &mut sums, loads);
+    let jobs = job_records(releases, deadlines, cycles, count);
+    let summed = lend_jobs(jobs, count, times, bounds, &sums, sets);
+    check_plan(top, sets, cycles, summed, count, times, bounds, plan, loads)
+}
+
+// Checks a plan against what was found of the jobs, and their bounds.
+fn check_plan(
+    top: u64,
+    sets: &[u64; MAX_INTERVALS],
+    cycles: &[u64; MAX_JOBS],
+    summed: usize,
+    count: usize,
+    times: &[u64; MAX_BOUNDS],
+    bounds: usize,
+    plan: &[u8],
+    loads: &[u64; MAX_INTERVALS],
+) -> Verdict
+    requires { ⌜ (top ≤ maxFrequency) × (count ≤ maxJobs) × SmallBounds bounds (now times) × (now loads ≡ planLoads (now plan)) ⌝ }
+    ensures { λ r. ⌜ ((jobs : List Job) → length jobs ≡ count → TestedBelow jobs count (now (times .entry)) bounds (planSums (now (plan .entry))) (now (sets .entry)) summed → HoldsCycles jobs (now (cycles .entry)) → r ≡ verdictOf (fitting top jobs (boundsIn bounds (now (times .entry))) (now (plan .entry)) passed)) ⌝ }
 {
     if wrong_length(plan) {
-        return unfit(15, 0);
+        return Verdict::Refused {
+            number: 15,
+            place: 0,
+        };
     }
     if number16(plan, 0) as usize != interval_count(bounds) {
-        return unfit(16, 0);
+        return Verdict::Refused {
+            number: 16,
+            place: 0,
+        };
     }
-    let sets = tests.sets;
-    let cycles = tests.cycles;
-    let steps = check_steps(&sets, &cycles, count, bounds, plan);
+    let steps = check_steps(sets, cycles, count, bounds, plan);
     if let Verdict::Refused { number, place } = steps {
-        return unfit(number, place);
+        return Verdict::Refused { number, place };
     }
-    let sums = check_sums(tests.summed, count);
-    if let Verdict::Refused { number, place } = sums {
-        return unfit(number, place);
+    if summed < count {
+        return Verdict::Refused {
+            number: 19,
+            place: summed as u32,
+        };
     }
-    let loads = interval_loads(plan);
-    let loaded = check_loads(top, times, bounds, &loads);
-    if let Verdict::Refused { number, place } = loaded {
-        return unfit(number, place);
-    }
-    Fitted {
-        verdict: Verdict::Passed,
-        loads,
-    }
-}
-
-fn unfit(number: u32, place: u32) -> Fitted
-    ensures { λ r. ⌜ r ≡ fittedOf (refused number place) ⌝ }
-{
-    Fitted {
-        verdict: Verdict::Refused { number, place },
-        loads: [0; MAX_INTERVALS],
-    }
-}
-
-// Goes through the jobs one after another: refusal 19, over the set of the jobs whose steps add to their cycles.
-fn check_sums(summed: u64, count: usize) -> Verdict
-    requires { ⌜ count ≤ maxJobs ⌝ }
-    ensures { λ r. ⌜ r ≡ verdictOf (byEntry count (sumFaultIn summed) passed) ⌝ }
-{
-    let mut j = 0;
-    while j < count {
-        if !is_marked(summed, j) {
-            return Verdict::Refused {
-                number: 19,
-                place: j as u32,
-            };
-        }
-        j += 1;
-    }
-    Verdict::Passed
-}
-
-// The cycles of each job's steps, added; zeros where the plan has not the length that its step count says.
-pub fn plan_sums(plan: &[u8]) -> [u64; MAX_JOBS]
-    ensures { λ r. ⌜ r ≡ planSums (now (plan .entry)) ⌝ }
-{
-    if wrong_length(plan) {
-        return [0; MAX_JOBS];
-    }
-    job_sums(plan)
-}
-
-// The cycles of each job's steps, added.
-fn job_sums(plan: &[u8]) -> [u64; MAX_JOBS]
-    requires { ⌜ length (now plan) ≡ 4 + 6 * stepCount (now plan) ⌝ }
-    ensures { λ r. ⌜ r ≡ jobSums (now (plan .entry)) ⌝ }
-{
-    let count = step_count(plan);
-    let mut sums = [0u64; MAX_JOBS];
-    let mut s = 0;
-    while s < count {
-        let step = decode_step(plan, s);
-        let job = step.job;
-        sums[job] += step.cycles;
-        s += 1;
-    }
-    sums
-}
-
-// The cycles of each interval's steps, added.
-fn interval_loads(plan: &[u8]) -> [u64; MAX_INTERVALS]
-    requires { ⌜ length (now plan) ≡ 4 + 6 * stepCount (now plan) ⌝ }
-    requires { ⌜ ((s : ℕ) → s < stepCount (now plan) → stepAt (now plan) s .interval < maxIntervals) ⌝ }
-    ensures { λ r. ⌜ r ≡ intervalLoads (now (plan .entry)) ⌝ }
-{
-    let count = step_count(plan);
-    let mut loads = [0u64; MAX_INTERVALS];
-    let mut s = 0;
-    while s < count {
-        let step = decode_step(plan, s);
-        let interval = step.interval;
-        loads[interval] += step.cycles;
-        s += 1;
-    }
-    loads
+    check_loads(top, times, bounds, loads)
 }
 
 // Goes through the intervals one after another: refusal 20.

@@ -14,7 +14,7 @@ use Rattle.model.specs.Prices.{fitsLoad}
 use Rattle.model.specs.Steps.{stepCount, stepAt}
 use Rattle.model.specs.PriceBytes.{priceIntervals, endAt}
 use Rattle.fitting.specs.TestedJobs.{isMarked}
-use Rattle.fitting.specs.FirstHalf.{intervalLoads}
+use Rattle.fitting.specs.Sums.{intervalLoads}
 
 -- A plan whose steps each have one of the jobs and one of the intervals between the bounds, and the loads that they make.
 pub record Planned (jobs bounds : ℕ) (plan loads : List ℕ) : Type 0 where
