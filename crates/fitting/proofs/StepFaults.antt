@@ -13,6 +13,7 @@ use lib.Dec.{ltb, leb}
 use borrow.Author.Tests.{lt-ltb, le-ltb, lt-leb, le-leb, ltb-true, not-false}
 use Rattle.model.specs.declared.Job.{Job}
 use Rattle.model.specs.Limits.{maxIntervals, maxJobs, maxBounds}
+use Rattle.model.specs.Processors.{Processor}
 use Rattle.model.specs.Steps.{Step, cellOf, cellAt, stepAt}
 use Rattle.model.specs.Checking.{isOpenPair, stepFault}
 use Rattle.model.proofs.Numbers.{lt-or-le, true-or-false, both-true}
@@ -21,7 +22,7 @@ use Rattle.model.proofs.Tests.{neither, no-fault}
 use Rattle.walking.specs.declared.steps.Step.{Step as CodeStep}
 use Rattle.walking.specs.Walking.{codeStep, modelStep}
 use Rattle.fitting.specs.TestedJobs.{isMarked, openSetsBelow, HoldsCycles}
-use Rattle.fitting.specs.FirstHalf.{boundsIn, openPairIn, faultWhere, faultOfStep, stepFaultIn}
+use Rattle.fitting.specs.FirstHalf.{boundsIn, siteIn, openPairIn, faultWhere, faultOfStep, stepFaultIn}
 use Rattle.fitting.proofs.BoundsIn.{intervals-in, open-in}
 use Rattle.fitting.proofs.TestedJobs.{open-has}
 use Rattle.fitting.proofs.SeenSets.{seenSets, marked-seen, seen-more, seen-room}
@@ -167,11 +168,11 @@ module _ (jobs : List Job) (times : List ℕ) (bounds : ℕ) (cycles : List ℕ)
           )
           (open-in bounds times _ (step .interval) (omega arith))
 
-  pub same-fault : (top : ℕ) (plan : List ℕ) (s : ℕ) → stepFault top jobs bs plan s ≡ stepFaultIn sets cycles (length jobs) bounds plan s
+  pub same-fault : (processor : Processor) (plan : List ℕ) (s : ℕ) → stepFault (siteIn processor jobs times bounds) plan s ≡ stepFaultIn sets cycles (length jobs) bounds plan s
   unfolding stepFault stepFaultIn
-  same-fault top plan s = go (true-or-false (openPairIn sets (length jobs) bounds (stepAt plan s)))
+  same-fault processor plan s = go (true-or-false (openPairIn sets (length jobs) bounds (stepAt plan s)))
     where
       go : (openPairIn sets (length jobs) bounds (stepAt plan s) ≡ true) ⊎ (openPairIn sets (length jobs) bounds (stepAt plan s) ≡ false)
-          → stepFault top jobs bs plan s ≡ stepFaultIn sets cycles (length jobs) bounds plan s
+          → stepFault (siteIn processor jobs times bounds) plan s ≡ stepFaultIn sets cycles (length jobs) bounds plan s
       go (inr no-pair) = rw (same-pair (stepAt plan s), no-pair)
       go (inl pair) = rw (same-pair (stepAt plan s), held .at (stepAt plan s .job) (pair-numbers sets cycles (length jobs) bounds (stepAt plan s) pair .1))

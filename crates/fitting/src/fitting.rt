@@ -6,13 +6,14 @@ ghost use lib.ListN.{length, replicate};
 ghost use Rattle.model.specs.declared.Job.{Job};
 ghost use Rattle.model.specs.Limits.{maxFrequency, maxJobs, maxIntervals};
 ghost use Rattle.model.specs.Outcome.{byEntry};
+ghost use Rattle.model.specs.Processors.{Processor, topOf};
 ghost use Rattle.model.specs.Checking.{fitting};
 ghost use Rattle.tables.specs.Tables.{jobsIn};
 ghost use Rattle.energy.specs.Figures.{SmallBounds};
 ghost use Rattle.fitting.specs.Verdicts.{verdictOf, passed};
 ghost use Rattle.fitting.specs.TestedJobs.{TestedBelow, HoldsCycles};
 ghost use Rattle.fitting.specs.Sums.{planSums, planLoads};
-ghost use Rattle.fitting.specs.FirstHalf.{boundsIn, loadFaultIn, Fitted};
+ghost use Rattle.fitting.specs.FirstHalf.{boundsIn, siteIn, loadFaultIn, Fitted};
 use crate::Verdict;
 use crate::cells::check_steps;
 use crate::records::job_records;
@@ -63,7 +64,7 @@ fn check_plan(
     loads: &[u64; MAX_INTERVALS],
 ) -> Verdict
     requires { ⌜ (top ≤ maxFrequency) × (count ≤ maxJobs) × SmallBounds bounds (now times) × (now loads ≡ planLoads (now plan)) ⌝ }
-    ensures { λ r. ⌜ ((jobs : List Job) → length jobs ≡ count → TestedBelow jobs count (now (times .entry)) bounds (planSums (now (plan .entry))) (now (sets .entry)) summed → HoldsCycles jobs (now (cycles .entry)) → r ≡ verdictOf (fitting top jobs (boundsIn bounds (now (times .entry))) (now (plan .entry)) passed)) ⌝ }
+    ensures { λ r. ⌜ ((processor : Processor) (jobs : List Job) → topOf processor ≡ top → length jobs ≡ count → TestedBelow jobs count (now (times .entry)) bounds (planSums (now (plan .entry))) (now (sets .entry)) summed → HoldsCycles jobs (now (cycles .entry)) → r ≡ verdictOf (fitting (siteIn processor jobs (now (times .entry)) bounds) (now (plan .entry)) passed)) ⌝ }
 {
     if wrong_length(plan) {
         return Verdict::Refused {

@@ -4,6 +4,8 @@ ghost use Prim.Native.Nat.{_-_, _<_, _≤_};
 ghost use Rattle.model.specs.Limits.{maxJobs, maxIntervals};
 ghost use Rattle.energy.specs.Figures.{SmallBounds};
 ghost use Rattle.fitting.specs.TestedJobs.{SmallSets, EndsBy, withRange, withOpen};
+use intervals::bound_number;
+use intervals::interval_count;
 use model::MAX_BOUNDS;
 use model::MAX_INTERVALS;
 
