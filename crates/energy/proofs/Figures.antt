@@ -13,10 +13,14 @@ use Rattle.model.specs.Jobs.{jobOf, ValidJobs}
 use Rattle.model.specs.Points.{Point}
 use Rattle.model.specs.Bands.{bandCount, frequencyOf, powerAt, gap}
 use Rattle.model.specs.Intervals.{intervalCount, boundAt, latestDeadline, Bounds}
+use Rattle.model.specs.Sites.{Site, ValidSite}
 use Rattle.model.specs.Plans.{Shares, load}
 use Rattle.model.specs.Energy.{bandCycles, bandTotal, energyFigure}
 use Rattle.model.proofs.Sum.{sum-cong}
 use Rattle.model.proofs.Intervals.{bounds-mono}
+use Rattle.intervals.proofs.Padded.{take-padded}
+use Rattle.site.specs.declared.SiteTable.{SiteTable}
+use Rattle.site.specs.SiteTables.{HoldsSite}
 use Rattle.energy.specs.Figures.{SmallBounds, bandTotalOf, idleOf, figureOfLoads}
 
 module _ (ws : List Point) (jobs : List Job) (bounds loads : List ℕ) (shares : Shares)
@@ -47,3 +51,10 @@ small-bounds {jobs} {bounds} B valid few times first =
   where
     held : (i : ℕ) → i < length bounds → getD times i 0 ≡ boundAt bounds i
     held i below = sym (getD-take (length bounds) times i 0 below) ∙ ap (λ (l : List ℕ). getD l i 0) first
+
+-- the bounds of a site that was read are small
+pub site-bounds-small : {site : Site} {table : SiteTable} {releases deadlines cycles times : List ℕ}
+    → ValidSite site → HoldsSite site table releases deadlines cycles times → SmallBounds (table .bounds) times
+site-bounds-small {site} valid holds =
+    rw (holds .bounds-are .counted, holds .bounds-are .array)
+    (small-bounds (valid .bounds) (valid .jobs) (valid .few-bounds) _ (take-padded (site .bounds) (valid .few-bounds)))

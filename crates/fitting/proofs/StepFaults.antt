@@ -22,7 +22,7 @@ use Rattle.model.proofs.Tests.{neither, no-fault}
 use Rattle.walking.specs.declared.steps.Step.{Step as CodeStep}
 use Rattle.walking.specs.Walking.{codeStep, modelStep}
 use Rattle.fitting.specs.TestedJobs.{isMarked, openSetsBelow, HoldsCycles}
-use Rattle.fitting.specs.FirstHalf.{boundsIn, siteIn, openPairIn, faultWhere, faultOfStep, stepFaultIn}
+use Rattle.fitting.specs.FirstHalf.{siteIn, openPairIn, faultWhere, faultOfStep, stepFaultIn}
 use Rattle.fitting.proofs.BoundsIn.{intervals-in, open-in}
 use Rattle.fitting.proofs.TestedJobs.{open-has}
 use Rattle.fitting.proofs.SeenSets.{seenSets, marked-seen, seen-more, seen-room}
@@ -148,14 +148,11 @@ module _ (jobs : List Job) (times : List ℕ) (bounds : ℕ) (cycles : List ℕ)
   abbrev sets : List ℕ
   sets = openSetsBelow jobs (length jobs) times bounds
 
-  abbrev bs : List ℕ
-  bs = boundsIn bounds times
-
-  same-pair : (step : Step) → isOpenPair 0 jobs bs times step ≡ openPairIn sets (length jobs) bounds step
-  same-pair step = go (lt-or-le (step .interval) (bounds - 1)) (lt-or-le (step .job) (length jobs))
+  same-pair : (processor : Processor) (step : Step) → isOpenPair (siteIn processor jobs times bounds) step ≡ openPairIn sets (length jobs) bounds step
+  same-pair processor step = go (lt-or-le (step .interval) (bounds - 1)) (lt-or-le (step .job) (length jobs))
     where
       go : (step .interval < bounds - 1) ⊎ (bounds - 1 ≤ step .interval) → (step .job < length jobs) ⊎ (length jobs ≤ step .job)
-          → isOpenPair 0 jobs bs times step ≡ openPairIn sets (length jobs) bounds step
+          → isOpenPair (siteIn processor jobs times bounds) step ≡ openPairIn sets (length jobs) bounds step
       go (inr outside) either = rw (intervals-in bounds times, le-ltb (step .interval) (bounds - 1) outside)
       go (inl interval) (inr outside) =
           rw (intervals-in bounds times, lt-ltb (step .interval) (bounds - 1) interval, le-ltb (step .job) (length jobs) outside)
@@ -174,5 +171,5 @@ module _ (jobs : List Job) (times : List ℕ) (bounds : ℕ) (cycles : List ℕ)
     where
       go : (openPairIn sets (length jobs) bounds (stepAt plan s) ≡ true) ⊎ (openPairIn sets (length jobs) bounds (stepAt plan s) ≡ false)
           → stepFault (siteIn processor jobs times bounds) plan s ≡ stepFaultIn sets cycles (length jobs) bounds plan s
-      go (inr no-pair) = rw (same-pair (stepAt plan s), no-pair)
-      go (inl pair) = rw (same-pair (stepAt plan s), held .at (stepAt plan s .job) (pair-numbers sets cycles (length jobs) bounds (stepAt plan s) pair .1))
+      go (inr no-pair) = rw (same-pair processor (stepAt plan s), no-pair)
+      go (inl pair) = rw (same-pair processor (stepAt plan s), held .at (stepAt plan s .job) (pair-numbers sets cycles (length jobs) bounds (stepAt plan s) pair .1))

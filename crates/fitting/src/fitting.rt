@@ -28,11 +28,11 @@ use walking::wrong_length;
 
 // Checks a plan against jobs that stand in three arrays, and their bounds. Fills the open sets of the intervals, and the
 // loads that the plan's steps make. The jobs become records, which are lent to the pass over them.
-pub fn fit<'a>(
+pub fn fit(
     top: u64,
-    releases: &'a [u64; MAX_JOBS],
-    deadlines: &'a [u64; MAX_JOBS],
-    cycles: &'a [u64; MAX_JOBS],
+    releases: &[u64; MAX_JOBS],
+    deadlines: &[u64; MAX_JOBS],
+    cycles: &[u64; MAX_JOBS],
     count: usize,
     times: &[u64; MAX_BOUNDS],
     bounds: usize,

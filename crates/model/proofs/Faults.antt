@@ -48,7 +48,7 @@ module _ (site : Site) (plan : List ℕ) where
   cell-sound : (s : ℕ) → (wrongCell site plan s ≡ false) ↔ SoundCell (site .jobs) (site .bounds) plan s
   cell-sound s = (
     λ e.
-        let (pair, new) = neither (not (isOpenPair site plan (stepAt plan s))) _ e in
+        let (pair, new) = neither (not (isOpenPair site (stepAt plan s))) _ e in
         let (numbers, is-open) = both-true _ _ (not-false _ pair) in
         let (interval, job) = both-true _ _ numbers in
         record {

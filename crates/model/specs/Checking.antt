@@ -16,17 +16,17 @@ use Rattle.model.specs.Prices.{isBandNumber, fitsLoad}
 use Rattle.model.specs.Steps.{Step, planIntervals, stepCount, cellAt, stepAt, wrongPlanLength, jobSum, sharesOf}
 use Rattle.model.specs.PriceBytes.{priceIntervals, endAt, pricesOf}
 
+-- The pair of a job and an interval exists and is open.
+abbrev pub isOpenPair : Site → Step → Bool
+isOpenPair site step =
+    ltb (step .interval) (intervalCount (site .bounds)) && ltb (step .job) (length (site .jobs))
+    && isOpen (site .bounds) (jobOf (site .jobs) (step .job)) (step .interval)
+
 -- The first half, 15 to 20: the plan fits the site.
 module _ (site : Site) (plan : List ℕ) where
-  -- the pair of a job and an interval exists and is open
-  abbrev pub isOpenPair : Step → Bool
-  isOpenPair step =
-      ltb (step .interval) (intervalCount (site .bounds)) && ltb (step .job) (length (site .jobs))
-      && isOpen (site .bounds) (jobOf (site .jobs) (step .job)) (step .interval)
-
   -- 17: cell not an open pair, or present earlier.
   abbrev pub wrongCell : (step : ℕ) → Bool
-  wrongCell s = not (isOpenPair (stepAt plan s)) || someBelow s (λ r. eqb (cellAt plan r) (cellAt plan s))
+  wrongCell s = not (isOpenPair site (stepAt plan s)) || someBelow s (λ r. eqb (cellAt plan r) (cellAt plan s))
 
   -- 18: cycles 0 or above the job's.
   abbrev pub wrongCycles : (step : ℕ) → Bool

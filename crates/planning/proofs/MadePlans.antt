@@ -34,7 +34,7 @@ use Rattle.workloads.specs.Placement.{SmallestPriced}
 use Rattle.planner.specs.PlacedTables.{PlacedTables}
 use Rattle.planning.specs.Workloads.{SiteWorkload}
 use Rattle.planning.specs.MadePlans.{MadePlan}
-use Rattle.planning.proofs.SiteTables.{site-bounds-small}
+use Rattle.energy.proofs.Figures.{site-bounds-small}
 use Rattle.planning.proofs.Placeable.{jobs-counted, intervals-counted, workload-gives, smallest-prices-fit, smallest-prices-least}
 use Rattle.planning.proofs.RoomSizes.{pairs-few}
 use Rattle.planning.proofs.WrittenSite.{plan-planned}

@@ -38,7 +38,7 @@ use Rattle.workloads.specs.Arrays.{numbersIn, problemIn, SoundWorkload}
 use Rattle.workloads.proofs.SiteProblem.{problem-sound}
 use Rattle.workloads.proofs.SitePrices.{problem-same}
 use Rattle.planning.specs.Workloads.{numberOf, SiteWorkload}
-use Rattle.planning.proofs.SiteTables.{site-bounds-small}
+use Rattle.energy.proofs.Figures.{site-bounds-small}
 
 -- past the end of a list stands the default
 getD-past : {A : Type 0} (l : List A) (i : ℕ) (d : A) → length l ≤ i → getD l i d ≡ d

@@ -14,7 +14,7 @@ use Rattle.planning.specs.Workloads.{SiteWorkload}
 use Rattle.prices.specs.RisingPrices.{CanPrice}
 use Rattle.site.proofs.HeldSites.{held-small}
 use Rattle.planning.proofs.Placeable.{workload-fits, workload-can-price}
-use Rattle.planning.proofs.SiteTables.{site-bounds-small}
+use Rattle.energy.proofs.Figures.{site-bounds-small}
 use Rattle.planning.proofs.MadePlans.{rooms, steps-few, made-plan}
 use Rattle.planning.proofs.making.make_plan.Statement.{statement}
 use Rattle.planning.proofs.making.make_plan.Tie as tie
