@@ -1,7 +1,8 @@
 -- What the check accepts and what acceptance means: it accepts exactly when the plan gives each job its cycles and the prices
 -- fit; a site that was read is checked as such; and an accepted plan has least energy.
 -- Assumes nothing.
-use mathlib.Core.Path.{ap, sym}
+use mathlib.Core.Path.{_≡_, ap, sym}
+use mathlib.Core.List.{List}
 use Prim.Native.Nat.{ℕ}
 use Rattle.model.specs.Outcome.{Outcome, answer}
 use Rattle.model.specs.Processors.{allPoints, workingOf}
