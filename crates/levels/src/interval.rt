@@ -71,7 +71,7 @@ fn setting_in(
 }
 
 // The setting of a load that fits, over the working points.
-fn setting_of(working: PointTable, length: u64, load: u64) -> SettingAnswer
+pub fn setting_of(working: PointTable, length: u64, load: u64) -> SettingAnswer
     requires { ⌜ SmallPoints working × Curve (pointsOf working) ⌝ }
     requires { ⌜ length ≤ maxDeadline ⌝ }
     requires { ⌜ Fits (pointsOf working) length load ⌝ }

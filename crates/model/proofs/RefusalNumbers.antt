@@ -130,7 +130,7 @@ setting-by levels size load =
     (by-when numbers (ltb (size * topOf processor) load) 26 (inr (omega arith))
     (by-answer numbers (settingOf (workingOf processor) size load)))
 
-site-by : (levels jobs : List ℕ) → RefusesBy (From 1 10) (readSite levels jobs)
+pub site-by : (levels jobs : List ℕ) → RefusesBy (From 1 10) (readSite levels jobs)
 unfolding readSite
 site-by levels jobs =
     by-then (From 1 10) (readLevels levels) _ (widen (λ n low. omega (arith, low)) (levels-by levels)) λ read.
