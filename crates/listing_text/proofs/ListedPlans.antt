@@ -29,7 +29,7 @@ use Rattle.site.proofs.HeldSites.{held-points, held-small, held-curve, held-top
 use Rattle.energy.specs.Figures.{SmallBounds}
 use Rattle.writing.proofs.Joined.{joined-cong}
 use Rattle.planning.proofs.RoomSizes.{jobs-counted}
-use Rattle.planning.proofs.SiteTables.{site-bounds-small}
+use Rattle.energy.proofs.Figures.{site-bounds-small}
 use Rattle.listing_text.specs.PlanText.{spanLines, planText, textOfPlan}
 use Rattle.listing_text.specs.ShownPlans.{boundsIn, pricesIn, ShownPlan, ListedPlan}
 
