@@ -1,0 +1,13 @@
+-- `members::none` meets its contract. Assumes nothing.
+use borrow.Author.Needs.{needs}
+use Rattle.model.specs.Sum.{sum}
+use Rattle.job_sets.specs.JobSets.{setOf}
+use Rattle.job_sets.proofs.members.none.Statement.{statement}
+use Rattle.job_sets.proofs.members.none.Tie as tie
+
+returns : tie.Need-returns
+unfolding setOf sum
+returns c = search needs
+
+pub none-spec : {M : Type 1} → statement M
+none-spec = tie.close (tie.spec returns)

@@ -1,0 +1,3 @@
+-- What a set of jobs has, and what the functions of this crate answer.
+pub mod JobSets
+pub mod IntervalSets
