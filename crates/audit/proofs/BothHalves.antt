@@ -36,7 +36,8 @@ use Rattle.fitting.specs.declared.Verdict.{Verdict}
 use Rattle.fitting.specs.declared.Verdict.the-variants.{Passed, Refused}
 use Rattle.audit.specs.declared.checking.CheckAnswer.the-variants.{Accepted, Refused as RefusedCheck}
 use Rattle.fitting.specs.Verdicts.{verdictOf, passed}
-use Rattle.fitting.specs.TestedJobs.{openSetsBelow}
+use Rattle.fitting.specs.SetsHave.{SetsHave}
+use Rattle.fitting.specs.TestedJobs.{openBelow}
 use Rattle.fitting.specs.FirstHalf.{boundsIn, Fitted}
 use Rattle.pricing.specs.SecondHalf.{Planned}
 use Rattle.audit.specs.Answers.{checkAnswer, checkedTables}
@@ -105,8 +106,8 @@ module _
               number place (sym (fitted .judged) ∙ e),
         )
 
-    pub sets-opened : sets ≡ openSetsBelow jobs count times bounds
-    sets-opened = fitted .opened ∙ rw (length-jobsIn count releases deadlines cycles)
+    pub sets-opened : SetsHave sets (openBelow jobs count times bounds)
+    sets-opened = rw (length-jobsIn count releases deadlines cycles) at (fitted .opened)
 
     module _ (fits : first ≡ Passed) where
       first-passed : {B : Type 0} (next : Outcome B) → fitting top jobs bs plan next ≡ next

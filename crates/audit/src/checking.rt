@@ -11,6 +11,7 @@ ghost use Rattle.audit.specs.Answers.{checkAnswer, checkedTables, checke
 use energy::energy_figure;
 use fitting::Verdict;
 use fitting::fit;
+use job_sets::SET_WORDS;
 use levels::PointTable;
 use levels::working_levels;
 use model::MAX_BOUNDS;
@@ -86,7 +87,7 @@ fn check_tables<'a>(
 {
     let mut times = [0u64; MAX_BOUNDS];
     let bounds = bounds_of(releases, deadlines, count, &mut times);
-    let mut sets = [0u64; MAX_INTERVALS];
+    let mut sets = [0u64; SET_WORDS];
     let mut loads = [0u64; MAX_INTERVALS];
     let first = fit(
         top,

@@ -7,6 +7,7 @@ use borrow.Author.Needs.{needs}
 use Rattle.model.specs.Limits.{maxJobs}
 use Rattle.tables.proofs.Read.{length-jobsIn, jobs-count}
 use Rattle.energy.specs.Figures.{SmallBounds}
+use Rattle.fitting.proofs.SetsHave.{no-jobs}
 use Rattle.audit.proofs.BothHalves.{bounds-small, first-refused, sets-opened, planned, second-refused, all-passed}
 use Rattle.audit.proofs.checking.check_tables.Statement.{statement}
 use Rattle.audit.proofs.checking.check_tables.Tie as tie
@@ -30,7 +31,7 @@ fit-requires : tie.Need-fit-requires
 fit-requires c κs =
     let bounded = c .before .before .before in
     let start = bounded .before .before .before .before in
-    ((start .pre .0 .2, few start, small bounded), (refl, refl))
+    ((start .pre .0 .2, few start, small bounded), (no-jobs, refl))
 
 enum-known-first : tie.Need-enum-known-first
 enum-known-first c = search needs
