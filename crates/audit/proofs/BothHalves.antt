@@ -34,7 +34,8 @@ use Rattle.energy.proofs.Figures.{figure-of-plan}
 use Rattle.fitting.specs.declared.Verdict.{Verdict}
 use Rattle.fitting.specs.declared.Verdict.the-variants.{Passed, Refused}
 use Rattle.fitting.specs.Verdicts.{verdictOf, passed}
-use Rattle.fitting.specs.TestedJobs.{openSetsBelow}
+use Rattle.fitting.specs.SetsHave.{SetsHave}
+use Rattle.fitting.specs.TestedJobs.{openBelow}
 use Rattle.fitting.specs.FirstHalf.{boundsIn, siteIn, Fitted}
 use Rattle.fitting.proofs.Verdicts.{Both, both-alone, both-when, both-entries, both-refused, both-passed}
 use Rattle.fitting.proofs.FirstHalf.{are-loads, load-at}
@@ -85,8 +86,8 @@ module _ {site : Site} {table : SiteTable} {releases deadlines cycles times : Li
     first-refused number place e =
         rw (both-refused (fitting site plan passed) _ (fitting-both site plan (pricing site plan prices (answer (figureOf site plan)))) number place (sym judged ∙ e))
 
-    pub sets-opened : sets ≡ openSetsBelow jobs (table .jobs) times (table .bounds)
-    sets-opened = fitted .opened ∙ rw (length-jobsIn (table .jobs) releases deadlines cycles)
+    pub sets-opened : SetsHave sets (openBelow jobs (table .jobs) times (table .bounds))
+    sets-opened = rw (length-jobsIn (table .jobs) releases deadlines cycles) at (fitted .opened)
 
     module _ (fits : first ≡ Passed) where
       first-passed : {B : Type 0} (next : Outcome B) → fitting site plan next ≡ next

@@ -7,6 +7,7 @@ ghost use Rattle.audit.specs.Answers.{checkAnswer};
 use energy::energy_figure;
 use fitting::Verdict;
 use fitting::fit;
+use job_sets::SET_WORDS;
 use model::MAX_BOUNDS;
 use model::MAX_INTERVALS;
 use model::MAX_JOBS;
@@ -60,7 +61,7 @@ fn check_site(
     let working = site.working;
     let count = site.jobs;
     let bounds = site.bounds;
-    let mut sets = [0u64; MAX_INTERVALS];
+    let mut sets = [0u64; SET_WORDS];
     let mut loads = [0u64; MAX_INTERVALS];
     let first = fit(
         site.top,

@@ -83,7 +83,9 @@ module _
       faultIn = stepFaultIn sets cycles count bounds plan
 
       same-step : (s : ℕ) → stepFault site plan s ≡ faultIn s
-      same-step s = rw (tested .opened, ← counted) (same-fault jobs times bounds cycles held few-bounds processor plan s)
+      same-step s =
+          rw (← counted)
+          (same-fault jobs times bounds sets cycles (rw (← counted) at (tested .opened)) held few-bounds (omega arith) processor plan s)
 
       past-lengths : outcome ≡ byEntry (stepCount plan) faultIn afterSteps
       unfolding fitting

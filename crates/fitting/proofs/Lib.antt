@@ -3,6 +3,7 @@ pub mod Verdicts
 pub mod Arrays
 pub mod Rows
 pub mod Tallies
+pub mod SetsHave
 pub mod OpenRange
 pub mod TestedJobs
 pub mod SeenSets

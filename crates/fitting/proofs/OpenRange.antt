@@ -1,26 +1,26 @@
 -- Laws of the intervals that a job is open in: the bounds before a time, one set after another as the code fills them,
 -- and that the intervals between the two bounds are those that the job is open in.
 -- Assumes nothing.
-use mathlib.Core.Path.{_≡_, sym, _∙_, ap}
-use mathlib.Core.Bool.{Bool, false, _&&_, and-false}
+use mathlib.Core.Path.{_≡_, refl}
+use mathlib.Core.Bool.{false, _&&_, _||_, and-false}
 use mathlib.Core.Logic.{_⊎_, inl, inr}
 use mathlib.Core.List.{List}
-use Prim.Native.Nat.{ℕ, _+_, _-_, _^_, _<_, _≤_, max}
+use Prim.Native.Nat.{ℕ, _+_, _-_, _<_, _≤_, max}
+use native.Mathlib.Decide.{ℕ-discrete}
 use native.Mathlib.Omega.{arith}
-use lib.ListN.{length, getD, set}
-use lib.Dec.{ltb, leb}
-use borrow.Author.Tests.{lt-ltb, le-ltb, le-leb, lt-leb, leb-true, leb-false}
-use Rattle.model.specs.Limits.{maxIntervals}
-use Rattle.model.specs.Entries.{listOf}
-use Rattle.model.specs.Sum.{onlyIf}
+use lib.ListN.{length, getD}
+use lib.Dec.{leb, eqb}
+use borrow.Author.Tests.{eq-eqb, ne-eqb, lt-ltb, le-ltb, le-leb, lt-leb, leb-true, leb-false}
+use Rattle.model.specs.Limits.{maxJobs}
 use Rattle.model.specs.Search.{firstBelow}
 use Rattle.model.proofs.Numbers.{lt-or-le, rises-between}
 use Rattle.model.proofs.Search.{FirstBelow, firstBelow-law}
-use Rattle.model.proofs.Entries.{getD-listOf, listOf-cong, listOf-getD}
 use Rattle.energy.specs.Figures.{SmallBounds}
 use Rattle.intervals.specs.Times.{RisingTimes}
-use Rattle.fitting.specs.TestedJobs.{openBetween, EndsBy, withBits, withRange, withOpen}
-use Rattle.fitting.proofs.Arrays.{store-holds}
+use Rattle.job_sets.specs.IntervalSets.{setWords, Added}
+use Rattle.fitting.specs.SetsHave.{SetsHave, withJobIn}
+use Rattle.fitting.specs.TestedJobs.{EndsBy, inRange, opensIn}
+use Rattle.fitting.proofs.SetsHave.{have-cong, have-added}
 
 -- bounds rise, as the search for one of them asks
 pub bounds-rising : {bounds : ℕ} {times : List ℕ} → SmallBounds bounds times → RisingTimes bounds times
@@ -84,72 +84,54 @@ module _ (bounds : ℕ) (times : List ℕ) (time : ℕ) where
             omega (arith, split .after (i + 1) (omega arith) (omega arith), apart (i + 1) at (omega arith))
 
 -- One set after another, as the code fills them.
-module _ (sets : List ℕ) (j : ℕ) where
-  abbrev added : (test : ℕ → Bool) → (i : ℕ) → ℕ
-  added test i = getD sets i 0 + onlyIf (test i) (2 ^ j)
+outside : (first end i : ℕ) → end ≤ i → inRange first end i ≡ false
+outside first end i past = rw (le-ltb i end past, and-false)
 
-  pub bits-cong : (f g : ℕ → Bool) → ((i : ℕ) → i < maxIntervals → f i ≡ g i) → withBits sets j f ≡ withBits sets j g
-  unfolding withBits
-  bits-cong f g same = listOf-cong maxIntervals (added f) (added g) (λ i inside. rw (same i inside))
+module _ (sets : List ℕ) (j first : ℕ) where
+  pub range-none : length sets ≡ setWords → SetsHave sets (withJobIn sets j (inRange first first))
+  range-none size = record { size = size; has = λ i k inside below. rw (empty i (lt-or-le i first)) }
+    where
+      empty : (i : ℕ) → (i < first) ⊎ (first ≤ i) → inRange first first i ≡ false
+      empty i (inl before) = rw (lt-leb first i before)
+      empty i (inr past) = outside first first i past
 
-  abbrev inRange : (first end i : ℕ) → Bool
-  inRange first end i = leb first i && ltb i end
+  -- the set of the next interval gets the job, the others stay
+  pub range-more : {next after : List ℕ} {i : ℕ} → SetsHave next (withJobIn sets j (inRange first i)) → Added next after i j → j < maxJobs → first ≤ i
+      → SetsHave after (withJobIn sets j (inRange first (i + 1)))
+  range-more {i = i} filled added small from = have-added filled added small (λ k l inside below. at k l (ℕ-discrete k i))
+    where
+      kept : (k : ℕ) → (k < i) ⊎ (i ≤ k) → (k ≡ i → ⊥) → inRange first i k ≡ inRange first (i + 1) k
+      kept k (inl before) other = rw (lt-ltb k i before, lt-ltb k (i + 1) (omega arith))
+      kept k (inr after) other = let past : i + 1 ≤ k = omega arith in rw (outside first i k after, outside first (i + 1) k past)
 
-  outside : (first end i : ℕ) → end ≤ i → inRange first end i ≡ false
-  outside first end i past = rw (le-ltb i end past, and-false)
+      at : (k l : ℕ) → Dec (k ≡ i)
+          → ((eqb k i && eqb l j) || withJobIn sets j (inRange first i) k l) ≡ withJobIn sets j (inRange first (i + 1)) k l
+      at k l (yes here) = rw (here, eq-eqb i i refl, outside first i i (omega arith), le-leb first i from, lt-ltb i (i + 1) (omega arith))
+      at k l (no other) = rw (ne-eqb k i other, kept k (lt-or-le k i) other)
 
-  module _ (first : ℕ) where
-    pub range-none : length sets ≡ maxIntervals → sets ≡ withRange sets j first first
-    unfolding withBits
-    range-none size =
-        sym (listOf-getD sets 0)
-        ∙ ap (λ (n : ℕ). listOf n (λ i. getD sets i 0)) size
-        ∙ listOf-cong maxIntervals _ (added (inRange first first)) (λ i inside. rw (empty i (lt-or-le i first)) (omega arith))
-      where
-        empty : (i : ℕ) → (i < first) ⊎ (first ≤ i) → inRange first first i ≡ false
-        empty i (inl before) = rw (lt-leb first i before)
-        empty i (inr past) = outside first first i past
+  -- a range that was filled to its end; it may be empty
+  pub range-whole : {next : List ℕ} {i end : ℕ} → SetsHave next (withJobIn sets j (inRange first i)) → end ≤ i → i ≤ max first end
+      → SetsHave next (withJobIn sets j (inRange first end))
+  range-whole {i = i} {end = end} filled met last = have-cong filled (λ k l inside below. rw (same k (lt-or-le k first) (lt-or-le k end)))
+    where
+      same : (k : ℕ) → (k < first) ⊎ (first ≤ k) → (k < end) ⊎ (end ≤ k) → inRange first i k ≡ inRange first end k
+      same k (inl before) either = rw (lt-leb first k before)
+      same k (inr from) (inl below) = rw (lt-ltb k end below, lt-ltb k i (omega arith))
+      same k (inr from) (inr past) = rw (outside first end k past, outside first i k (omega arith))
 
-    -- the set of an interval that comes later is as it was
-    pub range-later : (i : ℕ) → i < maxIntervals → getD (withRange sets j first i) i 0 ≡ getD sets i 0
-    unfolding withBits
-    range-later i inside = getD-listOf maxIntervals (added (inRange first i)) i 0 inside ∙ rw (outside first i i (omega arith)) (omega arith)
-
-    pub range-more : (next : List ℕ) (i bit : ℕ) → i < maxIntervals → first ≤ i → next ≡ withRange sets j first i → bit ≡ 2 ^ j
-        → set next i (getD next i 0 + bit) ≡ withRange sets j first (i + 1)
-    unfolding withBits
-    range-more next i bit inside from filled is-bit =
-        rw (filled, is-bit)
-        (store-holds maxIntervals (added (inRange first i)) (added (inRange first (i + 1))) i _ inside
-        (rw (getD-listOf maxIntervals (added (inRange first i)) i 0 inside, outside first i i (omega arith), le-leb first i from, lt-ltb i (i + 1) (omega arith)) (omega arith))
-        (λ k within other. kept k (lt-or-le k i) other))
-      where
-        kept : (k : ℕ) → (k < i) ⊎ (i ≤ k) → (k ≡ i → ⊥) → added (inRange first (i + 1)) k ≡ added (inRange first i) k
-        kept k (inl before) other = rw (lt-ltb k i before, lt-ltb k (i + 1) (omega arith))
-        kept k (inr after) other = let past : i + 1 ≤ k = omega arith in rw (outside first i k after, outside first (i + 1) k past)
-
-    -- a range that was filled to its end; it may be empty
-    pub range-whole : (i end : ℕ) → end ≤ i → i ≤ max first end → withRange sets j first i ≡ withRange sets j first end
-    range-whole i end met last = bits-cong (inRange first i) (inRange first end) (λ k inside. same k (lt-or-le k first) (lt-or-le k end))
-      where
-        same : (k : ℕ) → (k < first) ⊎ (first ≤ k) → (k < end) ⊎ (end ≤ k) → inRange first i k ≡ inRange first end k
-        same k (inl before) either = rw (lt-leb first k before)
-        same k (inr from) (inl below) = rw (lt-ltb k end below, lt-ltb k i (omega arith))
-        same k (inr from) (inr past) = rw (outside first end k past, outside first i k (omega arith))
-
-    -- the intervals between the bounds are those that the job is open in
-    pub range-open : (release deadline : ℕ) (times : List ℕ) (bounds end : ℕ)
-        → BoundsBefore bounds times release first → EndsBy bounds times deadline end
-        → withRange sets j first end ≡ withOpen sets j release deadline times (bounds - 1)
-    range-open release deadline times bounds end starts ends =
-        bits-cong (inRange first end) _ (λ i inside. at i (lt-or-le i (bounds - 1)) (lt-or-le i first) (lt-or-le i end))
-      where
-        at : (i : ℕ) → (i < bounds - 1) ⊎ (bounds - 1 ≤ i) → (i < first) ⊎ (first ≤ i) → (i < end) ⊎ (end ≤ i)
-            → inRange first end i ≡ (ltb i (bounds - 1) && openBetween release deadline times i)
-        at i (inr past) start final = rw (le-ltb i (bounds - 1) past) (outside first end i (omega (arith, ends .within)))
-        at i (inl below) (inl before) final =
-            rw (lt-ltb i (bounds - 1) below, lt-leb first i before, lt-leb release (getD times i 0) (starts .before i before))
-        at i (inl below) (inr from) (inl under) =
-            rw (lt-ltb i (bounds - 1) below, le-leb first i from, lt-ltb i end under, le-leb release (getD times i 0) (starts .after i from (omega arith)), le-leb (getD times (i + 1) 0) deadline (ends .before i under))
-        at i (inl below) (inr from) (inr over) =
-            rw (lt-ltb i (bounds - 1) below, le-leb first i from, le-ltb i end over, le-leb release (getD times i 0) (starts .after i from (omega arith)), lt-leb (getD times (i + 1) 0) deadline (ends .after i over below))
+  -- the intervals between the bounds are those that the job is open in
+  pub range-open : {next times : List ℕ} {release deadline bounds end : ℕ} → SetsHave next (withJobIn sets j (inRange first end))
+      → BoundsBefore bounds times release first → EndsBy bounds times deadline end
+      → SetsHave next (withJobIn sets j (opensIn release deadline times bounds))
+  range-open {times = times} {release = release} {deadline = deadline} {bounds = bounds} {end = end} filled starts ends =
+      have-cong filled (λ i k inside below. rw (at i (lt-or-le i (bounds - 1)) (lt-or-le i first) (lt-or-le i end)))
+    where
+      at : (i : ℕ) → (i < bounds - 1) ⊎ (bounds - 1 ≤ i) → (i < first) ⊎ (first ≤ i) → (i < end) ⊎ (end ≤ i)
+          → inRange first end i ≡ opensIn release deadline times bounds i
+      at i (inr past) start final = rw (le-ltb i (bounds - 1) past) (outside first end i (omega (arith, ends .within)))
+      at i (inl below) (inl before) final =
+          rw (lt-ltb i (bounds - 1) below, lt-leb first i before, lt-leb release (getD times i 0) (starts .before i before))
+      at i (inl below) (inr from) (inl under) =
+          rw (lt-ltb i (bounds - 1) below, le-leb first i from, lt-ltb i end under, le-leb release (getD times i 0) (starts .after i from (omega arith)), le-leb (getD times (i + 1) 0) deadline (ends .before i under))
+      at i (inl below) (inr from) (inr over) =
+          rw (lt-ltb i (bounds - 1) below, le-leb first i from, le-ltb i end over, le-leb release (getD times i 0) (starts .after i from (omega arith)), lt-leb (getD times (i + 1) 0) deadline (ends .after i over below))

@@ -6,33 +6,36 @@ use mathlib.Core.Path.{_≡_, sym, _∙_}
 use mathlib.Core.Bool.{Bool, true, false, not, _&&_, _||_}
 use mathlib.Core.Logic.{_⊎_, inl, inr}
 use mathlib.Core.List.{List}
-use Prim.Native.Nat.{ℕ, _+_, _-_, _^_, _<_, _≤_}
+use Prim.Native.Nat.{ℕ, _+_, _-_, _<_, _≤_}
 use native.Mathlib.Omega.{arith}
-use lib.ListN.{length, getD, set}
+use lib.ListN.{length, getD}
 use lib.Dec.{ltb, leb}
 use borrow.Author.Tests.{lt-ltb, le-ltb, lt-leb, le-leb, ltb-true, not-false}
 use Rattle.model.specs.declared.Job.{Job}
 use Rattle.model.specs.Limits.{maxIntervals, maxJobs, maxBounds}
 use Rattle.model.specs.Processors.{Processor}
-use Rattle.model.specs.Steps.{Step, cellOf, cellAt, stepAt}
+use Rattle.model.specs.Steps.{Step, stepAt}
 use Rattle.model.specs.Checking.{isOpenPair, stepFault}
 use Rattle.model.proofs.Numbers.{lt-or-le, true-or-false, both-true}
 use Rattle.model.proofs.Steps.{step-cell}
 use Rattle.model.proofs.Tests.{neither, no-fault}
 use Rattle.walking.specs.declared.steps.Step.{Step as CodeStep}
 use Rattle.walking.specs.Walking.{codeStep, modelStep}
-use Rattle.fitting.specs.TestedJobs.{isMarked, openSetsBelow, HoldsCycles}
+use Rattle.job_sets.specs.JobSets.{isMember}
+use Rattle.job_sets.specs.IntervalSets.{setWords, setIn, Added}
+use Rattle.fitting.specs.SetsHave.{SetsHave}
+use Rattle.fitting.specs.TestedJobs.{openBelow, HoldsCycles}
 use Rattle.fitting.specs.FirstHalf.{siteIn, openPairIn, faultWhere, faultOfStep, stepFaultIn}
 use Rattle.fitting.proofs.BoundsIn.{intervals-in, open-in}
 use Rattle.fitting.proofs.TestedJobs.{open-has}
-use Rattle.fitting.proofs.SeenSets.{seenSets, marked-seen, seen-more, seen-room}
+use Rattle.fitting.proofs.SeenSets.{isSeen, seen-more}
 
 module _ (sets cycles : List ℕ) (count bounds : ℕ) (seen : List ℕ) (step : Step) where
   abbrev fault : ℕ
   fault = faultOfStep sets cycles count bounds seen step
 
   abbrev openHere : Bool
-  openHere = isMarked sets (step .interval) (step .job)
+  openHere = isMember (setIn sets (step .interval)) (step .job)
 
   -- no such interval, no such job
   pub no-interval : bounds ≤ step .interval + 1 → 17 ≡ fault
@@ -53,11 +56,11 @@ module _ (sets cycles : List ℕ) (count bounds : ℕ) (seen : List ℕ) (step :
     shut-pair shut = rw (is-pair, shut)
 
     module _ (is-open : openHere ≡ true) where
-      pub marked-pair : isMarked seen (step .interval) (step .job) ≡ true → 17 ≡ fault
+      pub marked-pair : isMember (setIn seen (step .interval)) (step .job) ≡ true → 17 ≡ fault
       unfolding faultOfStep
       marked-pair marked = rw (is-pair, is-open, marked)
 
-      module _ (new : isMarked seen (step .interval) (step .job) ≡ false) where
+      module _ (new : isMember (setIn seen (step .interval)) (step .job) ≡ false) where
         pub no-cycles : step .cycles < 1 → 18 ≡ fault
         unfolding faultOfStep
         no-cycles few = rw (is-pair, is-open, new, lt-leb 1 (step .cycles) few)
@@ -96,58 +99,43 @@ module _ (sets cycles : List ℕ) (count bounds : ℕ) where
   sound-interval plan s none = sound-pair _ (stepAt plan s) none .0
 
   -- where the pairs of the steps before s are marked, the faults of step s are those of the plan's cells
-  marked-fault : (plan : List ℕ) (s : ℕ) → bounds ≤ maxBounds → count ≤ maxJobs
-      → faultOfStep sets cycles count bounds (seenSets plan s) (stepAt plan s) ≡ stepFaultIn sets cycles count bounds plan s
+  marked-fault : (plan : List ℕ) (s : ℕ) (seen : List ℕ) → SetsHave seen (isSeen plan s) → bounds ≤ maxBounds → count ≤ maxJobs
+      → faultOfStep sets cycles count bounds seen (stepAt plan s) ≡ stepFaultIn sets cycles count bounds plan s
   unfolding faultOfStep stepFaultIn
-  marked-fault plan s few-bounds few-jobs = go (true-or-false (openPairIn sets count bounds (stepAt plan s)))
+  marked-fault plan s seen filled few-bounds few-jobs = go (true-or-false (openPairIn sets count bounds (stepAt plan s)))
     where
       go : (openPairIn sets count bounds (stepAt plan s) ≡ true) ⊎ (openPairIn sets count bounds (stepAt plan s) ≡ false)
-          → faultOfStep sets cycles count bounds (seenSets plan s) (stepAt plan s) ≡ stepFaultIn sets cycles count bounds plan s
+          → faultOfStep sets cycles count bounds seen (stepAt plan s) ≡ stepFaultIn sets cycles count bounds plan s
       go (inr no-pair) = rw no-pair
       go (inl pair) =
           let numbers = pair-numbers (stepAt plan s) pair in
           let below-interval : stepAt plan s .interval < maxIntervals = omega (arith, numbers .0) in
           let below-job : stepAt plan s .job < maxJobs = omega (arith, numbers .1) in
-          rw (
-            marked-seen plan s (stepAt plan s .interval) (stepAt plan s .job) below-interval below-job,
-            ← step-cell plan s,
-          )
+          rw (filled .has (stepAt plan s .interval) (stepAt plan s .job) below-interval below-job, ← step-cell plan s)
 
 -- One turn of going through the steps, as the code has it.
 module _
     (sets cycles : List ℕ) (count bounds : ℕ) (plan : List ℕ) (s : ℕ) (seen : List ℕ) (step : CodeStep) (number : ℕ)
-    (few-jobs : count ≤ maxJobs) (few-bounds : bounds ≤ maxBounds) (filled : seen ≡ seenSets plan s) (decoded : step ≡ codeStep (stepAt plan s))
+    (few-jobs : count ≤ maxJobs) (few-bounds : bounds ≤ maxBounds) (filled : SetsHave seen (isSeen plan s)) (decoded : step ≡ codeStep (stepAt plan s))
     (found : number ≡ faultOfStep sets cycles count bounds seen (modelStep step)) where
   -- the number found is the step's fault
   pub turn-fault : number ≡ stepFaultIn sets cycles count bounds plan s
-  turn-fault = found ∙ rw (filled, decoded) (marked-fault sets cycles count bounds plan s few-bounds few-jobs)
+  turn-fault = found ∙ rw decoded (marked-fault sets cycles count bounds plan s seen filled few-bounds few-jobs)
 
-  -- a step without fault can be marked, and is then among those seen
+  -- a step without fault has a pair, which is marked, and is then among those seen
   module _ (none : number ≡ 0) where
-    sound : (step .interval < bounds - 1) × (step .job < count) × (isMarked seen (step .interval) (step .job) ≡ false)
+    pub turn-pair : (step .interval < maxIntervals) × (step .job < maxJobs) × (length seen ≡ setWords)
     unfolding faultOfStep
-    sound = sound-pair sets cycles count bounds (isMarked seen (step .interval) (step .job)) (modelStep step) (sym found ∙ none)
+    turn-pair =
+        let sound = sound-pair sets cycles count bounds (isMember (setIn seen (step .interval)) (step .job)) (modelStep step) (sym found ∙ none) in
+        (omega (arith, sound .0), omega (arith, sound .1), filled .size)
 
-    inside : step .interval < maxIntervals
-    inside = omega (arith, sound .0)
-
-    below : step .job < maxJobs
-    below = omega (arith, sound .1)
-
-    cell : cellAt plan s ≡ cellOf (step .interval) (step .job)
-    cell = step-cell plan s ∙ rw decoded
-
-    pub turn-room : (step .interval < maxIntervals) × (step .job < maxJobs) × (getD seen (step .interval) 0 + 2 ^ step .job < 2 ^ 64)
-    turn-room = (inside, below, seen-room plan s (step .interval) (step .job) cell below seen filled inside (sound .2))
-
-    pub turn-marked : (next : List ℕ) → next ≡ set seen (step .interval) (getD seen (step .interval) 0 + 2 ^ step .job) → next ≡ seenSets plan (s + 1)
-    turn-marked next stored = stored ∙ seen-more plan s (step .interval) (step .job) cell below seen filled inside (sound .2)
+    pub turn-marked : (next : List ℕ) → Added seen next (step .interval) (step .job) → SetsHave next (isSeen plan (s + 1))
+    turn-marked next added = seen-more plan s (step .interval) (step .job) filled added (turn-pair .1) (step-cell plan s ∙ rw decoded)
 
 -- Over the open sets and the cycles of the jobs the faults are the definition's.
-module _ (jobs : List Job) (times : List ℕ) (bounds : ℕ) (cycles : List ℕ) (held : HoldsCycles jobs cycles) (few-bounds : bounds ≤ maxBounds) where
-  abbrev sets : List ℕ
-  sets = openSetsBelow jobs (length jobs) times bounds
-
+module _ (jobs : List Job) (times : List ℕ) (bounds : ℕ) (sets cycles : List ℕ) (opened : SetsHave sets (openBelow jobs (length jobs) times bounds))
+    (held : HoldsCycles jobs cycles) (few-bounds : bounds ≤ maxBounds) (few-jobs : length jobs ≤ maxJobs) where
   same-pair : (processor : Processor) (step : Step) → isOpenPair (siteIn processor jobs times bounds) step ≡ openPairIn sets (length jobs) bounds step
   same-pair processor step = go (lt-or-le (step .interval) (bounds - 1)) (lt-or-le (step .job) (length jobs))
     where
@@ -161,7 +149,7 @@ module _ (jobs : List Job) (times : List ℕ) (bounds : ℕ) (cycles : List ℕ)
             intervals-in bounds times,
             lt-ltb (step .interval) (bounds - 1) interval,
             lt-ltb (step .job) (length jobs) job,
-            open-has jobs times bounds (length jobs) (step .interval) (step .job) interval (omega arith) job,
+            open-has jobs times bounds (length jobs) opened (step .interval) (step .job) interval (omega arith) job (omega arith),
           )
           (open-in bounds times _ (step .interval) (omega arith))
 

@@ -15,7 +15,7 @@ use Rattle.model.specs.Bytes.{IsBytes}
 use Rattle.model.specs.Steps.{stepCount, stepAt}
 use Rattle.model.proofs.Bytes.{numberAt-small}
 use Rattle.fitting.specs.Sums.{tallyOf}
-use Rattle.fitting.proofs.Arrays.{zeros-hold, store-holds}
+use Rattle.fitting.proofs.Arrays.{same-hold, store-holds}
 
 module _ (size : ℕ) (key value : ℕ → ℕ) where
   pub tally-at : (count k : ℕ) → k < size → getD (tallyOf size count key value) k 0 ≡ sum count (λ s. onlyIf (eqb (key s) k) (value s))
@@ -24,7 +24,7 @@ module _ (size : ℕ) (key value : ℕ → ℕ) where
 
   pub tally-none : replicate size 0 ≡ tallyOf size 0 key value
   unfolding tallyOf sum
-  tally-none = zeros-hold size _ (λ k inside. refl)
+  tally-none = same-hold size 0 0 _ (λ k inside. refl)
 
   -- one entry more
   pub tally-more : (numbers : List ℕ) (s k v : ℕ) → numbers ≡ tallyOf size s key value → k ≡ key s → v ≡ value s → k < size
@@ -32,7 +32,7 @@ module _ (size : ℕ) (key value : ℕ → ℕ) where
   unfolding tallyOf
   tally-more numbers s k v filled is-key is-value inside =
       rw filled
-      (store-holds size _ _ k _ inside
+      (store-holds size 0 _ _ k _ inside
       (rw (
         getD-listOf {A = ℕ} size (λ k. sum s (λ s. onlyIf (eqb (key s) k) (value s))) k 0 inside,
         sum-next,

@@ -15,7 +15,10 @@ use Rattle.model.specs.Steps.{Step, cellAt, stepAt}
 use Rattle.model.specs.Checking.{fitting}
 use Rattle.fitting.specs.declared.Verdict.{Verdict}
 use Rattle.fitting.specs.Verdicts.{verdictOf, passed}
-use Rattle.fitting.specs.TestedJobs.{isMarked, openSetsBelow}
+use Rattle.job_sets.specs.JobSets.{isMember}
+use Rattle.job_sets.specs.IntervalSets.{setIn}
+use Rattle.fitting.specs.SetsHave.{SetsHave}
+use Rattle.fitting.specs.TestedJobs.{openBelow}
 use Rattle.fitting.specs.Sums.{planLoads}
 
 -- The bounds that stand in an array, the first `count` of them.
@@ -29,7 +32,7 @@ siteIn processor jobs times bounds = record { processor = processor; jobs = jobs
 -- The pair of a step exists and is open, over the open sets of the intervals.
 abbrev pub openPairIn : (sets : List ℕ) → (count bounds : ℕ) → Step → Bool
 openPairIn sets count bounds step =
-    ltb (step .interval) (bounds - 1) && ltb (step .job) count && isMarked sets (step .interval) (step .job)
+    ltb (step .interval) (bounds - 1) && ltb (step .job) count && isMember (setIn sets (step .interval)) (step .job)
 
 -- Refusal 17 at a step whose cell is present earlier or not, and 18; 0 for none.
 abbrev pub faultWhere : (sets cycles : List ℕ) → (count bounds : ℕ) → (earlier : Bool) → Step → ℕ
@@ -40,7 +43,7 @@ faultWhere sets cycles count bounds earlier step =
 -- The same where the pairs of the steps before it are marked.
 unfoldable pub faultOfStep : (sets cycles : List ℕ) → (count bounds : ℕ) → (seen : List ℕ) → Step → ℕ
 faultOfStep sets cycles count bounds seen step =
-    faultWhere sets cycles count bounds (isMarked seen (step .interval) (step .job)) step
+    faultWhere sets cycles count bounds (isMember (setIn seen (step .interval)) (step .job)) step
 
 -- The same over a plan's cells.
 unfoldable pub stepFaultIn : (sets cycles : List ℕ) → (count bounds : ℕ) → (plan : List ℕ) → (step : ℕ) → ℕ
@@ -54,5 +57,5 @@ loadFaultIn top bounds loads i = cond (leb (getD loads i 0) (lengthOf bounds i *
 -- What the first half answers of jobs and a plan, and what it fills: the open sets of the intervals and their loads.
 pub record Fitted (top : ℕ) (jobs : List Job) (times : List ℕ) (bounds : ℕ) (plan : List ℕ) (verdict : Verdict) (sets loads : List ℕ) : Type 0 where
   pub judged : (processor : Processor) → topOf processor ≡ top → verdict ≡ verdictOf (fitting (siteIn processor jobs times bounds) plan passed)
-  pub opened : sets ≡ openSetsBelow jobs (length jobs) times bounds
+  pub opened : SetsHave sets (openBelow jobs (length jobs) times bounds)
   pub added : loads ≡ planLoads plan

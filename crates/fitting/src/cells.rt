@@ -1,17 +1,18 @@
 // The steps of a plan one after another, by cell: refusals 17 and 18. The open pairs and the pairs seen so far are kept
-// as one word for each interval, bit number equal to job number.
+// as one set of jobs for each interval.
 ghost use mathlib.Core.Path.{_≡_};
-ghost use Prim.Native.Nat.{_+_, _*_, _^_, _<_, _≤_};
-ghost use lib.ListN.{length, getD, set};
-ghost use Rattle.model.specs.Limits.{maxJobs, maxBounds, maxIntervals};
+ghost use Prim.Native.Nat.{_+_, _*_, _<_, _≤_};
+ghost use lib.ListN.{length};
+ghost use Rattle.model.specs.Limits.{maxJobs, maxBounds};
 ghost use Rattle.model.specs.Outcome.{byEntry};
 ghost use Rattle.model.specs.Steps.{stepCount};
 ghost use Rattle.walking.specs.Walking.{modelStep};
 ghost use Rattle.fitting.specs.Verdicts.{verdictOf, passed};
-ghost use Rattle.fitting.specs.TestedJobs.{hasJob};
 ghost use Rattle.fitting.specs.FirstHalf.{faultOfStep, stepFaultIn};
 use crate::Verdict;
-use model::MAX_INTERVALS;
+use job_sets::SET_WORDS;
+use job_sets::add;
+use job_sets::holds;
 use model::MAX_JOBS;
 use walking::Step;
 use walking::decode_step;
@@ -19,7 +20,7 @@ use walking::step_count;
 
 // Goes through the steps one after another.
 pub(crate) fn check_steps(
-    sets: &[u64; MAX_INTERVALS],
+    sets: &[u64; SET_WORDS],
     cycles: &[u64; MAX_JOBS],
     count: usize,
     bounds: usize,
@@ -29,7 +30,7 @@ pub(crate) fn check_steps(
     ensures { λ r. ⌜ r ≡ verdictOf (byEntry (stepCount (now (plan .entry))) (stepFaultIn (now (sets .entry)) (now (cycles .entry)) count bounds (now (plan .entry))) passed) ⌝ }
 {
     let steps = step_count(plan);
-    let mut seen = [0u64; MAX_INTERVALS];
+    let mut seen = [0u64; SET_WORDS];
     let mut s = 0;
     while s < steps {
         let step = decode_step(plan, s);
@@ -40,7 +41,7 @@ pub(crate) fn check_steps(
                 place: s as u32,
             };
         }
-        mark(&mut seen, step.interval, step.job);
+        add(&mut seen, step.interval, step.job);
         s += 1;
     }
     Verdict::Passed
@@ -49,11 +50,11 @@ pub(crate) fn check_steps(
 // The refusal's number at a step, the lower number first; 0 for none.
 fn step_fault(
     step: Step,
-    sets: &[u64; MAX_INTERVALS],
+    sets: &[u64; SET_WORDS],
     cycles: &[u64; MAX_JOBS],
     count: usize,
     bounds: usize,
-    seen: &[u64; MAX_INTERVALS],
+    seen: &[u64; SET_WORDS],
 ) -> u32
     requires { ⌜ (count ≤ maxJobs) × (bounds ≤ maxBounds) × (step .interval < 1024) ⌝ }
     ensures { λ r. ⌜ r ≡ faultOfStep (now (sets .entry)) (now (cycles .entry)) count bounds (now (seen .entry)) (modelStep step) ⌝ }
@@ -66,10 +67,10 @@ fn step_fault(
     if count <= job {
         return 17;
     }
-    if !is_marked(sets[interval], job) {
+    if !holds(sets, interval, job) {
         return 17;
     }
-    if is_marked(seen[interval], job) {
+    if holds(seen, interval, job) {
         return 17;
     }
     if step.cycles < 1 {
@@ -79,20 +80,4 @@ fn step_fault(
         return 18;
     }
     0
-}
-
-// Whether a set has a job.
-pub fn is_marked(set: u64, job: usize) -> bool
-    requires { ⌜ job < maxJobs ⌝ }
-    ensures { λ r. ⌜ r ≡ hasJob set job ⌝ }
-{
-    (set >> job) % 2 == 1
-}
-
-// Adds a job that it does not have yet to the set of an interval.
-fn mark(seen: &mut [u64; MAX_INTERVALS], interval: usize, job: usize)
-    requires { ⌜ (interval < maxIntervals) × (job < maxJobs) × (getD (now seen) interval 0 + 2 ^ job < 2 ^ 64) ⌝ }
-    ensures { λ _. ⌜ now (seen .exit) ≡ set (now (seen .entry)) interval (getD (now (seen .entry)) interval 0 + 2 ^ job) ⌝ }
-{
-    seen[interval] += 1u64 << job;
 }

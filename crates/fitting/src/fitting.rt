@@ -1,6 +1,6 @@
 // The first half of the check, refusals 15 to 20: the plan fits the jobs.
 ghost use mathlib.Core.Path.{_≡_};
-ghost use Prim.Native.Nat.{ℕ, _-_, _<_, _≤_};
+ghost use Prim.Native.Nat.{_-_, _≤_};
 ghost use mathlib.Core.List.{List};
 ghost use lib.ListN.{length, replicate};
 ghost use Rattle.model.specs.declared.Job.{Job};
@@ -11,6 +11,7 @@ ghost use Rattle.model.specs.Checking.{fitting};
 ghost use Rattle.tables.specs.Tables.{jobsIn};
 ghost use Rattle.energy.specs.Figures.{SmallBounds};
 ghost use Rattle.fitting.specs.Verdicts.{verdictOf, passed};
+ghost use Rattle.fitting.specs.SetsHave.{NoJobs};
 ghost use Rattle.fitting.specs.TestedJobs.{TestedBelow, HoldsCycles};
 ghost use Rattle.fitting.specs.Sums.{planSums, planLoads};
 ghost use Rattle.fitting.specs.FirstHalf.{boundsIn, siteIn, loadFaultIn, Fitted};
@@ -20,6 +21,7 @@ use crate::records::job_records;
 use crate::records::lend_jobs;
 use crate::sums::add_plan;
 use intervals::interval_count;
+use job_sets::SET_WORDS;
 use model::MAX_BOUNDS;
 use model::MAX_INTERVALS;
 use model::MAX_JOBS;
@@ -37,11 +39,11 @@ pub fn fit(
     times: &[u64; MAX_BOUNDS],
     bounds: usize,
     plan: &[u8],
-    sets: &mut [u64; MAX_INTERVALS],
+    sets: &mut [u64; SET_WORDS],
     loads: &mut [u64; MAX_INTERVALS],
 ) -> Verdict
     requires { ⌜ (top ≤ maxFrequency) × (count ≤ maxJobs) × SmallBounds bounds (now times) ⌝ }
-    requires { ⌜ (now sets ≡ replicate maxIntervals 0) × (now loads ≡ replicate maxIntervals 0) ⌝ }
+    requires { ⌜ NoJobs (now sets) × (now loads ≡ replicate maxIntervals 0) ⌝ }
     ensures { λ r. ⌜ Fitted top (jobsIn count (now (releases .entry)) (now (deadlines .entry)) (now (cycles .entry))) (now (times .entry)) bounds (now (plan .entry)) r (now (sets .exit)) (now (loads .exit)) ⌝ }
 {
     let mut sums = [0u64; MAX_JOBS];
@@ -54,7 +56,7 @@ pub fn fit(
 // Checks a plan against what was found of the jobs, and their bounds.
 fn check_plan(
     top: u64,
-    sets: &[u64; MAX_INTERVALS],
+    sets: &[u64; SET_WORDS],
     cycles: &[u64; MAX_JOBS],
     summed: usize,
     count: usize,

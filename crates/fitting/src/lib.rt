@@ -5,7 +5,6 @@ mod opening;
 mod records;
 mod sums;
 
-pub use cells::is_marked;
 pub use fitting::fit;
 
 // What a half of the check finds: that nothing is wrong, or the refusal's number and place.

@@ -1,25 +1,29 @@
 // The intervals that a job is open in: they lie between two of the bounds, which are found by halving.
 ghost use mathlib.Core.Path.{_≡_};
-ghost use Prim.Native.Nat.{_-_, _<_, _≤_};
+ghost use Prim.Native.Nat.{_<_, _≤_};
+ghost use lib.ListN.{length};
 ghost use Rattle.model.specs.Limits.{maxJobs, maxIntervals};
 ghost use Rattle.energy.specs.Figures.{SmallBounds};
-ghost use Rattle.fitting.specs.TestedJobs.{SmallSets, EndsBy, withRange, withOpen};
+ghost use Rattle.job_sets.specs.IntervalSets.{setWords};
+ghost use Rattle.fitting.specs.SetsHave.{SetsHave, withJobIn};
+ghost use Rattle.fitting.specs.TestedJobs.{EndsBy, inRange, opensIn};
+use job_sets::SET_WORDS;
+use job_sets::add;
+use model::MAX_BOUNDS;
 use intervals::bound_number;
 use intervals::interval_count;
-use model::MAX_BOUNDS;
-use model::MAX_INTERVALS;
 
 // Adds job j to the sets of the intervals that it is open in.
 pub(crate) fn add_open(
-    sets: &mut [u64; MAX_INTERVALS],
+    sets: &mut [u64; SET_WORDS],
     j: usize,
     release: u64,
     deadline: u64,
     times: &[u64; MAX_BOUNDS],
     bounds: usize,
 )
-    requires { ⌜ (j < maxJobs) × SmallBounds bounds (now times) × SmallSets j (now sets) ⌝ }
-    ensures { λ _. ⌜ now (sets .exit) ≡ withOpen (now (sets .entry)) j release deadline (now (times .entry)) (bounds - 1) ⌝ }
+    requires { ⌜ (j < maxJobs) × SmallBounds bounds (now times) × (length (now sets) ≡ setWords) ⌝ }
+    ensures { λ _. ⌜ SetsHave (now (sets .exit)) (withJobIn (now (sets .entry)) j (opensIn release deadline (now (times .entry)) bounds)) ⌝ }
 {
     let first = bound_number(times, bounds, release);
     let end = ends_by(times, bounds, deadline);
@@ -42,14 +46,13 @@ fn ends_by(times: &[u64; MAX_BOUNDS], bounds: usize, deadline: u64) -> usize
 }
 
 // Adds job j to the sets of the intervals from `first` to before `end`.
-fn add_range(sets: &mut [u64; MAX_INTERVALS], j: usize, first: usize, end: usize)
-    requires { ⌜ (j < maxJobs) × (end ≤ maxIntervals) × SmallSets j (now sets) ⌝ }
-    ensures { λ _. ⌜ now (sets .exit) ≡ withRange (now (sets .entry)) j first end ⌝ }
+fn add_range(sets: &mut [u64; SET_WORDS], j: usize, first: usize, end: usize)
+    requires { ⌜ (j < maxJobs) × (end ≤ maxIntervals) × (length (now sets) ≡ setWords) ⌝ }
+    ensures { λ _. ⌜ SetsHave (now (sets .exit)) (withJobIn (now (sets .entry)) j (inRange first end)) ⌝ }
 {
-    let bit = 1u64 << j;
     let mut i = first;
     while i < end {
-        sets[i] += bit;
+        add(sets, i, j);
         i += 1;
     }
 }

@@ -2,15 +2,17 @@
 // interval (17 and 24), and how many jobs there are before the first whose steps do not add to its cycles (19).
 ghost use mathlib.Core.Path.{_≡_};
 ghost use Prim.Native.Nat.{_<_, _≤_};
-ghost use lib.ListN.{length, take, replicate};
-ghost use Rattle.model.specs.Limits.{maxJobs, maxIntervals};
+ghost use lib.ListN.{length, take};
+ghost use Rattle.model.specs.Limits.{maxJobs};
 ghost use Rattle.tables.specs.Tables.{jobsIn};
 ghost use Rattle.energy.specs.Figures.{SmallBounds};
-ghost use Rattle.fitting.specs.TestedJobs.{SmallSets, TestedBelow, JobTested};
+ghost use Rattle.job_sets.specs.IntervalSets.{setWords};
+ghost use Rattle.fitting.specs.SetsHave.{NoJobs};
+ghost use Rattle.fitting.specs.TestedJobs.{TestedBelow, JobTested};
 use crate::opening::add_open;
+use job_sets::SET_WORDS;
 use model::Job;
 use model::MAX_BOUNDS;
-use model::MAX_INTERVALS;
 use model::MAX_JOBS;
 
 // The first `count` jobs that stand in three arrays, as records.
@@ -49,9 +51,9 @@ pub(crate) fn lend_jobs<'a, 's>(
     times: &'a [u64; MAX_BOUNDS],
     bounds: usize,
     sums: &'a [u64; MAX_JOBS],
-    sets: &'s mut [u64; MAX_INTERVALS],
+    sets: &'s mut [u64; SET_WORDS],
 ) -> usize
-    requires { ⌜ (count ≤ maxJobs) × SmallBounds bounds (now times) × (now sets ≡ replicate maxIntervals 0) ⌝ }
+    requires { ⌜ (count ≤ maxJobs) × SmallBounds bounds (now times) × NoJobs (now sets) ⌝ }
     ensures { λ r. ⌜ TestedBelow (take count jobs) count (now (times .entry)) bounds (now (sums .entry)) (now (sets .exit)) r ⌝ }
 {
     test_jobs(&jobs[..count], times, bounds, sums, sets)
@@ -63,9 +65,9 @@ fn test_jobs<'j, 'a, 's>(
     times: &'a [u64; MAX_BOUNDS],
     bounds: usize,
     sums: &'a [u64; MAX_JOBS],
-    sets: &'s mut [u64; MAX_INTERVALS],
+    sets: &'s mut [u64; SET_WORDS],
 ) -> usize
-    requires { ⌜ (length (now jobs) ≤ maxJobs) × SmallBounds bounds (now times) × (now sets ≡ replicate maxIntervals 0) ⌝ }
+    requires { ⌜ (length (now jobs) ≤ maxJobs) × SmallBounds bounds (now times) × NoJobs (now sets) ⌝ }
     ensures { λ r. ⌜ TestedBelow (now (jobs .entry)) (length (now (jobs .entry))) (now (times .entry)) bounds (now (sums .entry)) (now (sets .exit)) r ⌝ }
 {
     let mut summed = 0;
@@ -86,9 +88,9 @@ fn test_job<'a>(
     times: &'a [u64; MAX_BOUNDS],
     bounds: usize,
     sums: &'a [u64; MAX_JOBS],
-    sets: &mut [u64; MAX_INTERVALS],
+    sets: &mut [u64; SET_WORDS],
 ) -> usize
-    requires { ⌜ (j < maxJobs) × SmallBounds bounds (now times) × SmallSets j (now sets) ⌝ }
+    requires { ⌜ (j < maxJobs) × SmallBounds bounds (now times) × (length (now sets) ≡ setWords) ⌝ }
     ensures { λ r. ⌜ JobTested summed j job (now (times .entry)) bounds (now (sums .entry)) (now (sets .entry)) (now (sets .exit)) r ⌝ }
 {
     add_open(sets, j, job.release, job.deadline, times, bounds);

@@ -1,29 +1,28 @@
--- Laws of the sets of jobs by price: a union as the code makes it, that it has the jobs that one of its sets has, and that
--- the union of the sets of smaller prices has the jobs that are open in an interval of a smaller price.
+-- Laws of the sets of jobs by price, as the code fills them, and that the set of a price has the jobs that are open in an
+-- interval of a smaller price.
 -- Assumes nothing.
 use mathlib.Core.Path.{_≡_, refl, sym, _∙_}
-use mathlib.Core.Bool.{Bool, true, false, _&&_, _||_, cond, and-true, and-false, or-false}
+use mathlib.Core.Bool.{Bool, true, false, cond, _&&_, _||_, and-true, and-false, or-false}
 use mathlib.Core.Logic.{_⊎_, inl, inr}
-use mathlib.Core.List.{List}
-use Prim.Native.Nat.{ℕ, zero, suc, _+_, _-_, _*_, _/_, _%_, _^_, _<_, _≤_, max}
-use native.Mathlib.Nat.{pow-suc, div-div-eq-div-mul}
-use native.Mathlib.Numerals.{add-one}
+use mathlib.Core.List.{List, [], _∷_}
+use Prim.Native.Nat.{ℕ, zero, suc, _+_, _<_, _≤_}
+use native.Mathlib.Nat.{le-of-suc-le-suc}
 use native.Mathlib.Omega.{arith}
-use lib.ListN.{getD, set, replicate}
-use lib.Pow.{shr-le}
-use lib.Bits.{bitOr, or-step}
+use lib.ListN.{length, getD, set, replicate}
 use lib.Dec.{ltb, eqb}
 use borrow.Author.Tests.{lt-ltb, le-ltb, eq-eqb, ne-eqb}
-use Rattle.model.specs.Limits.{maxPoints}
+use Rattle.model.specs.Limits.{maxPoints, maxJobs}
 use Rattle.model.specs.Entries.{listOf}
 use Rattle.model.specs.Search.{someBelow}
 use Rattle.model.proofs.Numbers.{lt-or-le}
 use Rattle.model.proofs.Entries.{getD-listOf, listOf-cong}
-use Rattle.model.proofs.Search.{someBelow-fails}
-use Rattle.tables.specs.Column.{columnOf}
-use Rattle.fitting.specs.TestedJobs.{hasJob, isMarked}
-use Rattle.pricing.specs.SecondHalf.{unionOf, pricedSets, cheaperSets}
-use Rattle.fitting.proofs.Arrays.{zeros-hold, store-holds}
+use Rattle.model.proofs.Search.{someBelow-fails, someBelow-next}
+use Rattle.job_sets.specs.declared.JobSet.{JobSet}
+use Rattle.job_sets.specs.JobSets.{isMember, noJobs, inEither}
+use Rattle.job_sets.specs.IntervalSets.{setIn}
+use Rattle.job_sets.proofs.JobSets.{member-of, set-cong}
+use Rattle.fitting.proofs.Arrays.{same-hold, store-holds}
+use Rattle.pricing.specs.SecondHalf.{pricedSet, pricedSets, cheaperSet, cheaperSets}
 
 -- tests that agree find the same
 pub someBelow-cong : (count : ℕ) (f g : ℕ → Bool) → ((i : ℕ) → i < count → f i ≡ g i) → someBelow count f ≡ someBelow count g
@@ -31,54 +30,11 @@ unfolding someBelow
 someBelow-cong zero f g same = refl
 someBelow-cong (suc count) f g same = rw (someBelow-cong count f g (λ i below. same i (omega arith)), same count (omega arith))
 
--- the bits of a union
-halved : (x j : ℕ) → x / 2 ^ suc j ≡ x / 2 / 2 ^ j
-halved x j = let power : 2 ^ suc j ≡ 2 * 2 ^ j = rw pow-suc (omega arith) in rw power (sym (div-div-eq-div-mul x 2 (2 ^ j)))
-
-bit-or : (j a b : ℕ) → bitOr a b / 2 ^ j % 2 ≡ max (a / 2 ^ j % 2) (b / 2 ^ j % 2)
-bit-or zero a b = rw (or-step a b) (omega arith)
-bit-or (suc j) a b =
-    let half : bitOr a b / 2 ≡ bitOr (a / 2) (b / 2) = rw (or-step a b) (omega arith) in
-    rw (halved (bitOr a b) j, halved a j, halved b j, half) (bit-or j (a / 2) (b / 2))
-
-either-one : (a b : ℕ) → a < 2 → b < 2 → eqb (max a b) 1 ≡ (eqb a 1 || eqb b 1)
-either-one a b small-a small-b = go (lt-or-le a 1) (lt-or-le b 1)
-  where
-    go : (a < 1) ⊎ (1 ≤ a) → (b < 1) ⊎ (1 ≤ b) → eqb (max a b) 1 ≡ (eqb a 1 || eqb b 1)
-    go (inr one) other = rw (eq-eqb a 1 (omega arith), eq-eqb (max a b) 1 (omega arith))
-    go (inl none) (inr one) = rw (ne-eqb a 1 (λ e. omega arith), eq-eqb b 1 (omega arith), eq-eqb (max a b) 1 (omega arith))
-    go (inl none) (inl neither) = rw (ne-eqb a 1 (λ e. omega arith), ne-eqb b 1 (λ e. omega arith), ne-eqb (max a b) 1 (λ e. omega arith))
-
-has-or : (a b j : ℕ) → hasJob (bitOr a b) j ≡ (hasJob a j || hasJob b j)
-has-or a b j = rw (bit-or j a b) (either-one (a / 2 ^ j % 2) (b / 2 ^ j % 2) (omega arith) (omega arith))
-
-none-has : (j : ℕ) → hasJob 0 j ≡ false
-none-has j = ne-eqb (0 / 2 ^ j % 2) 1 (λ e. omega (arith, shr-le 0 j))
-
-module _ (test : ℕ → Bool) (sets : ℕ → ℕ) where
-  pub union-none : 0 ≡ unionOf 0 test sets
-  unfolding unionOf
-  union-none = refl
-
-  -- one set that passes, and one that does not
-  pub union-more : (i : ℕ) → test i ≡ true → unionOf (i + 1) test sets ≡ bitOr (unionOf i test sets) (sets i)
-  unfolding unionOf
-  union-more i passes = rw (add-one, passes)
-
-  pub union-same : (i : ℕ) → test i ≡ false → unionOf (i + 1) test sets ≡ unionOf i test sets
-  unfolding unionOf
-  union-same i fails = rw (add-one, fails)
-
-  -- it has the jobs that a set that passes has
-  pub union-has : (count j : ℕ) → hasJob (unionOf count test sets) j ≡ someBelow count (λ i. hasJob (sets i) j && test i)
-  unfolding unionOf someBelow
-  union-has zero j = none-has j
-  union-has (suc count) j = step (test count) (unionOf count test sets) _ (union-has count j)
-    where
-      step : (t : Bool) (rest : ℕ) (found : Bool) → hasJob rest j ≡ found
-          → hasJob (cond t (bitOr rest (sets count)) rest) j ≡ (found || (hasJob (sets count) j && t))
-      step true rest found e = rw (has-or rest (sets count) j, e, and-true)
-      step false rest found e = rw (e, and-false, or-false)
+-- an element of a list does not hang on what stands past its end
+getD-any : {A : Type 0} (l : List A) (i : ℕ) (d e : A) → i < length l → getD l i d ≡ getD l i e
+getD-any [] i d e inside = absurd (omega arith)
+getD-any (x ∷ l) zero d e inside = refl
+getD-any (x ∷ l) (suc i) d e inside = getD-any l i d e (le-of-suc-le-suc inside)
 
 -- A number that passes one of two tests, and one whose value is below a bound: by the values one after another.
 or-swap : (a b c d : Bool) → ((a || b) || (c || d)) ≡ ((a || c) || (b || d))
@@ -111,34 +67,65 @@ by-value count f value (suc p) =
     ∙ some-or count (λ i. f i && ltb (value i) p) (λ i. f i && eqb (value i) p)))
 
 module _ (sets numbers : List ℕ) where
-  abbrev pricedAt : (count p : ℕ) → ℕ
-  pricedAt count p = unionOf count (λ i. eqb (getD numbers i 0) p) (λ i. getD sets i 0)
+  pub priced-none : replicate maxPoints noJobs ≡ pricedSets 0 sets numbers
+  unfolding someBelow
+  priced-none = same-hold maxPoints noJobs noJobs (pricedSet 0 sets numbers) (λ p inside. refl)
 
-  pub priced-none : replicate maxPoints 0 ≡ pricedSets 0 sets numbers
-  priced-none = zeros-hold maxPoints (pricedAt 0) (λ p inside. sym (union-none _ _))
-
-  pub priced-more : (priced : List ℕ) (i : ℕ) → priced ≡ pricedSets i sets numbers → getD numbers i 0 < maxPoints
-      → set priced (getD numbers i 0) (bitOr (getD priced (getD numbers i 0) 0) (getD sets i 0)) ≡ pricedSets (i + 1) sets numbers
-  priced-more priced i filled inside =
+  -- one interval more: the set of its price gets its jobs
+  pub priced-more : (priced : List JobSet) (i : ℕ) (default : JobSet) → priced ≡ pricedSets i sets numbers → getD numbers i 0 < maxPoints
+      → set priced (getD numbers i 0) (inEither (getD priced (getD numbers i 0) default) (setIn sets i)) ≡ pricedSets (i + 1) sets numbers
+  priced-more priced i default filled inside =
       let number : ℕ = getD numbers i 0 in
       rw filled
-      (store-holds maxPoints (pricedAt i) (pricedAt (i + 1)) number _ inside
-      (rw (getD-listOf maxPoints (pricedAt i) number 0 inside)
-      (sym (union-more (λ k. eqb (getD numbers k 0) number) (λ k. getD sets k 0) i (eq-eqb number number refl))))
-      (λ p within other. union-same (λ k. eqb (getD numbers k 0) p) (λ k. getD sets k 0) i (ne-eqb number p (λ e. other (sym e)))))
+      (store-holds maxPoints noJobs (pricedSet i sets numbers) (pricedSet (i + 1) sets numbers) number _ inside
+      (rw (getD-listOf maxPoints (pricedSet i sets numbers) number default inside)
+      (set-cong _ _ (λ j below. rw (member-of (opens i number) j below, someBelow-next, eq-eqb number number refl, and-true))))
+      (λ p within other. set-cong _ _ (λ j below. rw (someBelow-next, ne-eqb number p (λ e. other (sym e)), and-false, or-false))))
+    where
+      opens : (count p j : ℕ) → Bool
+      opens count p j = someBelow count (λ i. isMember (setIn sets i) j && eqb (getD numbers i 0) p)
 
   -- the jobs that are open in an interval of a smaller price
-  pub cheaper-has : (count p j : ℕ) → p < maxPoints
-      → hasJob (getD (cheaperSets (pricedSets count sets numbers)) p 0) j ≡ someBelow count (λ i. isMarked sets i j && ltb (getD numbers i 0) p)
-  cheaper-has count p j inside =
-      let priced : List ℕ = pricedSets count sets numbers in
-      rw (getD-listOf maxPoints (λ r. unionOf r (λ q. true) (λ q. getD priced q 0)) p 0 inside)
-      (union-has (λ q. true) (λ q. getD priced q 0) p j
-      ∙ someBelow-cong p _ (λ q. someBelow count (λ i. isMarked sets i j && eqb (getD numbers i 0) q)) (λ q below.
-      rw (and-true, getD-listOf maxPoints (pricedAt count) q 0 (omega arith)) (union-has (λ i. eqb (getD numbers i 0) q) (λ i. getD sets i 0) count j))
-      ∙ by-value count (λ i. isMarked sets i j) (λ i. getD numbers i 0) p)
+  pub cheaper-has : (count p j : ℕ) (default : JobSet) → p < maxPoints → j < maxJobs
+      → isMember (getD (cheaperSets (pricedSets count sets numbers)) p default) j ≡ someBelow count (λ i. isMember (setIn sets i) j && ltb (getD numbers i 0) p)
+  cheaper-has count p j default inside below =
+      let priced : List JobSet = pricedSets count sets numbers in
+      rw (getD-listOf maxPoints (cheaperSet priced) p default inside)
+      (member-of (λ j. someBelow p (λ q. isMember (getD priced q noJobs) j)) j below
+      ∙ someBelow-cong p _ (λ q. someBelow count (λ i. isMember (setIn sets i) j && eqb (getD numbers i 0) q)) (λ q under.
+      rw (getD-listOf maxPoints (pricedSet count sets numbers) q noJobs (omega arith))
+      (member-of (λ j. someBelow count (λ i. isMember (setIn sets i) j && eqb (getD numbers i 0) q)) j below))
+      ∙ by-value count (λ i. isMember (setIn sets i) j) (λ i. getD numbers i 0) p)
 
--- a column that was filled to its end
-pub column-full : (size : ℕ) (f : ℕ → ℕ) → columnOf size size f ≡ listOf size f
-unfolding columnOf
-column-full size f = listOf-cong size _ f (λ i inside. rw (lt-ltb i size inside))
+-- the union of the sets of the prices passed: before the first price and after one more
+pub cheaper-none : (priced : List JobSet) → noJobs ≡ cheaperSet priced 0
+unfolding someBelow
+cheaper-none priced = refl
+
+pub cheaper-more : (priced : List JobSet) (p : ℕ) (default : JobSet) → p < length priced
+    → inEither (cheaperSet priced p) (getD priced p default) ≡ cheaperSet priced (p + 1)
+cheaper-more priced p default inside =
+    rw (getD-any priced p default noJobs inside)
+    (set-cong _ _ (λ j below. rw (member-of (λ j. someBelow p (λ q. isMember (getD priced q noJobs) j)) j below, someBelow-next)))
+
+-- the sets of the first prices, no jobs past them: before the first price, one price more, and all
+abbrev pub filledTo : (priced : List JobSet) → (count p : ℕ) → JobSet
+filledTo priced count p = cond (ltb p count) (cheaperSet priced p) noJobs
+
+module _ (priced : List JobSet) where
+  pub filled-none : replicate maxPoints noJobs ≡ listOf maxPoints (filledTo priced 0)
+  filled-none = same-hold maxPoints noJobs noJobs (filledTo priced 0) (λ p inside. rw (le-ltb p 0 (omega arith)))
+
+  pub filled-more : (cheaper : List JobSet) (p : ℕ) (union : JobSet) → cheaper ≡ listOf maxPoints (filledTo priced p) → union ≡ cheaperSet priced p → p < maxPoints
+      → set cheaper p union ≡ listOf maxPoints (filledTo priced (p + 1))
+  filled-more cheaper p union filled is-union inside =
+      rw filled
+      (store-holds maxPoints noJobs (filledTo priced p) (filledTo priced (p + 1)) p union inside (rw (lt-ltb p (p + 1) (omega arith)) is-union)
+      (λ q within other. kept q (lt-or-le q p) other))
+    where
+      kept : (q : ℕ) → (q < p) ⊎ (p ≤ q) → (q ≡ p → ⊥) → filledTo priced (p + 1) q ≡ filledTo priced p q
+      kept q (inl before) other = rw (lt-ltb q p before, lt-ltb q (p + 1) (omega arith))
+      kept q (inr after) other = let past : p + 1 ≤ q = omega arith in rw (le-ltb q p after, le-ltb q (p + 1) past)
+
+  pub filled-all : (cheaper : List JobSet) (count : ℕ) → cheaper ≡ listOf maxPoints (filledTo priced count) → maxPoints ≤ count → cheaper ≡ cheaperSets priced
+  filled-all cheaper count filled all = filled ∙ listOf-cong maxPoints _ _ (λ p inside. rw (lt-ltb p count (omega arith)))

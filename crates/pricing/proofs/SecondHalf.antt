@@ -34,7 +34,10 @@ use Rattle.fitting.specs.declared.Verdict.{Verdict}
 use Rattle.fitting.specs.declared.Verdict.the-variants.{Passed, Refused}
 use Rattle.fitting.specs.Verdicts.{verdictOf, passed}
 use Rattle.energy.specs.Figures.{SmallBounds}
-use Rattle.fitting.specs.TestedJobs.{isMarked, openSetsBelow}
+use Rattle.job_sets.specs.JobSets.{isMember}
+use Rattle.job_sets.specs.IntervalSets.{setIn}
+use Rattle.fitting.specs.SetsHave.{SetsHave}
+use Rattle.fitting.specs.TestedJobs.{openBelow}
 use Rattle.fitting.specs.FirstHalf.{boundsIn, siteIn}
 use Rattle.pricing.specs.SecondHalf.{Planned, BandNumbers, wrongLengthIn, entryFaultIn, priceFaultIn, cheaperFaultIn}
 use Rattle.fitting.proofs.Verdicts.{byEntry-cong, entries-refused, entries-passed}
@@ -131,7 +134,7 @@ module _ (working : PointTable) (sets : List ℕ) (count bounds : ℕ) (times pl
 
         module _ (sound : entries ≡ Passed) where
           module _
-              (jobs-counted : length jobs ≡ count) (opened : sets ≡ openSetsBelow jobs count times bounds)
+              (jobs-counted : length jobs ≡ count) (opened : SetsHave sets (openBelow jobs count times bounds))
               (fits : Verdict) (tested : fits ≡ verdictOf (byEntry (bounds - 1) (priceFaultIn ws times loads numbers) passed)) where
             loaded : (i : ℕ) → i < intervals → load jobs (sharesOf plan) i ≡ getD loads i 0
             loaded i below =
@@ -162,11 +165,10 @@ module _ (working : PointTable) (sets : List ℕ) (count bounds : ℕ) (times pl
                   intervals-in bounds times,
                   someBelow-cong (bounds - 1)
                       (λ i. isOpen bs (jobOf jobs j) i && ltb (pricesOf prices i) (pricesOf prices (stepAt plan s .interval)))
-                      (λ i. isMarked sets i j && ltb (getD numbers i 0) (getD numbers (stepAt plan s .interval) 0))
+                      (λ i. isMember (setIn sets i) j && ltb (getD numbers i 0) (getD numbers (stepAt plan s .interval) 0))
                       (λ i below. rw (
                         open-in bounds times (jobOf jobs j) i (omega arith),
-                        opened,
-                        open-has jobs times bounds count i j below (omega (arith, small .few)) (planned .step-job s inside),
+                        open-has jobs times bounds count opened i j below (omega (arith, small .few)) (planned .step-job s inside) (omega (arith, planned .step-job s inside)),
                         price-here i (omega arith),
                         price-here (stepAt plan s .interval) (omega arith),
                       )),

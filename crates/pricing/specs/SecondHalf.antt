@@ -1,11 +1,10 @@
 -- The second half of the check over plain arrays.
-use Prim.Native.Nat.{ℕ, zero, suc, _+_, _-_, _*_, _<_, _≤_}
+use Prim.Native.Nat.{ℕ, _+_, _-_, _*_, _<_, _≤_}
 use mathlib.Core.Path.{_≡_}
-use mathlib.Core.Bool.{Bool, true, not, cond, _&&_, _||_}
+use mathlib.Core.Bool.{Bool, not, cond, _&&_, _||_}
 use mathlib.Core.List.{List}
 use lib.ListN.{length, getD}
 use lib.Dec.{ltb, leb, eqb}
-use lib.Bits.{bitOr}
 use Rattle.model.specs.Limits.{maxPoints}
 use Rattle.model.specs.Entries.{listOf}
 use Rattle.model.specs.Search.{someBelow}
@@ -13,7 +12,9 @@ use Rattle.model.specs.Points.{Point}
 use Rattle.model.specs.Prices.{fitsLoad}
 use Rattle.model.specs.Steps.{stepCount, stepAt}
 use Rattle.model.specs.PriceBytes.{priceIntervals, endAt}
-use Rattle.fitting.specs.TestedJobs.{isMarked}
+use Rattle.job_sets.specs.declared.JobSet.{JobSet}
+use Rattle.job_sets.specs.JobSets.{isMember, setOf, noJobs}
+use Rattle.job_sets.specs.IntervalSets.{setIn}
 use Rattle.fitting.specs.Sums.{intervalLoads}
 
 -- A plan whose steps each have one of the jobs and one of the intervals between the bounds, and the loads that they make.
@@ -43,23 +44,22 @@ abbrev pub priceFaultIn : List Point → (times loads numbers : List ℕ) → (i
 priceFaultIn ws times loads numbers i =
     cond (fitsLoad ws (getD times (i + 1) 0 - getD times i 0) (getD loads i 0) (getD numbers i 0)) 0 23
 
--- The union of those of the first `count` sets of jobs that pass a test.
-unfoldable pub unionOf : (count : ℕ) → (test : ℕ → Bool) → (set : ℕ → ℕ) → ℕ
-unionOf zero test set = 0
-unionOf (suc count) test set =
-    let rest : ℕ = unionOf count test set in
-    cond (test count) (bitOr rest (set count)) rest
+-- The jobs that are open in one of the first `count` intervals of a price, and those sets for each price.
+abbrev pub pricedSet : (count : ℕ) → (sets numbers : List ℕ) → (price : ℕ) → JobSet
+pricedSet count sets numbers p = setOf (λ j. someBelow count (λ i. isMember (setIn sets i) j && eqb (getD numbers i 0) p))
 
--- For each price the jobs that are open in one of the first `count` intervals of that price.
-abbrev pub pricedSets : (count : ℕ) → (sets numbers : List ℕ) → List ℕ
-pricedSets count sets numbers = listOf maxPoints (λ p. unionOf count (λ i. eqb (getD numbers i 0) p) (λ i. getD sets i 0))
+abbrev pub pricedSets : (count : ℕ) → (sets numbers : List ℕ) → List JobSet
+pricedSets count sets numbers = listOf maxPoints (pricedSet count sets numbers)
 
--- For each price the jobs that the sets of the smaller prices have.
-abbrev pub cheaperSets : (priced : List ℕ) → List ℕ
-cheaperSets priced = listOf maxPoints (λ p. unionOf p (λ q. true) (λ q. getD priced q 0))
+-- The jobs that the sets of the prices below one have, and those sets for each price.
+abbrev pub cheaperSet : (priced : List JobSet) → (price : ℕ) → JobSet
+cheaperSet priced p = setOf (λ j. someBelow p (λ q. isMember (getD priced q noJobs) j))
+
+abbrev pub cheaperSets : (priced : List JobSet) → List JobSet
+cheaperSets priced = listOf maxPoints (cheaperSet priced)
 
 -- Refusal 24 at a step: its job is open in an interval of a smaller price than the step's; 0 for none.
 abbrev pub cheaperFaultIn : (sets : List ℕ) → (bounds : ℕ) → (numbers plan : List ℕ) → (s : ℕ) → ℕ
 cheaperFaultIn sets bounds numbers plan s =
     cond (someBelow (bounds - 1)
-    (λ i. isMarked sets i (stepAt plan s .job) && ltb (getD numbers i 0) (getD numbers (stepAt plan s .interval) 0))) 24 0
+    (λ i. isMember (setIn sets i) (stepAt plan s .job) && ltb (getD numbers i 0) (getD numbers (stepAt plan s .interval) 0))) 24 0

@@ -5,9 +5,10 @@ use Prim.Native.Nat.{ℕ, _-_, _≤_, _<_}
 use native.Mathlib.Omega.{arith}
 use denote.Ref.{now}
 use borrow.Author.Count.{below-none, below-more}
+use Rattle.fitting.specs.SetsHave.{SetsHave}
 use Rattle.fitting.specs.FirstHalf.{stepFaultIn}
-use Rattle.fitting.proofs.StepFaults.{turn-fault, turn-room, turn-marked}
-use Rattle.fitting.proofs.SeenSets.{seenSets, seen-none}
+use Rattle.fitting.proofs.StepFaults.{turn-fault, turn-pair, turn-marked}
+use Rattle.fitting.proofs.SeenSets.{isSeen, seen-none}
 use Rattle.fitting.proofs.Verdicts.{verdict-stops, verdict-passes}
 use Rattle.fitting.proofs.cells.check_steps.Statement.{statement}
 use Rattle.fitting.proofs.cells.check_steps.Tie as tie
@@ -15,7 +16,7 @@ use Rattle.fitting.proofs.cells.check_steps.Tie as tie
 abbrev Inv-loop : tie.InvT-loop
 Inv-loop sets cycles count bounds plan steps seen₀ s₀ seen s =
     (s ≤ steps)
-    × (seen ≡ seenSets plan s)
+    × SetsHave seen (isSeen plan s)
     × ((k : ℕ) → k < s → stepFaultIn sets cycles count bounds plan k ≡ 0)
 
 abbrev μ-loop : tie.MeasureT-loop
@@ -51,11 +52,11 @@ cast-t13 c = omega arith
 returns : tie.Need-returns Inv-loop μ-loop
 returns c = verdict-stops _ _ _ _ (c .before .before .before .before .before .loop .inv .2) (omega arith) (here (c .before)) (c .if1 .taken)
 
-mark-requires : tie.Need-mark-requires Inv-loop μ-loop
-mark-requires c κs =
+add-requires : tie.Need-add-requires Inv-loop μ-loop
+add-requires c κs =
     let found = c .before .before in
     let decoded = found .before .before in
-    turn-room
+    turn-pair
     _ _ _ _ _ _ _ _ _
     (omega arith) (omega arith) (decoded .before .before .loop .inv .1) (decoded .decode-step .ensures .0) (found .step-fault .ensures)
     (c .before .if1 .left)
@@ -76,7 +77,7 @@ loop-again c =
       turn-marked
           _ _ _ _ _ _ _ _ _
           (omega arith) (omega arith) (inv .1) (decoded .decode-step .ensures .0) (found .step-fault .ensures)
-          (sound .if1 .left) _ (c .mark .ensures),
+          (sound .if1 .left) _ (c .add .ensures),
       below-more _ _ (inv .2) (sym (here found) ∙ sound .if1 .left),
     )
 
@@ -95,7 +96,7 @@ check-steps-spec =
     step-fault-requires
     cast-t13
     returns
-    mark-requires
+    add-requires
     add-s
     loop-less
     loop-again

@@ -17,41 +17,29 @@ returns c = no-interval _ _ _ _ _ _ (c .if1 .taken)
 returns-2 : tie.Need-returns-2
 returns-2 c = no-job _ _ _ _ _ _ (c .before .if1 .left) (c .if2 .taken)
 
-mul-is-marked : tie.Need-mul-is-marked
-mul-is-marked c = search needs
-
-element-copy-out-is-marked : tie.Need-element-copy-out-is-marked
-element-copy-out-is-marked c = search needs
-
-is-marked-requires : tie.Need-is-marked-requires
-is-marked-requires c κs = search needs
+holds-requires : tie.Need-holds-requires
+holds-requires c κs = search needs
 
 returns-3 : tie.Need-returns-3
-returns-3 c = shut-pair _ _ _ _ _ _ (omega arith) (omega arith) (sym (c .before .is-marked .ensures) ∙ not-true _ (c .if3 .taken))
+returns-3 c = shut-pair _ _ _ _ _ _ (omega arith) (omega arith) (sym (c .before .holds .ensures) ∙ not-true _ (c .if3 .taken))
 
-mul-is-marked-2 : tie.Need-mul-is-marked-2
-mul-is-marked-2 c = search needs
-
-element-copy-out-is-marked-2 : tie.Need-element-copy-out-is-marked-2
-element-copy-out-is-marked-2 c = search needs
-
-is-marked-requires-2 : tie.Need-is-marked-requires-2
-is-marked-requires-2 c κs = search needs
+holds-requires-2 : tie.Need-holds-requires-2
+holds-requires-2 c κs = search needs
 
 returns-4 : tie.Need-returns-4
 returns-4 c =
-    let opened = c .before .before .before in
+    let opened = c .before .before in
     marked-pair _ _ _ _ _ _ (omega arith) (omega arith)
-    (sym (opened .before .is-marked .ensures) ∙ not-false _ (opened .if3 .left))
-    (sym (c .before .is-marked2 .ensures) ∙ c .if4 .taken)
+    (sym (opened .before .holds .ensures) ∙ not-false _ (opened .if3 .left))
+    (sym (c .before .holds2 .ensures) ∙ c .if4 .taken)
 
 returns-5 : tie.Need-returns-5
 returns-5 c =
     let new = c .before .before in
-    let opened = new .before .before .before in
+    let opened = new .before .before in
     no-cycles _ _ _ _ _ _ (omega arith) (omega arith)
-    (sym (opened .before .is-marked .ensures) ∙ not-false _ (opened .if3 .left))
-    (sym (new .before .is-marked2 .ensures) ∙ new .if4 .left)
+    (sym (opened .before .holds .ensures) ∙ not-false _ (opened .if3 .left))
+    (sym (new .before .holds2 .ensures) ∙ new .if4 .left)
     (c .if5 .taken)
 
 mul-if6 : tie.Need-mul-if6
@@ -63,20 +51,20 @@ element-copy-out-if6 c = search needs
 returns-6 : tie.Need-returns-6
 returns-6 c =
     let new = c .before .before .before .before .before in
-    let opened = new .before .before .before in
+    let opened = new .before .before in
     many-cycles _ _ _ _ _ _ (omega arith) (omega arith)
-    (sym (opened .before .is-marked .ensures) ∙ not-false _ (opened .if3 .left))
-    (sym (new .before .is-marked2 .ensures) ∙ new .if4 .left)
+    (sym (opened .before .holds .ensures) ∙ not-false _ (opened .if3 .left))
+    (sym (new .before .holds2 .ensures) ∙ new .if4 .left)
     (omega arith)
     (c .if6 .taken)
 
 returns-7 : tie.Need-returns-7
 returns-7 c =
     let new = c .before .before .before .before .before in
-    let opened = new .before .before .before in
+    let opened = new .before .before in
     sound-step _ _ _ _ _ _ (omega arith) (omega arith)
-    (sym (opened .before .is-marked .ensures) ∙ not-false _ (opened .if3 .left))
-    (sym (new .before .is-marked2 .ensures) ∙ new .if4 .left)
+    (sym (opened .before .holds .ensures) ∙ not-false _ (opened .if3 .left))
+    (sym (new .before .holds2 .ensures) ∙ new .if4 .left)
     (omega arith)
     (c .if6 .left)
 
@@ -87,13 +75,9 @@ step-fault-spec =
     add-if1
     returns
     returns-2
-    mul-is-marked
-    element-copy-out-is-marked
-    is-marked-requires
+    holds-requires
     returns-3
-    mul-is-marked-2
-    element-copy-out-is-marked-2
-    is-marked-requires-2
+    holds-requires-2
     returns-4
     returns-5
     mul-if6

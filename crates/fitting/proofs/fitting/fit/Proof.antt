@@ -1,6 +1,6 @@
 -- `fitting::fit` meets its contract: the records are the jobs of the arrays, and what was found of them is what `check_plan`
 -- asks. Assumes nothing.
-use mathlib.Core.Path.{_≡_, _∙_}
+use mathlib.Core.Path.{_≡_}
 use mathlib.Core.List.{List}
 use Prim.Native.Nat.{ℕ}
 use lib.ListN.{length}
@@ -42,7 +42,7 @@ returns c =
     let tested = rw (made .job-records .ensures, made .before .add-plan .ensures .0) at (lent .lend-jobs .ensures) in
     record {
       judged = λ processor is-top. c .check-plan .ensures processor jobs is-top counted tested (held (a .count) (now (a .releases)) (now (a .deadlines)) (now (a .cycles)));
-      opened = tested .opened ∙ rw counted;
+      opened = rw counted (tested .opened);
       added = made .before .add-plan .ensures .1;
     }
 

@@ -1,6 +1,5 @@
 -- `opening::add_open` meets its contract: the intervals between the two bounds are those that the job is open in
 -- (proofs/OpenRange.antt). Assumes nothing.
-use mathlib.Core.Path.{_∙_}
 use borrow.Author.Needs.{needs}
 use Rattle.fitting.proofs.OpenRange.{bounds-rising, bounds-before, range-open}
 use Rattle.fitting.proofs.opening.add_open.Statement.{statement}
@@ -18,8 +17,8 @@ add-range-requires c κs = search needs
 returns : tie.Need-returns
 returns c =
     let found = c .before .before .before in
-    c .add-range .ensures
-    ∙ range-open _ _ _ _ _ _ _ _ (bounds-before _ _ _ (found .before .pre .1) _ (found .bound-number .ensures)) (c .before .before .ends-by .ensures)
+    range-open _ _ _ (c .add-range .ensures)
+    (bounds-before _ _ _ (found .before .pre .1) _ (found .bound-number .ensures)) (c .before .before .ends-by .ensures)
 
 pub add-open-spec : {M : Type 1} → statement M
 add-open-spec = tie.close (tie.spec bound-number-requires ends-by-requires add-range-requires returns)

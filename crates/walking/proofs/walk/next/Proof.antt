@@ -28,7 +28,6 @@ use denote.RattleType.{RattleType, owns}
 use denote.Laws.{Is, shows}
 use denote.Plain.{uint-makes, uint-lawful}
 use denote.Builtin.{u8, usize}
-use denote.Ref.{now}
 use denote.Signature.{namedLft}
 use denote.Slice.{sliceVal, ShrSlice}
 use denote.Steps.{only, owned, peeks, heard, nothing}
