@@ -6,6 +6,7 @@ use borrow.Author.Needs.{needs}
 use Rattle.tables.proofs.Read.{length-jobsIn}
 use Rattle.site.proofs.HeldSites.{held-count, held-points, held-small, held-curve, held-top}
 use Rattle.energy.proofs.Figures.{site-bounds-small}
+use Rattle.fitting.proofs.SetsHave.{no-jobs}
 use Rattle.audit.proofs.BothHalves.{first-refused, sets-opened, planned, second-refused, all-passed}
 use Rattle.audit.proofs.checking.check_site.Statement.{statement}
 use Rattle.audit.proofs.checking.check_site.Tie as tie
@@ -13,7 +14,7 @@ use Rattle.audit.proofs.checking.check_site.Tie as tie
 fit-requires : tie.Need-fit-requires
 fit-requires c κs =
     let (site, valid, holds) = c .before .before .before .before .before .pre in
-    ((held-top valid holds, held-count valid holds, site-bounds-small valid holds), (refl, refl))
+    ((held-top valid holds, held-count valid holds, site-bounds-small valid holds), (no-jobs, refl))
 
 enum-known-first : tie.Need-enum-known-first
 enum-known-first c = search needs
