@@ -2,52 +2,77 @@
 -- Assumes nothing.
 use mathlib.Core.Path.{_≡_, refl, _∙_}
 use mathlib.Core.List.{List}
-use Prim.Native.Nat.{ℕ, _+_, _-_, _*_, _<_, _≤_}
+use Prim.Native.Nat.{ℕ, suc, _+_, _-_, _*_, _<_, _≤_}
 use native.Mathlib.Decide.{ℕ-discrete}
-use native.Mathlib.Numerals.{add-one}
 use native.Mathlib.Omega.{arith}
-use lib.ListN.{getD, set, length-set}
+use lib.ListN.{length, getD, set, length-set}
 use lib.Seq.{getD-set-same, getD-set-other}
 use lib.Dec.{eqb}
 use borrow.Author.Tests.{eq-eqb, ne-eqb}
 use Rattle.model.specs.Limits.{maxFrequency, maxDeadline}
 use Rattle.model.specs.Sum.{onlyIf}
-use Rattle.model.specs.Plans.{sharesIn}
+use Rattle.model.specs.Plans.{Shares, sharesIn}
 use Rattle.workloads.specs.declared.Workload.{Workload}
-use Rattle.workloads.specs.Placement.{loadOf}
-use Rattle.workloads.specs.Arrays.{numbersIn, problemIn}
+use Rattle.workloads.specs.Placement.{Problem, loadOf}
+use Rattle.workloads.specs.Arrays.{numbersIn, problemIn, RoomAt}
 use Rattle.workloads.proofs.Capacity.{capacity-most}
 use Rattle.searching.specs.Reaching.{SearchState, Reaching}
 use Rattle.paths.specs.Placing.{Placing}
 use Rattle.paths.specs.Moves.{PathPasses, CanWalk, ToMove, CanMove, MovedTables}
-use Rattle.paths.specs.FilledTargets.{CanFill, Filled}
+use Rattle.paths.specs.FilledTargets.{PlacingTables, CanFill, Filled}
 
-module _ {work : Workload} {table loads holders : List ℕ} {found : SearchState} {band left : ℕ} (can : CanFill work table loads holders found band left) where
+-- the load of one interval grows, and its room falls by as much
+pub room-less : {p : Problem} {before after : Shares} {frequency : ℕ} {room : List ℕ} → RoomAt p before frequency room → {target amount : ℕ} → target < p .intervals
+    → amount ≤ numbersIn room target → ((i : ℕ) → i < p .intervals → loadOf p after i ≡ loadOf p before i + onlyIf (eqb i target) amount)
+    → p .intervals ≤ length room → RoomAt p after frequency (set room target (getD room target 0 - amount))
+room-less {p} {before} {after} {frequency} {room} room-at {target} {amount} inside most loads within =
+    record {
+      room-length = length-set room target _ ∙ room-at .room-length;
+      room-is = λ i below. go i below (ℕ-discrete i target);
+      room-past = λ i past. getD-set-other room target i _ 0 (λ e. omega arith) ∙ room-at .room-past i past;
+    }
+  where
+    go : (i : ℕ) → i < p .intervals → Dec (i ≡ target)
+        → numbersIn (set room target (getD room target 0 - amount)) i + loadOf p after i ≡ p .size i * frequency
+    go i below (yes here) =
+        let load = rw (eq-eqb target target refl) at (loads target inside) in
+        rw (here, getD-set-same room target (getD room target 0 - amount) 0 (omega arith)) (omega (arith, room-at .room-is target inside))
+    go i below (no other) =
+        let load = rw (ne-eqb i target other) at (loads i below) in
+        rw (getD-set-other room target i (getD room target 0 - amount) 0 other) (omega (arith, room-at .room-is i below))
+
+-- while a job is placed, no room is more than what an interval holds
+pub room-most : {work : Workload} {table room holders : List ℕ} {prices lefts : ℕ → ℕ} {job left band : ℕ}
+    → PlacingTables work table room holders prices lefts job left band → (i : ℕ) → i < work .intervals → numbersIn room i ≤ maxDeadline * maxFrequency
+room-most {band = band} tables i inside =
+    omega (
+      arith,
+      tables .stored .room-at .room-is i inside,
+      capacity-most (tables .stored .sound) i (suc band) inside (tables .placing .band-below),
+    )
+
+module _ {work : Workload} {table room holders : List ℕ} {found : SearchState} {band left : ℕ} (can : CanFill work table room holders found band left) where
   pub target-inside : found .target < work .intervals
-  target-inside = omega (arith, can .room .to, can .reaching .now .end-below)
+  target-inside = omega (arith, can .has-room .to, can .reaching .now .end-below)
 
-  -- the target's capacity at the band fits, and is more than its load
-  pub fill-capacity : numbersIn (work .size) (found .target) * numbersIn (work .frequency) (band + 1) ≤ maxDeadline * maxFrequency
-  fill-capacity =
-      let within : band + 1 ≤ work .bands = omega (arith, can .placing .band-below) in
-      capacity-most (can .sound) (found .target) (band + 1) target-inside within
+  pub fill-room : 0 < numbersIn room (found .target)
+  fill-room = omega (arith, can .has-room .room, can .tables .stored .room-at .room-is (found .target) target-inside)
 
-  pub fill-room : numbersIn loads (found .target) < numbersIn (work .size) (found .target) * numbersIn (work .frequency) (band + 1)
-  fill-room = rw add-one (omega (arith, can .room .room, can .stored .loads-are (found .target) target-inside))
+  pub fill-most : numbersIn room (found .target) ≤ maxDeadline * maxFrequency
+  fill-most = room-most (can .tables) (found .target) target-inside
 
   pub fill-walk : CanWalk work table found
   fill-walk =
       record {
-        jobs-most = can .sound .jobs-most;
-        table-length = can .stored .table-length;
+        jobs-most = can .tables .stored .sound .jobs-most;
+        table-length = can .tables .stored .table-length;
         job = can .job;
         reaching = can .reaching;
-        from = can .room .from;
-        to = can .room .to;
+        from = can .has-room .from;
+        to = can .has-room .to;
       }
 
-  module _ {amount : ℕ} (some : 1 ≤ amount) (within : amount ≤ left)
-      (most : amount ≤ numbersIn (work .size) (found .target) * numbersIn (work .frequency) (band + 1) - numbersIn loads (found .target)) where
+  module _ {amount : ℕ} (some : 1 ≤ amount) (within : amount ≤ left) (most : amount ≤ numbersIn room (found .target)) where
     to-move : (prices lefts : ℕ → ℕ) (job : ℕ) → Placing (problemIn work) (sharesIn (work .jobs) table) prices lefts job left band
         → Reaching (problemIn work) (sharesIn (work .jobs) table) job found
         → ToMove (problemIn work) (sharesIn (work .jobs) table) prices lefts job left band found amount
@@ -55,60 +80,45 @@ module _ {work : Workload} {table loads holders : List ℕ} {found : SearchState
         record {
           placing = placing;
           reaching = reaching;
-          from = can .room .from;
-          to = can .room .to;
+          from = can .has-room .from;
+          to = can .has-room .to;
           some = some;
-          room = rw (← add-one band) (omega (arith, fill-room, can .stored .loads-are (found .target) target-inside));
+          room = omega (arith, can .tables .stored .room-at .room-is (found .target) target-inside);
         }
 
     pub fill-move : PathPasses work table found amount → CanMove work table holders found amount
     fill-move passes =
         record {
-          sound = can .sound;
-          table-length = can .stored .table-length;
-          holding = can .holding;
+          sound = can .tables .stored .sound;
+          table-length = can .tables .stored .table-length;
+          holding = can .tables .stored .holding;
           passes = passes;
           prices = can .prices;
           lefts = can .lefts;
           job = can .job;
           left = left;
           band = band;
-          to-move = to-move (can .prices) (can .lefts) (can .job) (can .placing) (can .reaching);
+          to-move = to-move (can .prices) (can .lefts) (can .job) (can .tables .placing) (can .reaching);
         }
 
     -- after the move
     pub filled : {after after-holders : List ℕ} → MovedTables work table after after-holders found amount
-        → Filled work table after (set loads (found .target) (getD loads (found .target) 0 + amount)) after-holders found band left amount
+        → Filled work table after (set room (found .target) (getD room (found .target) 0 - amount)) after-holders found band left amount
     filled {after} {after-holders} moved =
         record {
           some = some;
           most = within;
           stored =
               record {
-                table-length = omega (arith, moved .kept .same-length, can .stored .table-length);
-                loads-length = length-set loads (found .target) _ ∙ can .stored .loads-length;
-                loads-are = λ i inside. loads-are i inside (ℕ-discrete i (found .target));
-                loads-past = λ i past.
-                    getD-set-other loads (found .target) i _ 0 (λ e. omega (arith, target-inside)) ∙ can .stored .loads-past i past;
+                sound = can .tables .stored .sound;
+                table-length = omega (arith, moved .kept .same-length, can .tables .stored .table-length);
+                room-at =
+                    room-less (can .tables .stored .room-at) target-inside most
+                    (moved .moves _ _ _ left band (to-move (can .prices) (can .lefts) (can .job) (can .tables .placing) (can .reaching)) .loads)
+                    (omega (arith, can .tables .stored .sound .intervals-most, can .tables .stored .room-at .room-length));
+                holding = moved .holding;
               };
-          holding = moved .holding;
           kept = moved .kept;
           placing = λ prices lefts job placing reaching.
               moved .moves prices lefts job left band (to-move prices lefts job placing reaching) .placing (left - amount) (omega arith);
         }
-      where
-        own-moves : (i : ℕ) → i < work .intervals
-            → loadOf (problemIn work) (sharesIn (work .jobs) after) i
-            ≡ loadOf (problemIn work) (sharesIn (work .jobs) table) i + onlyIf (eqb i (found .target)) amount
-        own-moves = moved .moves _ _ _ left band (to-move (can .prices) (can .lefts) (can .job) (can .placing) (can .reaching)) .loads
-
-        loads-are : (i : ℕ) → i < work .intervals → Dec (i ≡ found .target)
-            → numbersIn (set loads (found .target) (getD loads (found .target) 0 + amount)) i ≡ loadOf (problemIn work) (sharesIn (work .jobs) after) i
-        loads-are i inside (yes here) =
-            let load = rw (eq-eqb (found .target) (found .target) refl) at (own-moves (found .target) target-inside) in
-            rw here
-            (getD-set-same loads (found .target) _ 0 (omega (arith, target-inside, can .sound .intervals-most, can .stored .loads-length))
-            ∙ omega (arith, can .stored .loads-are (found .target) target-inside))
-        loads-are i inside (no other) =
-            let load = rw (ne-eqb i (found .target) other) at (own-moves i inside) in
-            getD-set-other loads (found .target) i _ 0 other ∙ omega (arith, can .stored .loads-are i inside)

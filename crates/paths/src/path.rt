@@ -1,14 +1,15 @@
 // The path from an interval with room back to the job being placed: in each interval the first reached job that is open
 // there moves in, from its source, and the path goes on there.
 ghost use mathlib.Core.Path.{_≡_};
-ghost use Prim.Native.Nat.{ℕ, _+_, _*_, _<_, _≤_};
+ghost use Prim.Native.Nat.{ℕ, _+_, _<_, _≤_};
 ghost use Rattle.model.specs.Limits.{maxJobs};
 ghost use Rattle.workloads.specs.Placement.{Problem};
 ghost use Rattle.workloads.specs.Arrays.{numbersIn};
 ghost use Rattle.searching.specs.Reaching.{stateOf, withWindows};
 ghost use Rattle.paths.specs.Paths.{firstOpen};
-ghost use Rattle.paths.specs.FilledTargets.{SizesFill, SizesFilled};
+ghost use Rattle.paths.specs.FilledTargets.{WindowsFill, WindowsFilled};
 ghost use Rattle.paths.specs.Moves.{WindowsWalk, WindowsPass, WindowsMove, WindowsMoved};
+use crate::Turn;
 use crate::shares::put;
 use crate::shares::share_of;
 use crate::shares::take;
@@ -16,42 +17,39 @@ use model::MAX_INTERVALS;
 use model::MAX_JOBS;
 use searching::Found;
 
-// Moves as many of the cycles left as possible along the path from a target with room, and answers how many.
+// Moves as many of a job's cycles as possible along the path from a target with room, and answers how many.
 pub fn fill(
     first: &[usize; MAX_JOBS],
     last: &[usize; MAX_JOBS],
-    size: &[u64; MAX_INTERVALS],
-    frequency: u64,
-    jobs: usize,
     shares: &mut [u32],
-    loads: &mut [u64; MAX_INTERVALS],
+    room: &mut [u64; MAX_INTERVALS],
     holders: &mut [u64; MAX_INTERVALS],
     reached: &[usize; MAX_JOBS],
     source: &[usize; MAX_JOBS],
     found: Found,
-    left: u64,
+    turn: Turn,
 ) -> u64
-    requires { ⌜ SizesFill jobs (now first) (now last) (now size) frequency (now shares) (now loads) (now holders) (stateOf found (now reached) (now source)) left ⌝ }
-    ensures { λ r. ⌜ SizesFilled jobs (now (first .entry)) (now (last .entry)) (now (size .entry)) frequency
-        (now (shares .entry)) (now (loads .entry)) (now (holders .entry)) (now (shares .exit)) (now (loads .exit)) (now (holders .exit))
-        (stateOf found (now (reached .entry)) (now (source .entry))) left r ⌝ }
+    requires { ⌜ WindowsFill (now first) (now last) (now shares) (now room) (now holders) (stateOf found (now reached) (now source)) turn ⌝ }
+    ensures { λ r. ⌜ WindowsFilled (now (first .entry)) (now (last .entry))
+        (now (shares .entry)) (now (room .entry)) (now (holders .entry)) (now (shares .exit)) (now (room .exit)) (now (holders .exit))
+        (stateOf found (now (reached .entry)) (now (source .entry))) turn r ⌝ }
 {
     let target = found.target;
-    let room = size[target] * frequency - loads[target];
-    let most = if room < left { room } else { left };
-    let amount = path_limit(first, last, jobs, shares, reached, source, found, most);
+    let free = room[target];
+    let most = if free < turn.left { free } else { turn.left };
+    let amount = path_limit(first, last, shares, reached, source, found, turn.jobs, most);
     move_along(
         first,
         last,
-        jobs,
         shares,
         holders,
         reached,
         source,
         found,
+        turn.jobs,
         amount as u32,
     );
-    loads[target] += amount;
+    room[target] -= amount;
     amount
 }
 
@@ -59,11 +57,11 @@ pub fn fill(
 fn path_limit(
     first: &[usize; MAX_JOBS],
     last: &[usize; MAX_JOBS],
-    jobs: usize,
     shares: &[u32],
     reached: &[usize; MAX_JOBS],
     source: &[usize; MAX_JOBS],
     found: Found,
+    jobs: usize,
     most: u64,
 ) -> u64
     requires { ⌜ WindowsWalk jobs (now first) (now last) (now shares) (stateOf found (now reached) (now source)) ⌝ }
@@ -88,12 +86,12 @@ fn path_limit(
 fn move_along(
     first: &[usize; MAX_JOBS],
     last: &[usize; MAX_JOBS],
-    jobs: usize,
     shares: &mut [u32],
     holders: &mut [u64; MAX_INTERVALS],
     reached: &[usize; MAX_JOBS],
     source: &[usize; MAX_JOBS],
     found: Found,
+    jobs: usize,
     amount: u32,
 )
     requires { ⌜ WindowsMove jobs (now first) (now last) (now shares) (now holders) (stateOf found (now reached) (now source)) amount ⌝ }

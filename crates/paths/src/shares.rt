@@ -15,7 +15,7 @@ pub(crate) fn share_of(shares: &[u32], jobs: usize, interval: usize, job: usize)
 }
 
 // Adds an amount to the share of a job, and the job to the interval's set where it had no share.
-pub(crate) fn put(
+pub fn put(
     shares: &mut [u32],
     holders: &mut [u64; MAX_INTERVALS],
     jobs: usize,

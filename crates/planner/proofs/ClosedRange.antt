@@ -9,24 +9,21 @@ use Rattle.model.specs.Plans.{Shares}
 use Rattle.model.proofs.Numbers.{lt-or-le}
 use Rattle.workloads.specs.Placement.{Problem, SoundProblem, Open, loadOf}
 use Rattle.workloads.proofs.Capacity.{capacity-mono}
-use Rattle.searching.specs.Reached.{Reached, Scanned}
+use Rattle.searching.specs.Reached.{Closed}
 use Rattle.searching.proofs.ReachedRange.{reached-open}
 use Rattle.paths.specs.Placing.{Placing}
 use Rattle.prices.specs.RisingPrices.{Raised}
 use Rattle.prices.proofs.RaisedPrices.{raised-case, raised-up}
 
-module _ {p : Problem} {shares : Shares} {job count start end band : ℕ} {reached source : ℕ → ℕ}
-    (now : Reached p shares job count reached source start end)
-    (scanned : (i : ℕ) → start ≤ i → i < end → Scanned p shares band count reached i) where
-  -- a job with a share in the range has its whole window there
-  pub window-closed : {i j : ℕ} → start ≤ i → i < end → j < p .jobs → 0 < shares i j → (start ≤ p .first j) × (p .last j ≤ end)
-  window-closed {i} {j} from to below share =
-      let (s, listed, its) = scanned i from to .listed j below share in
-      (rw its at (now .from-start s listed), rw its at (now .to-end s listed))
+-- a job with a share in the range has its whole window there
+pub window-closed : {p : Problem} {shares : Shares} {job band start end : ℕ} → Closed p shares job band start end
+    → {i j : ℕ} → start ≤ i → i < end → j < p .jobs → 0 < shares i j → (start ≤ p .first j) × (p .last j ≤ end)
+window-closed closed {i} {j} from to below share =
+    let (s, listed, its) = closed .scanned i from to .listed j below share in
+    (rw its at (closed .now .from-start s listed), rw its at (closed .now .to-end s listed))
 
-module _ {p : Problem} (sound : SoundProblem p) {shares : Shares} {prices lefts : ℕ → ℕ} {job left band count start end : ℕ} {reached source : ℕ → ℕ}
-    (placing : Placing p shares prices lefts job left band) (now : Reached p shares job count reached source start end)
-    (scanned : (i : ℕ) → start ≤ i → i < end → Scanned p shares band count reached i)
+module _ {p : Problem} (sound : SoundProblem p) {shares : Shares} {prices lefts : ℕ → ℕ} {job left band start end : ℕ}
+    (placing : Placing p shares prices lefts job left band) (closed : Closed p shares job band start end)
     (more : suc band < p .bands) {after : ℕ → ℕ} (raised : Raised start end (suc band) prices after) where
   raised-band : (i : ℕ) → i < p .intervals → after i < p .bands
   raised-band i inside = go (raised-case raised i)
@@ -44,7 +41,7 @@ module _ {p : Problem} (sound : SoundProblem p) {shares : Shares} {prices lefts 
       go (inr (from, to, up)) = which (lt-or-le (prices i) (suc band))
         where
           which : (prices i < suc band) ⊎ (suc band ≤ prices i) → p .size i * p .frequency (after i) ≤ loadOf p shares i
-          which (inl less) = let e : after i ≡ suc band = omega arith in rw e (scanned i from to .full)
+          which (inl less) = let e : after i ≡ suc band = omega arith in rw e (closed .scanned i from to .full)
           which (inr above) = let e : after i ≡ prices i = omega arith in rw e (placing .priced .low i inside)
 
   raised-cheapest : (i other j : ℕ) → i < p .intervals → other < p .intervals → j < p .jobs → 0 < shares i j → Open p other j
@@ -57,7 +54,7 @@ module _ {p : Problem} (sound : SoundProblem p) {shares : Shares} {prices lefts 
       go : (after i ≡ prices i) ⊎ ((start ≤ i) × (i < end) × (after i ≡ max (prices i) (suc band))) → after i ≤ after other
       go (inl same) = omega (arith, order, raised-up raised other)
       go (inr (from, to, up)) =
-          let (low, high) = window-closed now scanned from to below share in
+          let (low, high) = window-closed closed from to below share in
           omega (arith, order, raised .inside other (omega arith) (omega arith))
 
   -- the next band
@@ -79,6 +76,6 @@ module _ {p : Problem} (sound : SoundProblem p) {shares : Shares} {prices lefts 
         others = placing .others;
         band-below = more;
         reaches = λ i inside is-open.
-            let (from, to) = reached-open now {i = i} (now .some) (rw (now .origin) is-open) in
+            let (from, to) = reached-open (closed .now) {i = i} (closed .now .some) (rw (closed .now .origin) is-open) in
             omega (arith, raised .inside i from to);
       }

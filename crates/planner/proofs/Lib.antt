@@ -2,4 +2,5 @@
 pub mod BandOrder
 pub mod ClosedRange
 pub mod FullRange
+pub mod OwnIntervals
 pub mod PlaceSteps

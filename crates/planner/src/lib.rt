@@ -3,5 +3,6 @@ mod filling;
 mod moving;
 mod order;
 mod placement;
+mod rooms;
 
 pub use placement::place;

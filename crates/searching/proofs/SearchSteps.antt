@@ -11,10 +11,10 @@ use lib.Seq.{getD-set-same}
 use Rattle.model.specs.Limits.{maxJobs, maxIntervals}
 use Rattle.model.specs.Plans.{Shares}
 use Rattle.workloads.specs.Placement.{Problem, SoundProblem, OnlyOpen, loadOf}
-use Rattle.workloads.specs.Arrays.{numbersIn, Holding}
+use Rattle.workloads.specs.Arrays.{numbersIn, RoomAt, Holding}
 use Rattle.workloads.proofs.Words.{bit-none}
 use Rattle.searching.specs.Reached.{Scanned}
-use Rattle.searching.specs.Reaching.{SearchState, onlyJob, NextInterval, Reaching, ToScan, ScanOf, Searched, ToSearch}
+use Rattle.searching.specs.Reaching.{SearchState, onlyJob, NextInterval, Reaching, ToScan, ScanOf, Searched}
 use Rattle.searching.proofs.ReachedRange.{scanned-kept}
 use Rattle.searching.proofs.ScanSteps.{reaching-start}
 
@@ -31,14 +31,13 @@ pub record Scanning (p : Problem) (shares : Shares) (job band : ℕ) (found : Se
 pub scan-measure : {before after : ℕ} → before < after → after ≤ maxIntervals → maxIntervals - after < maxIntervals - before
 scan-measure longer within = omega arith
 
--- how the load of an interval compares with what it holds at the band
-module _ {p : Problem} {shares : Shares} {frequency : ℕ} {loads holders : List ℕ} {job band : ℕ}
-    (to-search : ToSearch p shares frequency loads holders job band) {i : ℕ} (inside : i < p .intervals) where
-  pub search-room : numbersIn loads i < p .size i * frequency → loadOf p shares i < p .size i * p .frequency (suc band)
-  search-room room = rw (to-search .frequency-is) (omega (arith, to-search .loads-are i inside))
+-- whether an interval has room
+module _ {p : Problem} {shares : Shares} {frequency : ℕ} {room : List ℕ} (room-at : RoomAt p shares frequency room) {i : ℕ} (inside : i < p .intervals) where
+  pub room-some : 0 < numbersIn room i → loadOf p shares i < p .size i * frequency
+  room-some some = omega (arith, room-at .room-is i inside)
 
-  pub search-full : p .size i * frequency ≤ numbersIn loads i → p .size i * p .frequency (suc band) ≤ loadOf p shares i
-  search-full full = rw (to-search .frequency-is) (omega (arith, to-search .loads-are i inside))
+  pub room-none : numbersIn room i ≤ 0 → p .size i * frequency ≤ loadOf p shares i
+  room-none none = omega (arith, room-at .room-is i inside)
 
 -- the target of a search is set
 abbrev pub withTarget : SearchState → ℕ → SearchState

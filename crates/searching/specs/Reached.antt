@@ -33,3 +33,11 @@ module _ (p : Problem) where
   pub record Scanned (shares : Shares) (band count : ℕ) (reached : ℕ → ℕ) (i : ℕ) : Type 0 where
     pub full : p .size i * p .frequency (suc band) ≤ loadOf p shares i
     pub listed : (j : ℕ) → j < p .jobs → 0 < shares i j → IsListed count reached j
+
+  -- A search from a job reached a range in which no interval has room at the band.
+  pub record Closed (shares : Shares) (job band start end : ℕ) : Type 0 where
+    pub count : ℕ
+    pub reached : ℕ → ℕ
+    pub source : ℕ → ℕ
+    pub now : Reached shares job count reached source start end
+    pub scanned : (i : ℕ) → start ≤ i → i < end → Scanned shares band count reached i

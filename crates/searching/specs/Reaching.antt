@@ -3,11 +3,11 @@ use Prim.Native.Nat.{ℕ, suc, _+_, _-_, _*_, _^_, _<_, _≤_, min, max}
 use mathlib.Core.Path.{_≡_}
 use mathlib.Core.List.{List}
 use lib.ListN.{length, set}
-use Rattle.model.specs.Limits.{maxJobs, maxIntervals, maxDeadline, maxFrequency}
+use Rattle.model.specs.Limits.{maxJobs, maxIntervals}
 use Rattle.model.specs.Plans.{Shares}
 use Rattle.workloads.specs.Words.{bit}
 use Rattle.workloads.specs.Placement.{Problem, SoundProblem, OnlyOpen, loadOf}
-use Rattle.workloads.specs.Arrays.{numbersIn, Holding}
+use Rattle.workloads.specs.Arrays.{numbersIn, RoomAt, Holding}
 use Rattle.searching.specs.declared.reached.Found.{Found}
 use Rattle.searching.specs.Reached.{IsListed, Reached, Scanned}
 
@@ -115,20 +115,18 @@ module _ (p : Problem) (shares : Shares) where
     pub closed : maxIntervals ≤ found .target → (i : ℕ) → found .start ≤ i → i < found .end
         → Scanned p shares band (found .count) (numbersIn (found .reached)) i
 
-  -- An interval with room at a band, whose end is a frequency, can be looked for: loads and sets of jobs are those of the
-  -- shares, and shares stand only where jobs are open.
-  pub record ToSearch (frequency : ℕ) (loads holders : List ℕ) (job band : ℕ) : Type 0 where
+  -- An interval with room at a band can be looked for: room and sets of jobs are those of the shares, and shares stand only
+  -- where jobs are open.
+  pub record ToSearch (room holders : List ℕ) (job band : ℕ) : Type 0 where
     pub sound : SoundProblem p
     pub jobs-most : p .jobs ≤ maxJobs
     pub intervals-most : p .intervals ≤ maxIntervals
-    pub capacity-most : (i : ℕ) → i < p .intervals → p .size i * frequency ≤ maxDeadline * maxFrequency
-    pub frequency-is : p .frequency (suc band) ≡ frequency
-    pub loads-are : (i : ℕ) → i < p .intervals → numbersIn loads i ≡ loadOf p shares i
+    pub room-at : RoomAt p shares (p .frequency (suc band)) room
     pub holding : Holding p shares holders
     pub shut : OnlyOpen p shares
     pub job-below : job < p .jobs
 
--- A problem with other windows, and with other lengths too.
+-- A problem with other windows.
 abbrev pub withWindows : Problem → (jobs : ℕ) → (first last : List ℕ) → Problem
 withWindows p jobs first last =
     record {
@@ -139,19 +137,6 @@ withWindows p jobs first last =
       last = numbersIn last;
       cycles = p .cycles;
       size = p .size;
-      frequency = p .frequency;
-    }
-
-abbrev pub withSizes : Problem → (first last size : List ℕ) → Problem
-withSizes p first last size =
-    record {
-      jobs = p .jobs;
-      intervals = p .intervals;
-      bands = p .bands;
-      first = numbersIn first;
-      last = numbersIn last;
-      cycles = p .cycles;
-      size = numbersIn size;
       frequency = p .frequency;
     }
 
@@ -168,15 +153,15 @@ Scans first last holders before interval found =
     (p : Problem) (shares : Shares) (job : ℕ) → ToScan (withWindows p (p .jobs) first last) shares job holders before interval
     → ScanOf (withWindows p (p .jobs) first last) shares job before interval 0 found
 
--- To a function that is lent windows and lengths alone: an interval with room can be looked for, of some such problem.
-pub record CanSearch (first last size : List ℕ) (frequency : ℕ) (loads holders : List ℕ) (job : ℕ) : Type 0 where
+-- Likewise: an interval with room can be looked for, of some such problem.
+pub record CanSearch (first last room holders : List ℕ) (job : ℕ) : Type 0 where
   pub problem : Problem
   pub shares : Shares
   pub band : ℕ
-  pub to-search : ToSearch (withSizes problem first last size) shares frequency loads holders job band
+  pub to-search : ToSearch (withWindows problem (problem .jobs) first last) shares room holders job band
 
 -- The answer of the search, of each such problem.
-abbrev pub Searches : (first last size : List ℕ) → (frequency : ℕ) → (loads holders : List ℕ) → (job : ℕ) → (found : SearchState) → Type 0
-Searches first last size frequency loads holders job found =
-    (p : Problem) (shares : Shares) (band : ℕ) → ToSearch (withSizes p first last size) shares frequency loads holders job band
-    → Searched (withSizes p first last size) shares job band found
+abbrev pub Searches : (first last room holders : List ℕ) → (job : ℕ) → (found : SearchState) → Type 0
+Searches first last room holders job found =
+    (p : Problem) (shares : Shares) (band : ℕ) → ToSearch (withWindows p (p .jobs) first last) shares room holders job band
+    → Searched (withWindows p (p .jobs) first last) shares job band found

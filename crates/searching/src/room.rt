@@ -13,23 +13,21 @@ use crate::reached::smaller;
 use model::MAX_INTERVALS;
 use model::MAX_JOBS;
 
-// Looks for an interval with room at a frequency. The scanned intervals go from low up to, not including, high. `holders`
-// has for each interval the set of the jobs with a share there.
+// Looks for an interval with room. The scanned intervals go from low up to, not including, high. For each interval `room` has
+// the cycles that it still takes, and `holders` the set of the jobs with a share there.
 pub fn search(
     first: &[usize; MAX_JOBS],
     last: &[usize; MAX_JOBS],
-    size: &[u64; MAX_INTERVALS],
-    frequency: u64,
-    loads: &[u64; MAX_INTERVALS],
+    room: &[u64; MAX_INTERVALS],
     holders: &[u64; MAX_INTERVALS],
     job: usize,
     reached: &mut [usize; MAX_JOBS],
     source: &mut [usize; MAX_JOBS],
 ) -> Found
-    requires { ⌜ CanSearch (now first) (now last) (now size) frequency (now loads) (now holders) job ⌝ }
+    requires { ⌜ CanSearch (now first) (now last) (now room) (now holders) job ⌝ }
     requires { ⌜ (length (now reached) ≡ maxJobs) × (length (now source) ≡ maxJobs) ⌝ }
     ensures { λ r. ⌜ (length (now (reached .exit)) ≡ maxJobs) × (length (now (source .exit)) ≡ maxJobs)
-        × Searches (now (first .entry)) (now (last .entry)) (now (size .entry)) frequency (now (loads .entry)) (now (holders .entry)) job
+        × Searches (now (first .entry)) (now (last .entry)) (now (room .entry)) (now (holders .entry)) job
         (stateOf r (now (reached .exit)) (now (source .exit))) ⌝ }
 {
     reached[0] = job;
@@ -38,7 +36,7 @@ pub fn search(
     let mut found = only(job, low, last[job]);
     let mut next = next_interval(low, high, found.start, found.end);
     while next < MAX_INTERVALS {
-        if loads[next] < size[next] * frequency {
+        if room[next] > 0 {
             found.target = next;
             return found;
         }

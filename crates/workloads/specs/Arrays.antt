@@ -1,5 +1,5 @@
 -- What is to be placed, and shares and loads, in plain arrays.
-use Prim.Native.Nat.{ℕ, _*_, _^_, _<_, _≤_, min}
+use Prim.Native.Nat.{ℕ, _+_, _*_, _^_, _<_, _≤_, min}
 use mathlib.Core.Path.{_≡_}
 use mathlib.Core.List.{List}
 use lib.ListN.{length, getD, drop}
@@ -57,6 +57,12 @@ pub record Stored (work : Workload) (table loads : List ℕ) : Type 0 where
   pub loads-are : (i : ℕ) → i < work .intervals → numbersIn loads i ≡ loadOf (problemIn work) (sharesIn (work .jobs) table) i
   pub loads-past : (i : ℕ) → work .intervals ≤ i → numbersIn loads i ≡ 0
 
+-- For each interval the array `room` has the cycles that it still takes at a frequency, zeros past the last.
+pub record RoomAt (p : Problem) (shares : Shares) (frequency : ℕ) (room : List ℕ) : Type 0 where
+  pub room-length : length room ≡ maxIntervals
+  pub room-is : (i : ℕ) → i < p .intervals → numbersIn room i + loadOf p shares i ≡ p .size i * frequency
+  pub room-past : (i : ℕ) → p .intervals ≤ i → numbersIn room i ≡ 0
+
 -- For each interval a word has the jobs with a share there.
 pub record Holding (p : Problem) (shares : Shares) (holders : List ℕ) : Type 0 where
   pub holders-length : length holders ≡ maxIntervals
@@ -64,7 +70,7 @@ pub record Holding (p : Problem) (shares : Shares) (holders : List ℕ) : Type 0
   pub held-past : (i j : ℕ) → i < p .intervals → p .jobs ≤ j → bit j (numbersIn holders i) ≡ 0
   pub held-small : (i : ℕ) → i < p .intervals → numbersIn holders i < 2 ^ maxJobs
 
--- A workload with other windows, and with other lengths too.
+-- A workload with other windows.
 abbrev pub lentWindows : Workload → (jobs : ℕ) → (first last : List ℕ) → Workload
 lentWindows work jobs first last =
     record {
@@ -78,18 +84,9 @@ lentWindows work jobs first last =
       frequency = work .frequency;
     }
 
-abbrev pub lentSizes : Workload → (jobs : ℕ) → (first last size : List ℕ) → Workload
-lentSizes work jobs first last size =
-    record {
-      jobs = jobs;
-      intervals = work .intervals;
-      bands = work .bands;
-      first = first;
-      last = last;
-      cycles = work .cycles;
-      size = size;
-      frequency = work .frequency;
-    }
+-- A workload with another number of jobs.
+abbrev pub lentJobs : Workload → (jobs : ℕ) → Workload
+lentJobs work jobs = lentWindows work jobs (work .first) (work .last)
 
 -- A table of which only the first `count` numbers may have changed.
 pub record KeptPast (count : ℕ) (before after : List ℕ) : Type 0 where

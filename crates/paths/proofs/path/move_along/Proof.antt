@@ -14,12 +14,12 @@ use Rattle.paths.proofs.path.move_along.Statement.{statement}
 use Rattle.paths.proofs.path.move_along.Tie as tie
 
 abbrev Inv-loop : tie.InvT-loop
-Inv-loop first last jobs shares₀ holders₀ reached source found amount gap₀ s₀ shares holders gap s =
+Inv-loop first last shares₀ holders₀ reached source found jobs amount gap₀ s₀ shares holders gap s =
     (work : Workload) → CanMove (lentWindows work jobs first last) shares₀ holders₀ (stateOf found reached source) amount
     → MoveAt (lentWindows work jobs first last) shares₀ (stateOf found reached source) amount shares holders gap s
 
 abbrev μ-loop : tie.MeasureT-loop
-μ-loop first last jobs shares₀ holders₀ reached source found amount gap₀ s₀ shares holders gap s = s
+μ-loop first last shares₀ holders₀ reached source found jobs amount gap₀ s₀ shares holders gap s = s
 
 -- the function's entry
 abbrev entry : tie.At-loop Inv-loop μ-loop → tie.Start Inv-loop μ-loop

@@ -15,12 +15,12 @@ use Rattle.paths.proofs.path.path_limit.Statement.{statement}
 use Rattle.paths.proofs.path.path_limit.Tie as tie
 
 abbrev Inv-loop : tie.InvT-loop
-Inv-loop first last jobs shares reached source found most limit₀ s₀ limit s =
+Inv-loop first last shares reached source found jobs most limit₀ s₀ limit s =
     (work : Workload) → CanWalk (lentWindows work jobs first last) shares (stateOf found reached source)
     → WalkAt (lentWindows work jobs first last) shares (stateOf found reached source) most limit s
 
 abbrev μ-loop : tie.MeasureT-loop
-μ-loop first last jobs shares reached source found most limit₀ s₀ limit s = s
+μ-loop first last shares reached source found jobs most limit₀ s₀ limit s = s
 
 -- the function's entry
 abbrev entry : tie.At-loop Inv-loop μ-loop → tie.Start Inv-loop μ-loop

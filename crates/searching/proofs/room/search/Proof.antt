@@ -9,19 +9,19 @@ use denote.Ref.{now}
 use Rattle.model.specs.Limits.{maxIntervals, maxJobs}
 use Rattle.model.specs.Plans.{Shares}
 use Rattle.workloads.specs.Placement.{Problem}
-use Rattle.searching.specs.Reaching.{SearchState, stateOf, withSizes, NextInterval, ToSearch, Searches}
-use Rattle.searching.proofs.SearchSteps.{Scanning, scan-measure, withTarget, search-room, search-full, scanning-start, searched-closed, searched-target, next-inside, next-to-scan, scanning-next}
+use Rattle.searching.specs.Reaching.{SearchState, stateOf, withWindows, NextInterval, ToSearch, Searches}
+use Rattle.searching.proofs.SearchSteps.{Scanning, scan-measure, withTarget, room-some, room-none, scanning-start, searched-closed, searched-target, next-inside, next-to-scan, scanning-next}
 use Rattle.searching.proofs.room.search.Statement.{statement}
 use Rattle.searching.proofs.room.search.Tie as tie
 
 abbrev Inv-loop : tie.InvT-loop
-Inv-loop first last size frequency loads holders job reached₀ source₀ low₀ high₀ found₀ next₀ reached source low high found next =
+Inv-loop first last room holders job reached₀ source₀ low₀ high₀ found₀ next₀ reached source low high found next =
     NextInterval low high (found .start) (found .end) next
-    × ((p : Problem) (shares : Shares) (band : ℕ) → ToSearch (withSizes p first last size) shares frequency loads holders job band
-    → Scanning (withSizes p first last size) shares job band (stateOf found reached source) low high)
+    × ((p : Problem) (shares : Shares) (band : ℕ) → ToSearch (withWindows p (p .jobs) first last) shares room holders job band
+    → Scanning (withWindows p (p .jobs) first last) shares job band (stateOf found reached source) low high)
 
 abbrev μ-loop : tie.MeasureT-loop
-μ-loop first last size frequency loads holders job reached₀ source₀ low₀ high₀ found₀ next₀ reached source low high found next =
+μ-loop first last room holders job reached₀ source₀ low₀ high₀ found₀ next₀ reached source low high found next =
     maxIntervals - (high - low)
 
 -- the function's entry
@@ -54,13 +54,13 @@ only-requires c κs = job-small (c .before .before)
 started : (c : tie.After-only Inv-loop μ-loop)
     → let a = c .before .before .before .args in
     (p : Problem) (shares : Shares) (band : ℕ)
-    → ToSearch (withSizes p (now (a .first)) (now (a .last)) (now (a .size))) shares (a .frequency) (now (a .loads)) (now (a .holders)) (a .job) band
-    → Scanning (withSizes p (now (a .first)) (now (a .last)) (now (a .size))) shares (a .job) band
+    → ToSearch (withWindows p (p .jobs) (now (a .first)) (now (a .last))) shares (now (a .room)) (now (a .holders)) (a .job) band
+    → Scanning (withWindows p (p .jobs) (now (a .first)) (now (a .last))) shares (a .job) band
     (stateOf (c .only .result) (set (now (a .reached)) 0 (a .job)) (now (a .source))) (getD (now (a .first)) (a .job) 0) (getD (now (a .first)) (a .job) 0)
 started c = λ p shares band to-search.
     let start = c .before .before .before in
     let a = start .args in
-    subst (λ (state : SearchState). Scanning (withSizes p (now (a .first)) (now (a .last)) (now (a .size))) shares (a .job) band state
+    subst (λ (state : SearchState). Scanning (withWindows p (p .jobs) (now (a .first)) (now (a .last))) shares (a .job) band state
     (getD (now (a .first)) (a .job) 0) (getD (now (a .first)) (a .job) 0))
     (sym (c .only .ensures (set (now (a .reached)) 0 (a .job)) (now (a .source))))
     (scanning-start (to-search .sound) (to-search .jobs-most) (to-search .job-below) (now (a .reached)) (now (a .source)) (start .pre .1 .0) (start .pre .1 .1))
@@ -78,7 +78,7 @@ loop-holds c = (c .next-interval .ensures, started (c .before))
 at : (c : tie.At-loop Inv-loop μ-loop)
     → let a = entry c .args in
     let can = entry c .pre .0 in
-    Scanning (withSizes (can .problem) (now (a .first)) (now (a .last)) (now (a .size))) (can .shares) (a .job) (can .band)
+    Scanning (withWindows (can .problem) (can .problem .jobs) (now (a .first)) (now (a .last))) (can .shares) (a .job) (can .band)
     (stateOf (c .loop .found) (c .loop .reached) (c .loop .source)) (c .loop .low) (c .loop .high)
 at c = let can = entry c .pre .0 in c .loop .inv .1 (can .problem) (can .shares) (can .band) (can .to-search)
 
@@ -90,15 +90,15 @@ exists c =
 
 -- the next interval is scanned
 scanned : (c : tie.After-scan Inv-loop μ-loop)
-    → let turn = c .before .before .before .before .before .before .before in
+    → let turn = c .before .before .before .before .before .before in
     let a = entry (turn .before) .args in
     (p : Problem) (shares : Shares) (band : ℕ)
-    → ToSearch (withSizes p (now (a .first)) (now (a .last)) (now (a .size))) shares (a .frequency) (now (a .loads)) (now (a .holders)) (a .job) band
-    → Scanning (withSizes p (now (a .first)) (now (a .last)) (now (a .size))) shares (a .job) band
+    → ToSearch (withWindows p (p .jobs) (now (a .first)) (now (a .last))) shares (now (a .room)) (now (a .holders)) (a .job) band
+    → Scanning (withWindows p (p .jobs) (now (a .first)) (now (a .last))) shares (a .job) band
     (stateOf (c .scan .result) (c .scan .last .1 .1 .1 .1 .1 .0) (c .scan .last .1 .1 .1 .1 .1 .1 .0))
     (min (turn .before .loop .low) (turn .before .loop .next)) (max (turn .before .loop .high) (turn .before .loop .next + 1))
 scanned c = λ p shares band can.
-    let turn = c .before .before .before .before .before .before .before in
+    let turn = c .before .before .before .before .before .before in
     let a = entry (turn .before) .args in
     let scanning = turn .before .loop .inv .1 p shares band can in
     let is-next = turn .before .loop .inv .0 in
@@ -106,8 +106,8 @@ scanned c = λ p shares band can.
     let inside = next-inside (can .sound) (can .jobs-most) scanning is-next next in
     let to-scan = next-to-scan (can .sound) (can .jobs-most) scanning is-next next (can .shut) (can .holding) in
     scanning-next (can .sound) (can .jobs-most) scanning is-next next
-    (search-full can inside (c .before .before .before .before .if1 .left))
-    (c .scan .ensures (withSizes p (now (a .first)) (now (a .last)) (now (a .size))) shares (a .job) to-scan)
+    (room-none (can .room-at) inside (c .before .before .before .before .if1 .left))
+    (c .scan .ensures (withWindows p (p .jobs) (now (a .first)) (now (a .last))) shares (a .job) to-scan)
 
 mul-if1 : tie.Need-mul-if1 Inv-loop μ-loop
 mul-if1 c = omega arith
@@ -115,35 +115,24 @@ mul-if1 c = omega arith
 element-copy-out-if1 : tie.Need-element-copy-out-if1 Inv-loop μ-loop
 element-copy-out-if1 c = omega arith
 
-mul-if1-2 : tie.Need-mul-if1-2 Inv-loop μ-loop
-mul-if1-2 c = omega arith
-
-element-copy-out-if1-2 : tie.Need-element-copy-out-if1-2 Inv-loop μ-loop
-element-copy-out-if1-2 c = omega arith
-
-mul-if1-3 : tie.Need-mul-if1-3 Inv-loop μ-loop
-mul-if1-3 c =
-    let turn = c .before .before in
-    omega (arith, entry (turn .before) .pre .0 .to-search .capacity-most _ (exists turn))
-
 -- the next interval has room
 target : (c : tie.Then1 Inv-loop μ-loop)
-    → let turn = c .before .before .before in
+    → let turn = c .before .before in
     let a = entry (turn .before) .args in
     let head = turn .before .loop in
-    Searches (now (a .first)) (now (a .last)) (now (a .size)) (a .frequency) (now (a .loads)) (now (a .holders)) (a .job)
+    Searches (now (a .first)) (now (a .last)) (now (a .room)) (now (a .holders)) (a .job)
     (withTarget (stateOf (head .found) (head .reached) (head .source)) (head .next))
 target c = λ p shares band can.
-    let turn = c .before .before .before in
+    let turn = c .before .before in
     let scanning = turn .before .loop .inv .1 p shares band can in
     let is-next = turn .before .loop .inv .0 in
     let next = turn .loop-test .taken in
     searched-target (can .sound) (can .jobs-most) scanning is-next next
-    (search-room can (next-inside (can .sound) (can .jobs-most) scanning is-next next) (c .if1 .taken))
+    (room-some (can .room-at) (next-inside (can .sound) (can .jobs-most) scanning is-next next) (c .if1 .taken))
 
 returns : tie.Need-returns Inv-loop μ-loop
 returns c =
-    let reaching = at (c .before .before .before .before) .reaching in
+    let reaching = at (c .before .before .before) .reaching in
     (reaching .reached-length, reaching .source-length, target c)
 
 mul-scan : tie.Need-mul-scan Inv-loop μ-loop
@@ -154,12 +143,12 @@ element-copy-out-scan c = omega arith
 
 scan-requires : tie.Need-scan-requires Inv-loop μ-loop
 scan-requires c κs =
-    let turn = c .before .before .before .before .before .before in
+    let turn = c .before .before .before .before .before in
     let start = entry (turn .before) in
     let can = start .pre .0 in
     let to-search = can .to-search in
     record {
-      problem = withSizes (can .problem) (now (start .args .first)) (now (start .args .last)) (now (start .args .size));
+      problem = withWindows (can .problem) (can .problem .jobs) (now (start .args .first)) (now (start .args .last));
       shares = can .shares;
       job = start .args .job;
       to-scan =
@@ -171,21 +160,21 @@ smaller-requires : tie.Need-smaller-requires Inv-loop μ-loop
 smaller-requires c κs = search needs
 
 add-larger : tie.Need-add-larger Inv-loop μ-loop
-add-larger c = omega (arith, c .before .before .before .before .before .before .before .before .loop-test .taken)
+add-larger c = omega (arith, c .before .before .before .before .before .before .before .loop-test .taken)
 
 larger-requires : tie.Need-larger-requires Inv-loop μ-loop
 larger-requires c κs = search needs
 
 next-interval-requires-2 : tie.Need-next-interval-requires-2 Inv-loop μ-loop
 next-interval-requires-2 c κs =
-    let can = entry (c .before .before .before .before .before .before .before .before .before .before) .pre .0 in
+    let can = entry (c .before .before .before .before .before .before .before .before .before) .pre .0 in
     let after = scanned (c .before .before) (can .problem) (can .shares) (can .band) (can .to-search) in
     rw (c .before .smaller .ensures, c .larger .ensures)
     (after .from, after .order, after .to, omega (arith, after .reaching .now .end-below, can .to-search .intervals-most))
 
 loop-less : tie.Need-loop-less Inv-loop μ-loop
 loop-less c =
-    let turn = c .before .before .before .before .before .before .before .before .before .before in
+    let turn = c .before .before .before .before .before .before .before .before .before in
     let can = entry (turn .before) .pre .0 in
     let after = scanned (c .before .before .before) (can .problem) (can .shares) (can .band) (can .to-search) in
     let most = can .to-search .intervals-most in
@@ -223,9 +212,6 @@ search-spec =
     loop-holds
     mul-if1
     element-copy-out-if1
-    mul-if1-2
-    element-copy-out-if1-2
-    mul-if1-3
     returns
     mul-scan
     element-copy-out-scan
