@@ -1,6 +1,6 @@
 -- What the arrays and numbers of a site that was read keep: its jobs and its working points, within the limits.
 -- Assumes nothing.
-use mathlib.Core.Path.{_≡_, sym, _∙_}
+use mathlib.Core.Path.{_≡_}
 use mathlib.Core.List.{List}
 use Prim.Native.Nat.{ℕ, _-_, _<_, _≤_}
 use native.Mathlib.Omega.{arith}
@@ -8,7 +8,7 @@ use lib.ListN.{length, take}
 use Rattle.model.specs.Limits.{maxFrequency, maxJobs, maxBounds}
 use Rattle.model.specs.Jobs.{ValidJobs}
 use Rattle.model.specs.Bands.{bandCount, frequencyOf, Curve}
-use Rattle.model.specs.Processors.{allPoints, workingOf, topOf, ValidProcessor}
+use Rattle.model.specs.Processors.{allPoints, workingOf}
 use Rattle.model.specs.Sites.{Site, ValidSite}
 use Rattle.model.proofs.Working.{working-curve, working-top}
 use Rattle.tables.specs.Tables.{jobsIn}
