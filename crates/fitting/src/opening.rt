@@ -3,7 +3,7 @@ ghost use mathlib.Core.Path.{_≡_};
 ghost use Prim.Native.Nat.{_<_, _≤_};
 ghost use lib.ListN.{length};
 ghost use Rattle.model.specs.Limits.{maxJobs, maxIntervals};
-ghost use Rattle.energy.specs.Figures.{SmallBounds};
+ghost use Rattle.intervals.specs.Times.{SmallBounds};
 ghost use Rattle.job_sets.specs.IntervalSets.{setWords};
 ghost use Rattle.fitting.specs.SetsHave.{SetsHave, withJobIn};
 ghost use Rattle.fitting.specs.TestedJobs.{EndsBy, inRange, opensIn};

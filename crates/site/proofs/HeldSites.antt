@@ -15,7 +15,9 @@ use Rattle.tables.specs.Tables.{jobsIn}
 use Rattle.tables.proofs.Read.{jobs-count}
 use Rattle.levels.specs.PointTables.{pointsOf, SmallPoints}
 use Rattle.levels.proofs.SmallPoints.{working-small, working-held}
-use Rattle.intervals.proofs.Padded.{holds-first}
+use Rattle.intervals.specs.Times.{SmallBounds}
+use Rattle.intervals.proofs.Padded.{take-padded, holds-first}
+use Rattle.intervals.proofs.SmallBounds.{small-bounds}
 use Rattle.site.specs.declared.SiteTable.{SiteTable}
 use Rattle.site.specs.SiteTables.{HoldsSite}
 
@@ -54,3 +56,8 @@ module _ {site : Site} {table : SiteTable} {releases deadlines cycles times : Li
 
   pub held-bounds : take (table .bounds) times ≡ site .bounds
   held-bounds = holds-first (holds .bounds-are) held-few
+
+  pub held-bounds-small : SmallBounds (table .bounds) times
+  held-bounds-small =
+      rw (holds .bounds-are .counted, holds .bounds-are .array)
+      (small-bounds (valid .bounds) (valid .jobs) (valid .few-bounds) _ (take-padded (site .bounds) (valid .few-bounds)))
