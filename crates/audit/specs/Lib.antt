@@ -1,8 +1,2 @@
 -- What the functions of this crate answer, as equations with the definitions of the crate model.
-pub mod Walking
-pub mod Readings
-pub mod Verdicts
-pub mod TestedJobs
-pub mod FirstHalf
-pub mod SecondHalf
 pub mod Answers

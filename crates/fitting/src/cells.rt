@@ -1,0 +1,83 @@
+// The steps of a plan one after another, by cell: refusals 17 and 18. The open pairs and the pairs seen so far are kept
+// as one set of jobs for each interval.
+ghost use mathlib.Core.Path.{_≡_};
+ghost use Prim.Native.Nat.{_+_, _*_, _<_, _≤_};
+ghost use lib.ListN.{length};
+ghost use Rattle.model.specs.Limits.{maxJobs, maxBounds};
+ghost use Rattle.model.specs.Outcome.{byEntry};
+ghost use Rattle.model.specs.Steps.{stepCount};
+ghost use Rattle.walking.specs.Walking.{modelStep};
+ghost use Rattle.fitting.specs.Verdicts.{verdictOf, passed};
+ghost use Rattle.fitting.specs.FirstHalf.{faultOfStep, stepFaultIn};
+use crate::Verdict;
+use job_sets::SET_WORDS;
+use job_sets::add;
+use job_sets::holds;
+use model::MAX_JOBS;
+use walking::Step;
+use walking::decode_step;
+use walking::step_count;
+
+// Goes through the steps one after another.
+pub(crate) fn check_steps(
+    sets: &[u64; SET_WORDS],
+    cycles: &[u64; MAX_JOBS],
+    count: usize,
+    bounds: usize,
+    plan: &[u8],
+) -> Verdict
+    requires { ⌜ (count ≤ maxJobs) × (bounds ≤ maxBounds) × (length (now plan) ≡ 4 + 6 * stepCount (now plan)) ⌝ }
+    ensures { λ r. ⌜ r ≡ verdictOf (byEntry (stepCount (now (plan .entry))) (stepFaultIn (now (sets .entry)) (now (cycles .entry)) count bounds (now (plan .entry))) passed) ⌝ }
+{
+    let steps = step_count(plan);
+    let mut seen = [0u64; SET_WORDS];
+    let mut s = 0;
+    while s < steps {
+        let step = decode_step(plan, s);
+        let number = step_fault(step, sets, cycles, count, bounds, &seen);
+        if number != 0 {
+            return Verdict::Refused {
+                number,
+                place: s as u32,
+            };
+        }
+        add(&mut seen, step.interval, step.job);
+        s += 1;
+    }
+    Verdict::Passed
+}
+
+// The refusal's number at a step, the lower number first; 0 for none.
+fn step_fault(
+    step: Step,
+    sets: &[u64; SET_WORDS],
+    cycles: &[u64; MAX_JOBS],
+    count: usize,
+    bounds: usize,
+    seen: &[u64; SET_WORDS],
+) -> u32
+    requires { ⌜ (count ≤ maxJobs) × (bounds ≤ maxBounds) × (step .interval < 1024) ⌝ }
+    ensures { λ r. ⌜ r ≡ faultOfStep (now (sets .entry)) (now (cycles .entry)) count bounds (now (seen .entry)) (modelStep step) ⌝ }
+{
+    let interval = step.interval;
+    let job = step.job;
+    if bounds <= interval + 1 {
+        return 17;
+    }
+    if count <= job {
+        return 17;
+    }
+    if !holds(sets, interval, job) {
+        return 17;
+    }
+    if holds(seen, interval, job) {
+        return 17;
+    }
+    if step.cycles < 1 {
+        return 18;
+    }
+    if step.cycles > cycles[job] {
+        return 18;
+    }
+    0
+}

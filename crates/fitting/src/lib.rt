@@ -1,0 +1,14 @@
+// The first half of the check: whether a plan fits the jobs.
+mod cells;
+mod fitting;
+mod opening;
+mod records;
+mod sums;
+
+pub use fitting::fit;
+
+// What a half of the check finds: that nothing is wrong, or the refusal's number and place.
+pub enum Verdict {
+    Passed,
+    Refused { number: u32, place: u32 },
+}
