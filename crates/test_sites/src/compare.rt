@@ -1,19 +1,19 @@
 // Planning and the check against the search.
-use crate::cuts::in_interval;
-use crate::intervals::intervals_of;
-use crate::search::ENERGIES;
-use crate::search::OVERLOADED;
-use crate::search::SCALE;
-use crate::search::energies_of;
-use crate::search::energy_of;
-use crate::search::least_energy;
-use crate::table::JobColumns;
-use crate::table::LevelColumns;
-use crate::table::put_jobs;
-use crate::table::put_levels;
 use audit::CheckAnswer;
 use planning::PlanAnswer;
 use std::num::wrapping_add_u64;
+use test_search::cuts::in_interval;
+use test_search::intervals::intervals_of;
+use test_search::search::ENERGIES;
+use test_search::search::OVERLOADED;
+use test_search::search::SCALE;
+use test_search::search::energies_of;
+use test_search::search::energy_of;
+use test_search::search::least_energy;
+use test_search::table::JobColumns;
+use test_search::table::LevelColumns;
+use test_search::table::put_jobs;
+use test_search::table::put_levels;
 use test_support::encode::ROOM;
 use walking::StepAnswer;
 

@@ -1,10 +1,10 @@
 // Groups of small sites with a fixed seed, each compared with the search.
 ghost use Prim.Native.Nat.{_≤_};
 use crate::compare::compare;
-use crate::forms::Form;
-use crate::forms::jobs_of;
-use crate::forms::levels_of;
 use std::num::wrapping_add_u64;
+use test_forms::forms::Form;
+use test_forms::forms::jobs_of;
+use test_forms::forms::levels_of;
 use test_support::show;
 
 // How many sites a group has.

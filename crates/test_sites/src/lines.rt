@@ -1,14 +1,14 @@
 // Sites whose answers document 01 gives.
-use crate::mixes::Fraction;
-use crate::mixes::least_mix;
-use crate::table::COLUMN;
-use crate::table::JobColumns;
-use crate::table::LevelColumns;
-use crate::table::put_jobs;
-use crate::table::put_levels;
 use libc::STDOUT_FILENO;
 use model::Level;
 use planning::PlanAnswer;
+use test_search::mixes::Fraction;
+use test_search::mixes::least_mix;
+use test_search::table::COLUMN;
+use test_search::table::JobColumns;
+use test_search::table::LevelColumns;
+use test_search::table::put_jobs;
+use test_search::table::put_levels;
 use test_support::encode::ROOM;
 use test_support::show;
 

@@ -5,15 +5,8 @@
 // exactly if some cut of the jobs' cycles overloads no interval, the plan's exact energy is the least of all cuts, and the
 // check accepts the plan with the figure that planning answered.
 mod compare;
-mod cuts;
-mod forms;
 mod groups;
-mod intervals;
 mod lines;
-mod mixes;
-mod random;
-mod search;
-mod table;
 
 fn main() {
     lines::built_in();
