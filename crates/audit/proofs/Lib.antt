@@ -1,3 +1,2 @@
 -- Laws of the definitions, for the proofs of the functions.
 pub mod BothHalves
-pub mod CheckedLevels

@@ -1,29 +1,27 @@
 -- From the case of an answer to the struct for C, and that a setting's gap fits its field.
 -- Assumes nothing.
 use mathlib.Core.Path.{_≡_, refl, ap}
-use mathlib.Core.Bool.{Bool, not, _&&_}
+use mathlib.Core.Bool.{not, _&&_}
 use mathlib.Core.Logic.{_⊎_, inl, inr}
 use mathlib.Core.List.{List}
-use Prim.Native.Nat.{ℕ, zero, suc, _*_, _-_, _<_, _≤_}
+use Prim.Native.Nat.{ℕ, zero, suc, _*_, _<_, _≤_}
 use native.Mathlib.Omega.{arith}
 use lib.Dec.{ltb, leb}
-use lib.ListN.{length, getD, List·getD-eq-default}
+use lib.ListN.{length, List·getD-eq-default}
 use lib.IntN.{ℤ, pos}
-use Rattle.model.specs.declared.Level.{Level}
 use Rattle.model.specs.Limits.{maxFrequency, maxDeadline}
-use Rattle.model.specs.Outcome.{Outcome, refused, answer, refuseWhen, andThen}
-use Rattle.model.specs.Levels.{readLevels, ValidLevels}
-use Rattle.model.specs.Points.{Point, pointAt, idlingPoint, topFrequency}
+use Rattle.model.specs.Outcome.{Outcome, refused, answer}
+use Rattle.model.specs.Points.{Point, idlingPoint}
 use Rattle.model.specs.Bands.{frequencyOf, gap}
-use Rattle.model.specs.Setting.{Setting, bandOf, settingOf, setting, workingOf}
+use Rattle.model.specs.Processors.{Processor, workingOf, topOf, readProcessor, ValidProcessor}
+use Rattle.model.specs.Setting.{Setting, bandOf, settingOf, setting}
 use Rattle.model.specs.Windows.{spare}
 use Rattle.model.specs.Checking.{check}
 use Rattle.model.proofs.Numbers.{lt-or-le}
 use Rattle.model.proofs.Outcome.{answered-past, answer-injective, andThen-answered}
-use Rattle.model.proofs.Levels.{levels-valid}
+use Rattle.model.proofs.Sites.{processors-are-valid}
 use Rattle.levels.specs.declared.interval.SettingAnswer.the-variants.{Set, Refused}
 use Rattle.levels.specs.Settings.{settingAnswer}
-use Rattle.levels.specs.PointTables.{pointsOf, pointTable}
 use Rattle.levels.proofs.SmallPoints.{working-small, working-held}
 use Rattle.windows.specs.declared.window.SpareAnswer.the-variants.{Spare, Refused as SpareRefused}
 use Rattle.windows.specs.Answers.{spareAnswer}
@@ -103,28 +101,28 @@ module _ (levelBytes jobBytes : List ℕ) (start end : ℕ) where
   spare-refused = no-spare-result (spare levelBytes jobBytes start end)
 
 -- no working level is above the highest frequency
-frequency-high : (levels : List Level) → ValidLevels levels → (k : ℕ) → frequencyOf (workingOf levels) k ≤ maxFrequency
-frequency-high levels valid k = go (lt-or-le k (length (workingOf levels)))
-  where
-    go : (k < length (workingOf levels)) ⊎ (length (workingOf levels) ≤ k) → frequencyOf (workingOf levels) k ≤ maxFrequency
-    go (inl inside) = rw (working-held levels valid) at (working-small levels valid .frequency-high k inside)
-    go (inr past) =
-        let past-all = ap (λ (p : Point). p .frequency) (List·getD-eq-default (workingOf levels) (idlingPoint 0) past) in
-        omega arith
+module _ (processor : Processor) (valid : ValidProcessor processor) where
+  frequency-high : (k : ℕ) → frequencyOf (workingOf processor) k ≤ maxFrequency
+  frequency-high k = go (lt-or-le k (length (workingOf processor)))
+    where
+      go : (k < length (workingOf processor)) ⊎ (length (workingOf processor) ≤ k) → frequencyOf (workingOf processor) k ≤ maxFrequency
+      go (inl inside) = rw (working-held processor valid) at (working-small processor valid .frequency-high k inside)
+      go (inr past) =
+          let past-all = ap (λ (p : Point). p .frequency) (List·getD-eq-default (workingOf processor) (idlingPoint 0) past) in
+          omega arith
 
-settingOf-gap : (levels : List Level) → ValidLevels levels → (length load : ℕ) → settingOf (workingOf levels) length load .gap ≤ maxFrequency
-unfolding settingOf gap
-settingOf-gap levels valid length zero = omega arith
-settingOf-gap levels valid length (suc cycles) =
-    omega (arith, frequency-high levels valid (suc (bandOf (workingOf levels) length (suc cycles))))
+  settingOf-gap : (length load : ℕ) → settingOf (workingOf processor) length load .gap ≤ maxFrequency
+  unfolding settingOf gap
+  settingOf-gap length zero = omega arith
+  settingOf-gap length (suc cycles) = omega (arith, frequency-high (suc (bandOf (workingOf processor) length (suc cycles))))
 
 answered-gap : (bytes : List ℕ) (length load : ℕ) (s : Setting) → setting bytes length load ≡ answer s → s .gap ≤ maxFrequency
 unfolding setting
 answered-gap bytes length load s answered =
-    let read = andThen-answered (readLevels bytes) _ answered in
-    let long = answered-past (not (leb 1 length && leb length maxDeadline)) 25 _ (read .2) in
-    let fits = answered-past (ltb (length * topFrequency (read .0)) load) 26 _ (long .1) in
-    rw (answer-injective (fits .1)) at (settingOf-gap (read .0) (levels-valid bytes (read .0) (read .1)) length load)
+    let (processor, read, e) = andThen-answered (readProcessor bytes) _ answered in
+    let (long, e) = answered-past (not (leb 1 length && leb length maxDeadline)) 25 _ e in
+    let (fits, e) = answered-past (ltb (length * topOf processor) load) 26 _ e in
+    rw (answer-injective e) at (settingOf-gap processor (processors-are-valid bytes processor read) length load)
 
 -- the gap that a setting answers
 pub gap-small : (bytes : List ℕ) (length load band extra gap : ℕ) → Set band extra gap ≡ settingAnswer (setting bytes length load) → gap ≤ maxFrequency

@@ -1,9 +1,9 @@
 // The kernel's interface, for C: byte slices are a pointer and a length, answers are structs by value. No function
 // requires anything of its caller. The header is include/ramyearly.h.
 ghost use mathlib.Core.Path.{_≡_};
-ghost use Rattle.model.specs.Checking.{check as checkOf};
-ghost use Rattle.model.specs.Setting.{setting as settingFor};
-ghost use Rattle.model.specs.Windows.{spare as spareFor};
+ghost use Rattle.model.specs.Checking.{check};
+ghost use Rattle.model.specs.Setting.{setting};
+ghost use Rattle.model.specs.Windows.{spare};
 ghost use Rattle.capi.specs.Results.{checkResult, settingResult, spareResult, PlanCall};
 use audit::CheckAnswer;
 use levels::SettingAnswer;
@@ -57,7 +57,7 @@ pub extern "C" fn ramyearly_check(
     plan: &[u8],
     prices: &[u8],
 ) -> CheckResult
-    ensures { λ r. ⌜ r ≡ checkResult (checkOf (now (levels .entry)) (now (jobs .entry)) (now (plan .entry)) (now (prices .entry))) ⌝ }
+    ensures { λ r. ⌜ r ≡ checkResult (check (now (levels .entry)) (now (jobs .entry)) (now (plan .entry)) (now (prices .entry))) ⌝ }
 {
     let answer = audit::check(levels, jobs, plan, prices);
     match answer {
@@ -76,7 +76,7 @@ pub extern "C" fn ramyearly_check(
 
 #[no_mangle]
 pub extern "C" fn ramyearly_setting(levels: &[u8], length: u32, load: u64) -> SettingResult
-    ensures { λ r. ⌜ r ≡ settingResult (settingFor (now (levels .entry)) length load) ⌝ }
+    ensures { λ r. ⌜ r ≡ settingResult (setting (now (levels .entry)) length load) ⌝ }
 {
     let answer = levels::setting(levels, length, load);
     match answer {
@@ -99,7 +99,7 @@ pub extern "C" fn ramyearly_setting(levels: &[u8], length: u32, load: u64) -> Se
 
 #[no_mangle]
 pub extern "C" fn ramyearly_spare(levels: &[u8], jobs: &[u8], start: u32, end: u32) -> SpareResult
-    ensures { λ r. ⌜ r ≡ spareResult (spareFor (now (levels .entry)) (now (jobs .entry)) start end) ⌝ }
+    ensures { λ r. ⌜ r ≡ spareResult (spare (now (levels .entry)) (now (jobs .entry)) start end) ⌝ }
 {
     let answer = windows::spare(levels, jobs, start, end);
     match answer {

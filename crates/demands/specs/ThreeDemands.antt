@@ -24,20 +24,18 @@ use Rattle.model.specs.declared.Job.{Job}
 use Rattle.model.specs.Outcome.{answer, From, RefusesBy}
 use Rattle.model.specs.Levels.{readLevels}
 use Rattle.model.specs.Jobs.{readJobs}
-use Rattle.model.specs.Points.{topFrequency}
-use Rattle.model.specs.Bands.{scale}
-use Rattle.model.specs.Setting.{workingOf, setting}
-use Rattle.model.specs.Intervals.{boundsOf}
+use Rattle.model.specs.Processors.{workingOf, topOf}
+use Rattle.model.specs.Setting.{setting}
+use Rattle.model.specs.Sites.{Site}
 use Rattle.model.specs.Windows.{spare}
 use Rattle.model.specs.Plans.{Gives}
-use Rattle.model.specs.Energy.{exactEnergy}
 use Rattle.model.specs.Prices.{FittingPrices}
-use Rattle.model.specs.Schedules.{Schedule, Serves, slotPowers}
+use Rattle.model.specs.Schedules.{Serves}
 use Rattle.model.specs.LeastEnergy.{CarriedOut}
 use Rattle.model.specs.Steps.{walk, sharesOf}
 use Rattle.model.specs.PriceBytes.{pricesOf}
 use Rattle.model.specs.Checking.{check, figureOf}
-use Rattle.model.specs.Accepted.{IsPlan, IsPriceList}
+use Rattle.model.specs.Accepted.{IsPlan, IsPriceList, ScheduleFor, powersFor, exactFor, gapsOf}
 use Rattle.model.specs.Planning.{comesOut, refusal}
 use Rattle.model.specs.Demands.{ValidTables, LongEnough, CanBeServed, NeedsMore, EarliestWindow, SmallestPrices}
 use Rattle.planning.specs.declared.operation.PlanAnswer.{PlanAnswer}
@@ -81,70 +79,80 @@ pub record DemandOne : Type 0 where
 
 -- Demand 2. "A plan gives each job exactly its cycles between release and deadline, one job at a time, by the workload and
 -- processor model of George's 2005 thesis, with the energy figure that document 01 defines."
-pub record SuchAPlan (levels : List Level) (jobs : List Job) (plan : List ℕ) (figure : ℕ) : Type 0 where
-  pub is-plan : IsPlan jobs (boundsOf jobs) plan
+pub record SuchAPlan (site : Site) (plan : List ℕ) (figure : ℕ) : Type 0 where
+  pub is-plan : IsPlan (site .jobs) (site .bounds) plan
   -- each job has exactly its cycles, in intervals between its release and its deadline, and no interval is overloaded
-  pub gives : Gives (topFrequency levels) jobs (boundsOf jobs) (sharesOf plan)
+  pub gives : Gives (topOf (site .processor)) (site .jobs) (site .bounds) (sharesOf plan)
   -- carried out it is a schedule over the levels: a slot has one level and one job, and every deadline is met
-  pub carried-out : CarriedOut 0 levels jobs (boundsOf jobs) (sharesOf plan)
-  pub energy-figure : figure ≡ figureOf levels jobs plan
+  pub carried-out : CarriedOut (site .processor .idlePower) (site .processor .levels) (site .jobs) (site .bounds) (sharesOf plan)
+  pub energy-figure : figure ≡ figureOf site plan
 
 -- "the prices fit document 01's rules"
-pub record PricesFit (levels : List Level) (jobs : List Job) (plan prices : List ℕ) : Type 0 where
-  pub is-price-list : IsPriceList (boundsOf jobs) prices
-  pub fitting : FittingPrices (workingOf levels) jobs (boundsOf jobs) (sharesOf plan) (pricesOf prices)
+pub record PricesFit (site : Site) (plan prices : List ℕ) : Type 0 where
+  pub is-price-list : IsPriceList (site .bounds) prices
+  pub fitting : FittingPrices (workingOf (site .processor)) (site .jobs) (site .bounds) (sharesOf plan) (pricesOf prices)
 
--- What the check is to accept: tables that are read, such a plan, and prices that fit.
+-- What the check is to accept: tables that are read as a site, such a plan, and prices that fit.
 pub record Acceptable (levelBytes jobBytes plan prices : List ℕ) (figure : ℕ) : Type 0 where
-  pub levels : List Level
-  pub jobs : List Job
-  pub tables : ValidTables levelBytes jobBytes levels jobs
-  pub such-a-plan : SuchAPlan levels jobs plan figure
-  pub prices-fit : PricesFit levels jobs plan prices
+  pub site : Site
+  pub tables : ValidTables levelBytes jobBytes site
+  pub such-a-plan : SuchAPlan site plan figure
+  pub prices-fit : PricesFit site plan prices
 
 pub record DemandTwo : Type 0 where
   -- "The planner writes only such plans."
-  pub planner : (call : Call) (levels : List Level) (jobs : List Job) → ValidTables (call .levelBytes) (call .jobBytes) levels jobs
-      → (intervals steps energy : ℕ) → call .answered ≡ Plan intervals steps energy → SuchAPlan levels jobs (planWritten call steps) energy
+  pub planner : (call : Call) (site : Site) → ValidTables (call .levelBytes) (call .jobBytes) site
+      → (intervals steps energy : ℕ) → call .answered ≡ Plan intervals steps energy → SuchAPlan site (planWritten call steps) energy
   -- "The check accepts a plan and its price list exactly when the plan is such a plan and the prices fit document 01's rules."
   pub accepts : (levelBytes jobBytes plan prices : List ℕ) (figure : ℕ)
       → (check levelBytes jobBytes plan prices ≡ answer figure) ↔ Acceptable levelBytes jobBytes plan prices figure
 
 -- Demand 3, where a plan was written. All energies are multiplied out by all gaps, and by q where a schedule is one side.
-pub record WrittenPlan (call : Call) (levels : List Level) (jobs : List Job) (intervals steps energy : ℕ) : Type 0 where
+pub record PlanComesWith (call : Call) (site : Site) (intervals steps energy : ℕ) : Type 0 where
   -- "Every schedule over those levels that meets all deadlines, whatever whole number of slots it cuts a tick into, has at
   -- least the exact energy of the plan written."
-  pub least : (schedule : Schedule levels jobs) → Serves schedule
-      → schedule .q * exactEnergy (workingOf levels) jobs (boundsOf jobs) (sharesOf (planWritten call steps))
-      ≤ scale (workingOf levels) * slotPowers 0 schedule
+  pub least : (schedule : ScheduleFor site) → Serves schedule
+      → schedule .q * exactFor site (planWritten call steps) ≤ gapsOf site * powersFor site schedule
   -- "all cycles are placed and each interval is priced, by 2 and by planning in document 01"
-  pub placed : SuchAPlan levels jobs (planWritten call steps) energy
-  pub priced : PricesFit levels jobs (planWritten call steps) (pricesWritten call intervals)
-  pub smallest : SmallestPrices (call .levelBytes) (call .jobBytes) jobs (planWritten call steps) (pricesWritten call intervals)
+  pub placed : SuchAPlan site (planWritten call steps) energy
+  pub priced : PricesFit site (planWritten call steps) (pricesWritten call intervals)
+  pub smallest : SmallestPrices site (planWritten call steps) (pricesWritten call intervals)
   -- "and the check, lent the same tables and exactly the bytes written, accepts them and answers the same energy figure"
   pub checked : check (call .levelBytes) (call .jobBytes) (planWritten call steps) (pricesWritten call intervals) ≡ answer energy
 
 -- "Where no plan comes out, a window does, whose own jobs need more cycles than the top frequency gives there, and then no
 -- schedule meets all deadlines."
-pub record NoPlan (call : Call) (levels : List Level) (jobs : List Job) : Type 0 where
+pub record NoPlan (call : Call) (site : Site) : Type 0 where
   pub start : ℕ
   pub end : ℕ
   pub spare : ℤ
   pub window : call .answered ≡ Overfull start end spare
-  pub needs-more : NeedsMore (topFrequency levels) jobs start end
-  pub earliest : EarliestWindow (topFrequency levels) jobs start end spare
-  pub no-schedule : CanBeServed levels jobs → ⊥
+  pub needs-more : NeedsMore site start end
+  pub earliest : EarliestWindow site start end spare
+  pub no-schedule : CanBeServed site → ⊥
 
 -- Demand 3. "Whatever valid tables are planned, with long enough buffers, a plan comes out exactly when some schedule over
 -- the same levels meets all deadlines."
 pub record DemandThree : Type 0 where
-  pub exactly-when : (call : Call) (levels : List Level) (jobs : List Job) → ValidTables (call .levelBytes) (call .jobBytes) levels jobs
-      → LongEnough jobs (length (call .before .plan)) (length (call .before .prices)) (length (call .before .shares))
-      → PlanComesOut call ↔ CanBeServed levels jobs
+  pub exactly-when : (call : Call) (site : Site) → ValidTables (call .levelBytes) (call .jobBytes) site
+      → LongEnough site (length (call .before .plan)) (length (call .before .prices)) (length (call .before .shares))
+      → PlanComesOut call ↔ CanBeServed site
   -- with every plan that comes out
-  pub written : (call : Call) (levels : List Level) (jobs : List Job) → ValidTables (call .levelBytes) (call .jobBytes) levels jobs
-      → (intervals steps energy : ℕ) → call .answered ≡ Plan intervals steps energy → WrittenPlan call levels jobs intervals steps energy
+  pub written : (call : Call) (site : Site) → ValidTables (call .levelBytes) (call .jobBytes) site
+      → (intervals steps energy : ℕ) → call .answered ≡ Plan intervals steps energy → PlanComesWith call site intervals steps energy
   -- where none comes out
-  pub window-instead : (call : Call) (levels : List Level) (jobs : List Job) → ValidTables (call .levelBytes) (call .jobBytes) levels jobs
-      → LongEnough jobs (length (call .before .plan)) (length (call .before .prices)) (length (call .before .shares))
-      → (PlanComesOut call → ⊥) → NoPlan call levels jobs
+  pub window-instead : (call : Call) (site : Site) → ValidTables (call .levelBytes) (call .jobBytes) site
+      → LongEnough site (length (call .before .plan)) (length (call .before .prices)) (length (call .before .shares))
+      → (PlanComesOut call → ⊥) → NoPlan call site
+
+-- The demands' hypotheses shut nothing out. Every call is a `Call`, whatever bytes, buffers and answer planning's contract
+-- holds of; and tables are valid where both are read. What the theory asks of sites, bounds, schedules and buffers is built in
+-- Hypotheses of the crate model.
+pub record NothingShutOut : Type 0 where
+  pub every-call : (levelBytes jobBytes : List ℕ) (before after : Buffers) (answered : PlanAnswer)
+      → PlanContract levelBytes jobBytes before after answered
+      → (call : Call) × (call .levelBytes ≡ levelBytes) × (call .jobBytes ≡ jobBytes) × (call .before ≡ before) × (call .after ≡ after)
+      × (call .answered ≡ answered)
+  pub every-table : (levelBytes jobBytes : List ℕ) (levels : List Level) (jobs : List Job)
+      → readLevels levelBytes ≡ answer levels → readJobs jobBytes ≡ answer jobs
+      → (site : Site) × ValidTables levelBytes jobBytes site × (site .processor .levels ≡ levels) × (site .jobs ≡ jobs)

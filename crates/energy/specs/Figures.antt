@@ -1,18 +1,11 @@
 -- The energy figure over loads that stand in an array. With the loads of a plan it is the plan's figure.
-use Prim.Native.Nat.{ℕ, suc, _+_, _-_, _*_, _/_, _≤_, _<_, min}
+use Prim.Native.Nat.{ℕ, _+_, _-_, _*_, _/_, min}
 use mathlib.Core.List.{List}
 use lib.ListN.{getD}
-use Rattle.model.specs.Limits.{maxDeadline, maxBounds}
 use Rattle.model.specs.Sum.{sum}
 use Rattle.model.specs.Points.{Point}
 use Rattle.model.specs.Bands.{bandCount, frequencyOf, powerAt, gap, rise}
 use Rattle.model.specs.Intervals.{intervalCount, lengthOf}
-
--- Bounds in an array: at most 128 of them, rising, none above the latest deadline allowed.
-pub record SmallBounds (bounds : ℕ) (times : List ℕ) : Type 0 where
-  pub few : bounds ≤ maxBounds
-  pub rises : (i : ℕ) → suc i < bounds → getD times i 0 < getD times (suc i) 0
-  pub last : (i : ℕ) → i < bounds → getD times i 0 ≤ maxDeadline
 
 -- The cycles that a band takes in an interval, by its lower frequency and its gap.
 abbrev pub cyclesIn : (bounds loads : List ℕ) → (lower gap : ℕ) → (interval : ℕ) → ℕ

@@ -11,9 +11,11 @@ use borrow.Author.Tests.{eq-eqb, ne-eqb, not-true, not-false}
 use Rattle.model.specs.declared.Job.{Job}
 use Rattle.model.specs.Limits.{maxIntervals, maxJobs, maxBounds}
 use Rattle.model.specs.Outcome.{Outcome, byEntry}
+use Rattle.model.specs.Processors.{Processor, topOf}
+use Rattle.model.specs.Sites.{Site}
 use Rattle.model.specs.Plans.{load}
-use Rattle.model.specs.Steps.{planIntervals, stepCount, stepAt, wrongPlanLength, sharesOf}
-use Rattle.model.specs.Checking.{stepFault, jobSum, jobSumFault, loadFault, fitting}
+use Rattle.model.specs.Steps.{planIntervals, stepCount, stepAt, wrongPlanLength, jobSum, sharesOf}
+use Rattle.model.specs.Checking.{stepFault, jobSumFault, loadFault, fitting}
 use Rattle.model.proofs.Search.{FirstBelow, firstBelow-law}
 use Rattle.model.proofs.Outcome.{byEntry-answered, byEntry-passes, byEntry-stops}
 use Rattle.model.proofs.Steps.{load-of-steps}
@@ -23,7 +25,7 @@ use Rattle.fitting.specs.declared.Verdict.the-variants.{Passed, Refused}
 use Rattle.fitting.specs.Verdicts.{verdictOf, passed}
 use Rattle.fitting.specs.TestedJobs.{addsUp, TestedBelow, HoldsCycles}
 use Rattle.fitting.specs.Sums.{jobSums, planSums, intervalLoads, planLoads}
-use Rattle.fitting.specs.FirstHalf.{boundsIn, stepFaultIn, loadFaultIn}
+use Rattle.fitting.specs.FirstHalf.{boundsIn, siteIn, stepFaultIn, loadFaultIn}
 use Rattle.fitting.proofs.Verdicts.{byEntry-cong, entries-refused, entries-passed}
 use Rattle.fitting.proofs.Tallies.{tally-at}
 use Rattle.fitting.proofs.BoundsIn.{intervals-in}
@@ -47,21 +49,24 @@ module _ (plan : List ℕ) (right : wrongPlanLength plan ≡ false) where
       ∙ sym (load-of-steps plan jobs job i))
 
 module _
-    (top : ℕ) (sets cycles : List ℕ) (summed count bounds : ℕ) (times plan : List ℕ) (few : count ≤ maxJobs) (few-bounds : bounds ≤ maxBounds)
+    (top : ℕ) (processor : Processor) (is-top : topOf processor ≡ top) (sets cycles : List ℕ) (summed count bounds : ℕ) (times plan : List ℕ) (few : count ≤ maxJobs) (few-bounds : bounds ≤ maxBounds)
     (jobs : List Job) (counted : length jobs ≡ count) (tested : TestedBelow jobs count times bounds (planSums plan) sets summed)
     (held : HoldsCycles jobs cycles) where
   abbrev bs : List ℕ
   bs = boundsIn bounds times
 
+  abbrev site : Site
+  site = siteIn processor jobs times bounds
+
   abbrev outcome : Outcome (Unit {0})
-  outcome = fitting top jobs bs plan passed
+  outcome = fitting site plan passed
 
   -- what is left to go through after the steps, and after the jobs
   abbrev afterSums : Outcome (Unit {0})
-  afterSums = byEntry (bounds - 1) (loadFault top jobs bs plan) passed
+  afterSums = byEntry (bounds - 1) (loadFault site plan) passed
 
   abbrev afterSteps : Outcome (Unit {0})
-  afterSteps = byEntry (length jobs) (jobSumFault top jobs bs plan) afterSums
+  afterSteps = byEntry (length jobs) (jobSumFault site plan) afterSums
 
   pub wrong-length-refused : wrongPlanLength plan ≡ true → Refused 15 0 ≡ verdictOf outcome
   unfolding fitting
@@ -77,10 +82,10 @@ module _
       abbrev faultIn : ℕ → ℕ
       faultIn = stepFaultIn sets cycles count bounds plan
 
-      same-step : (s : ℕ) → stepFault top jobs bs plan s ≡ faultIn s
+      same-step : (s : ℕ) → stepFault site plan s ≡ faultIn s
       same-step s =
           rw (← counted)
-          (same-fault jobs times bounds sets cycles (rw (← counted) at (tested .opened)) held few-bounds (omega arith) top plan s)
+          (same-fault jobs times bounds sets cycles (rw (← counted) at (tested .opened)) held few-bounds (omega arith) processor plan s)
 
       past-lengths : outcome ≡ byEntry (stepCount plan) faultIn afterSteps
       unfolding fitting
@@ -98,14 +103,14 @@ module _
 
           cell-sound : (s : ℕ) → s < stepCount plan → SoundCell jobs bs plan s
           cell-sound s below =
-              step-sound top jobs bs plan s .0
+              step-sound site plan s .0
               (same-step s ∙ byEntry-answered _ passed (stepCount plan) (entries-passed passed (stepCount plan) _ steps went sound) .0 s below) .0
 
           -- the jobs before the first whose steps do not add to its cycles
           first : FirstBelow (length jobs) (λ j. not (addsUp jobs (planSums plan) j)) summed
           first = rw (counted, tested .added) (firstBelow-law count _)
 
-          fault : (j : ℕ) → j < length jobs → jobSumFault top jobs bs plan j ≡ cond (addsUp jobs (planSums plan) j) 0 19
+          fault : (j : ℕ) → j < length jobs → jobSumFault site plan j ≡ cond (addsUp jobs (planSums plan) j) 0 19
           unfolding jobSumFault jobSum
           fault j below =
               rw (
@@ -113,26 +118,26 @@ module _
                 tally-at maxJobs (λ s. stepAt plan s .job) (λ s. stepAt plan s .cycles) (stepCount plan) j (omega arith),
               )
 
-          adds : (j : ℕ) → j < length jobs → j < summed → jobSumFault top jobs bs plan j ≡ 0
+          adds : (j : ℕ) → j < length jobs → j < summed → jobSumFault site plan j ≡ 0
           adds j below earlier = fault j below ∙ rw (not-false (addsUp jobs (planSums plan) j) (first .before j earlier))
 
           pub sums-refused : summed < count → Refused 19 summed ≡ verdictOf outcome
           sums-refused short =
               let below : summed < length jobs = omega arith in
-              let bad : jobSumFault top jobs bs plan summed ≡ 19 = fault summed below ∙ rw (not-true (addsUp jobs (planSums plan) summed) (first .here below)) in
+              let bad : jobSumFault site plan summed ≡ 19 = fault summed below ∙ rw (not-true (addsUp jobs (planSums plan) summed) (first .here below)) in
               rw (
                 past-steps,
-                byEntry-stops (jobSumFault top jobs bs plan) afterSums (length jobs) summed (λ j earlier. adds j (omega arith) earlier) below (omega arith),
+                byEntry-stops (jobSumFault site plan) afterSums (length jobs) summed (λ j earlier. adds j (omega arith) earlier) below (omega arith),
                 bad,
               )
 
           module _ (whole : count ≤ summed) where
             past-sums : outcome ≡ afterSums
-            past-sums = past-steps ∙ byEntry-passes (jobSumFault top jobs bs plan) afterSums (length jobs) (λ j below. adds j below (omega arith))
+            past-sums = past-steps ∙ byEntry-passes (jobSumFault site plan) afterSums (length jobs) (λ j below. adds j below (omega arith))
 
-            same-load : (i : ℕ) → i < bounds - 1 → loadFault top jobs bs plan i ≡ loadFaultIn top bs (planLoads plan) i
+            same-load : (i : ℕ) → i < bounds - 1 → loadFault site plan i ≡ loadFaultIn top bs (planLoads plan) i
             unfolding loadFault
-            same-load i below = rw (load-at plan right jobs (λ s inside. cell-sound s inside .job) i (omega arith))
+            same-load i below = rw (is-top, load-at plan right jobs (λ s inside. cell-sound s inside .job) i (omega arith))
 
             pub loads-decide : (loads : List ℕ) → loads ≡ planLoads plan → (last : Verdict) → last ≡ verdictOf (byEntry (bounds - 1) (loadFaultIn top bs loads) passed)
                 → last ≡ verdictOf outcome

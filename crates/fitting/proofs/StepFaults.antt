@@ -13,6 +13,7 @@ use lib.Dec.{ltb, leb}
 use borrow.Author.Tests.{lt-ltb, le-ltb, lt-leb, le-leb, ltb-true, not-false}
 use Rattle.model.specs.declared.Job.{Job}
 use Rattle.model.specs.Limits.{maxIntervals, maxJobs, maxBounds}
+use Rattle.model.specs.Processors.{Processor}
 use Rattle.model.specs.Steps.{Step, stepAt}
 use Rattle.model.specs.Checking.{isOpenPair, stepFault}
 use Rattle.model.proofs.Numbers.{lt-or-le, true-or-false, both-true}
@@ -24,7 +25,7 @@ use Rattle.job_sets.specs.JobSets.{isMember}
 use Rattle.job_sets.specs.IntervalSets.{setWords, setIn, Added}
 use Rattle.fitting.specs.SetsHave.{SetsHave}
 use Rattle.fitting.specs.TestedJobs.{openBelow, HoldsCycles}
-use Rattle.fitting.specs.FirstHalf.{boundsIn, openPairIn, faultWhere, faultOfStep, stepFaultIn}
+use Rattle.fitting.specs.FirstHalf.{siteIn, openPairIn, faultWhere, faultOfStep, stepFaultIn}
 use Rattle.fitting.proofs.BoundsIn.{intervals-in, open-in}
 use Rattle.fitting.proofs.TestedJobs.{open-has}
 use Rattle.fitting.proofs.SeenSets.{isSeen, seen-more}
@@ -93,10 +94,6 @@ module _ (sets cycles : List ℕ) (count bounds : ℕ) where
       let numbers = pair-numbers step (not-false pair (cell .0)) in
       (numbers .0, numbers .1, cell .1)
 
-  pub sound-interval : (plan : List ℕ) (s : ℕ) → stepFaultIn sets cycles count bounds plan s ≡ 0 → stepAt plan s .interval < bounds - 1
-  unfolding stepFaultIn
-  sound-interval plan s none = sound-pair _ (stepAt plan s) none .0
-
   -- where the pairs of the steps before s are marked, the faults of step s are those of the plan's cells
   marked-fault : (plan : List ℕ) (s : ℕ) (seen : List ℕ) → SetsHave seen (isSeen plan s) → bounds ≤ maxBounds → count ≤ maxJobs
       → faultOfStep sets cycles count bounds seen (stepAt plan s) ≡ stepFaultIn sets cycles count bounds plan s
@@ -135,14 +132,11 @@ module _
 -- Over the open sets and the cycles of the jobs the faults are the definition's.
 module _ (jobs : List Job) (times : List ℕ) (bounds : ℕ) (sets cycles : List ℕ) (opened : SetsHave sets (openBelow jobs (length jobs) times bounds))
     (held : HoldsCycles jobs cycles) (few-bounds : bounds ≤ maxBounds) (few-jobs : length jobs ≤ maxJobs) where
-  abbrev bs : List ℕ
-  bs = boundsIn bounds times
-
-  same-pair : (step : Step) → isOpenPair 0 jobs bs times step ≡ openPairIn sets (length jobs) bounds step
-  same-pair step = go (lt-or-le (step .interval) (bounds - 1)) (lt-or-le (step .job) (length jobs))
+  same-pair : (processor : Processor) (step : Step) → isOpenPair (siteIn processor jobs times bounds) step ≡ openPairIn sets (length jobs) bounds step
+  same-pair processor step = go (lt-or-le (step .interval) (bounds - 1)) (lt-or-le (step .job) (length jobs))
     where
       go : (step .interval < bounds - 1) ⊎ (bounds - 1 ≤ step .interval) → (step .job < length jobs) ⊎ (length jobs ≤ step .job)
-          → isOpenPair 0 jobs bs times step ≡ openPairIn sets (length jobs) bounds step
+          → isOpenPair (siteIn processor jobs times bounds) step ≡ openPairIn sets (length jobs) bounds step
       go (inr outside) either = rw (intervals-in bounds times, le-ltb (step .interval) (bounds - 1) outside)
       go (inl interval) (inr outside) =
           rw (intervals-in bounds times, lt-ltb (step .interval) (bounds - 1) interval, le-ltb (step .job) (length jobs) outside)
@@ -155,11 +149,11 @@ module _ (jobs : List Job) (times : List ℕ) (bounds : ℕ) (sets cycles : List
           )
           (open-in bounds times _ (step .interval) (omega arith))
 
-  pub same-fault : (top : ℕ) (plan : List ℕ) (s : ℕ) → stepFault top jobs bs plan s ≡ stepFaultIn sets cycles (length jobs) bounds plan s
+  pub same-fault : (processor : Processor) (plan : List ℕ) (s : ℕ) → stepFault (siteIn processor jobs times bounds) plan s ≡ stepFaultIn sets cycles (length jobs) bounds plan s
   unfolding stepFault stepFaultIn
-  same-fault top plan s = go (true-or-false (openPairIn sets (length jobs) bounds (stepAt plan s)))
+  same-fault processor plan s = go (true-or-false (openPairIn sets (length jobs) bounds (stepAt plan s)))
     where
       go : (openPairIn sets (length jobs) bounds (stepAt plan s) ≡ true) ⊎ (openPairIn sets (length jobs) bounds (stepAt plan s) ≡ false)
-          → stepFault top jobs bs plan s ≡ stepFaultIn sets cycles (length jobs) bounds plan s
-      go (inr no-pair) = rw (same-pair (stepAt plan s), no-pair)
-      go (inl pair) = rw (same-pair (stepAt plan s), held .at (stepAt plan s .job) (pair-numbers sets cycles (length jobs) bounds (stepAt plan s) pair .1))
+          → stepFault (siteIn processor jobs times bounds) plan s ≡ stepFaultIn sets cycles (length jobs) bounds plan s
+      go (inr no-pair) = rw (same-pair processor (stepAt plan s), no-pair)
+      go (inl pair) = rw (same-pair processor (stepAt plan s), held .at (stepAt plan s .job) (pair-numbers sets cycles (length jobs) bounds (stepAt plan s) pair .1))

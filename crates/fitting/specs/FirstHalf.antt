@@ -8,7 +8,9 @@ use lib.Dec.{ltb, leb, eqb}
 use Rattle.model.specs.declared.Job.{Job}
 use Rattle.model.specs.Entries.{listOf}
 use Rattle.model.specs.Search.{someBelow}
+use Rattle.model.specs.Processors.{Processor, topOf}
 use Rattle.model.specs.Intervals.{lengthOf}
+use Rattle.model.specs.Sites.{Site}
 use Rattle.model.specs.Steps.{Step, cellAt, stepAt}
 use Rattle.model.specs.Checking.{fitting}
 use Rattle.fitting.specs.declared.Verdict.{Verdict}
@@ -22,6 +24,10 @@ use Rattle.fitting.specs.Sums.{planLoads}
 -- The bounds that stand in an array, the first `count` of them.
 unfoldable pub boundsIn : (count : ℕ) → (times : List ℕ) → List ℕ
 boundsIn count times = listOf count (λ i. getD times i 0)
+
+-- The site of a processor and jobs whose bounds stand in an array.
+abbrev pub siteIn : Processor → List Job → (times : List ℕ) → (bounds : ℕ) → Site
+siteIn processor jobs times bounds = record { processor = processor; jobs = jobs; bounds = boundsIn bounds times }
 
 -- The pair of a step exists and is open, over the open sets of the intervals.
 abbrev pub openPairIn : (sets : List ℕ) → (count bounds : ℕ) → Step → Bool
@@ -50,6 +56,6 @@ loadFaultIn top bounds loads i = cond (leb (getD loads i 0) (lengthOf bounds i *
 
 -- What the first half answers of jobs and a plan, and what it fills: the open sets of the intervals and their loads.
 pub record Fitted (top : ℕ) (jobs : List Job) (times : List ℕ) (bounds : ℕ) (plan : List ℕ) (verdict : Verdict) (sets loads : List ℕ) : Type 0 where
-  pub judged : verdict ≡ verdictOf (fitting top jobs (boundsIn bounds times) plan passed)
+  pub judged : (processor : Processor) → topOf processor ≡ top → verdict ≡ verdictOf (fitting (siteIn processor jobs times bounds) plan passed)
   pub opened : SetsHave sets (openBelow jobs (length jobs) times bounds)
   pub added : loads ≡ planLoads plan

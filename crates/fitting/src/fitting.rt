@@ -6,34 +6,35 @@ ghost use lib.ListN.{length, replicate};
 ghost use Rattle.model.specs.declared.Job.{Job};
 ghost use Rattle.model.specs.Limits.{maxFrequency, maxJobs, maxIntervals};
 ghost use Rattle.model.specs.Outcome.{byEntry};
+ghost use Rattle.model.specs.Processors.{Processor, topOf};
 ghost use Rattle.model.specs.Checking.{fitting};
 ghost use Rattle.tables.specs.Tables.{jobsIn};
-ghost use Rattle.energy.specs.Figures.{SmallBounds};
+ghost use Rattle.intervals.specs.Times.{SmallBounds};
 ghost use Rattle.fitting.specs.Verdicts.{verdictOf, passed};
 ghost use Rattle.fitting.specs.SetsHave.{NoJobs};
 ghost use Rattle.fitting.specs.TestedJobs.{TestedBelow, HoldsCycles};
 ghost use Rattle.fitting.specs.Sums.{planSums, planLoads};
-ghost use Rattle.fitting.specs.FirstHalf.{boundsIn, loadFaultIn, Fitted};
+ghost use Rattle.fitting.specs.FirstHalf.{boundsIn, siteIn, loadFaultIn, Fitted};
 use crate::Verdict;
 use crate::cells::check_steps;
 use crate::records::job_records;
 use crate::records::lend_jobs;
 use crate::sums::add_plan;
+use intervals::interval_count;
 use job_sets::SET_WORDS;
 use model::MAX_BOUNDS;
 use model::MAX_INTERVALS;
 use model::MAX_JOBS;
 use tables::number16;
 use walking::wrong_length;
-use windows::interval_count;
 
 // Checks a plan against jobs that stand in three arrays, and their bounds. Fills the open sets of the intervals, and the
 // loads that the plan's steps make. The jobs become records, which are lent to the pass over them.
-pub fn fit<'a>(
+pub fn fit(
     top: u64,
-    releases: &'a [u64; MAX_JOBS],
-    deadlines: &'a [u64; MAX_JOBS],
-    cycles: &'a [u64; MAX_JOBS],
+    releases: &[u64; MAX_JOBS],
+    deadlines: &[u64; MAX_JOBS],
+    cycles: &[u64; MAX_JOBS],
     count: usize,
     times: &[u64; MAX_BOUNDS],
     bounds: usize,
@@ -65,7 +66,7 @@ fn check_plan(
     loads: &[u64; MAX_INTERVALS],
 ) -> Verdict
     requires { ⌜ (top ≤ maxFrequency) × (count ≤ maxJobs) × SmallBounds bounds (now times) × (now loads ≡ planLoads (now plan)) ⌝ }
-    ensures { λ r. ⌜ ((jobs : List Job) → length jobs ≡ count → TestedBelow jobs count (now (times .entry)) bounds (planSums (now (plan .entry))) (now (sets .entry)) summed → HoldsCycles jobs (now (cycles .entry)) → r ≡ verdictOf (fitting top jobs (boundsIn bounds (now (times .entry))) (now (plan .entry)) passed)) ⌝ }
+    ensures { λ r. ⌜ ((processor : Processor) (jobs : List Job) → topOf processor ≡ top → length jobs ≡ count → TestedBelow jobs count (now (times .entry)) bounds (planSums (now (plan .entry))) (now (sets .entry)) summed → HoldsCycles jobs (now (cycles .entry)) → r ≡ verdictOf (fitting (siteIn processor jobs (now (times .entry)) bounds) (now (plan .entry)) passed)) ⌝ }
 {
     if wrong_length(plan) {
         return Verdict::Refused {

@@ -175,6 +175,14 @@ module _ (test : ℕ → Bool) where
       go j (no other) (inl before) = rw (lt-ltb j i before, lt-ltb j (i + 1) (omega arith))
       go j (no other) (inr after) = rw (le-ltb j i after, le-ltb j (i + 1) (omega (arith, other)))
 
+  -- a turn of a loop that adds job i where it passes
+  module _ (i : ℕ) (set next : JobSet) (before : set ≡ setBelow i test) (tested : Bool) (is-test : tested ≡ test i) where
+    pub turn-more : tested ≡ true → (more : JobSet) → more ≡ withJob set i → next ≡ more → next ≡ setBelow (i + 1) test
+    turn-more passes more added is-next = is-next ∙ added ∙ ap (λ (s : JobSet). withJob s i) before ∙ below-more i (sym is-test ∙ passes)
+
+    pub turn-same : tested ≡ false → next ≡ set → next ≡ setBelow (i + 1) test
+    turn-same fails is-next = is-next ∙ before ∙ below-same i (sym is-test ∙ fails)
+
   pub below-has : (count j : ℕ) → j < count → j < maxJobs → isMember (setBelow count test) j ≡ test j
   below-has count j inside below = rw (member-of (λ i. ltb i count && test i) j below, lt-ltb j count inside)
 

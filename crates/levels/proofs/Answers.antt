@@ -1,30 +1,31 @@
 -- The setting of one interval, one law for each way out: refused levels, refusals 25 and 26, and the setting over the working
 -- points that stand in a table.
 -- Assumes nothing.
-use mathlib.Core.Path.{_≡_, sym, _∙_, ap}
+use mathlib.Core.Path.{_≡_, _∙_}
 use mathlib.Core.List.{List}
 use Prim.Native.Nat.{ℕ, _-_, _*_, _<_, _≤_}
 use native.Mathlib.Nat.{mul-le-mul}
 use native.Mathlib.Omega.{arith}
-use lib.ListN.{length, getD}
+use lib.ListN.{getD}
 use borrow.Author.Tests.{lt-ltb, le-ltb, lt-leb, le-leb}
 use Rattle.model.specs.declared.Level.{Level}
 use Rattle.model.specs.Limits.{maxDeadline}
 use Rattle.model.specs.Outcome.{refused, answer}
-use Rattle.model.specs.Levels.{levelOf, readLevels, ValidLevels}
+use Rattle.model.specs.Levels.{readLevels, ValidLevels}
 use Rattle.model.specs.Points.{topFrequency}
 use Rattle.model.specs.Bands.{Curve}
-use Rattle.model.specs.Setting.{workingOf, settingOf, setting}
+use Rattle.model.specs.Processors.{workingOf, processorOf}
+use Rattle.model.specs.Setting.{settingOf, settingFor, setting}
 use Rattle.model.proofs.Points.{valid-points-rise}
+use Rattle.model.proofs.Sites.{valid-processor}
 use Rattle.model.proofs.Working.{working-curve, working-top}
 use Rattle.tables.specs.Tables.{levelsIn}
-use Rattle.tables.proofs.Read.{length-levelsIn, level-in}
+use Rattle.tables.proofs.Read.{top-in, top-high}
 use Rattle.levels.specs.declared.points.PointTable.{PointTable}
 use Rattle.levels.specs.declared.interval.SettingAnswer.{SettingAnswer}
 use Rattle.levels.specs.declared.interval.SettingAnswer.the-variants.{Refused}
 use Rattle.levels.specs.PointTables.{pointTable, pointsOf, SmallPoints}
-use Rattle.levels.specs.Settings.{answered, settingAnswer, settingIn, Fits}
-use Rattle.levels.proofs.Filling.{valid-count, level-high}
+use Rattle.levels.specs.Settings.{answered, settingAnswer, Fits}
 use Rattle.levels.proofs.SmallPoints.{working-small, working-held}
 
 module _ (bytes : List ℕ) (ticks load : ℕ) where
@@ -33,51 +34,42 @@ module _ (bytes : List ℕ) (ticks load : ℕ) where
   unfolding setting
   levels-refused number place e = rw e
 
-  pub levels-answered : (levels : List Level) → readLevels bytes ≡ answer levels → settingIn levels ticks load ≡ setting bytes ticks load
+  pub levels-answered : (levels : List Level) → readLevels bytes ≡ answer levels → settingFor (processorOf levels) ticks load ≡ setting bytes ticks load
   unfolding setting
   levels-answered levels e = rw e
 
 module _ (count : ℕ) (frequencies voltages : List ℕ) (valid : ValidLevels (levelsIn count frequencies voltages)) where
-  -- the last entry has the top frequency
-  top-in : getD frequencies (count - 1) 0 ≡ topFrequency (levelsIn count frequencies voltages)
-  top-in =
-      let levels = levelsIn count frequencies voltages in
-      let counted = valid-count count frequencies voltages valid in
-      let last : length levels - 1 ≡ count - 1 = omega (arith, length-levelsIn count frequencies voltages) in
-      sym (ap (λ (level : Level). level .frequency) (ap (levelOf levels) last ∙ level-in count frequencies voltages (count - 1) (omega arith)))
-
   pub top-load : (ticks : ℕ) → ticks ≤ maxDeadline → ticks * getD frequencies (count - 1) 0 ≤ 1_000_000_000
   top-load ticks few =
-      let counted = valid-count count frequencies voltages valid in
-      omega (arith, mul-le-mul few (level-high count frequencies voltages valid (count - 1) (omega arith) .0))
+      omega (arith, mul-le-mul few (top-high count frequencies voltages valid))
 
 module _ (count : ℕ) (frequencies voltages : List ℕ) (ticks load : ℕ) where
   abbrev levels : List Level
   levels = levelsIn count frequencies voltages
 
-  pub too-short : ticks < 1 → Refused 25 0 ≡ settingAnswer (settingIn levels ticks load)
+  pub too-short : ticks < 1 → Refused 25 0 ≡ settingAnswer (settingFor (processorOf levels) ticks load)
   too-short short = rw (lt-leb 1 ticks short)
 
-  pub too-long : 1 ≤ ticks → maxDeadline < ticks → Refused 25 0 ≡ settingAnswer (settingIn levels ticks load)
+  pub too-long : 1 ≤ ticks → maxDeadline < ticks → Refused 25 0 ≡ settingAnswer (settingFor (processorOf levels) ticks load)
   too-long some long = rw (le-leb 1 ticks some, lt-leb ticks maxDeadline long)
 
   module _ (valid : ValidLevels levels) (some : 1 ≤ ticks) (few : ticks ≤ maxDeadline) where
-    pub overloaded : ticks * getD frequencies (count - 1) 0 < load → Refused 26 0 ≡ settingAnswer (settingIn levels ticks load)
+    pub overloaded : ticks * getD frequencies (count - 1) 0 < load → Refused 26 0 ≡ settingAnswer (settingFor (processorOf levels) ticks load)
     overloaded over =
-        let high : ticks * topFrequency levels < load = rw (top-in count frequencies voltages valid) at over in
+        let high : ticks * topFrequency levels < load = rw (← top-in count frequencies voltages valid) at over in
         rw (le-leb 1 ticks some, le-leb ticks maxDeadline few, lt-ltb _ _ high)
 
-    module _ (fits : load ≤ ticks * getD frequencies (count - 1) 0) (table : PointTable) (working : table ≡ pointTable (workingOf levels)) where
+    module _ (fits : load ≤ ticks * getD frequencies (count - 1) 0) (table : PointTable) (working : table ≡ pointTable (workingOf (processorOf levels))) where
       top-fits : load ≤ ticks * topFrequency levels
-      top-fits = rw (top-in count frequencies voltages valid) at fits
+      top-fits = rw (← top-in count frequencies voltages valid) at fits
 
       pub working-fits : (SmallPoints table × Curve (pointsOf table)) × ((ticks ≤ maxDeadline) × Fits (pointsOf table) ticks load)
       working-fits =
           let rising = valid-points-rise levels valid in
-          rw (working, working-held levels valid, working-top 0 levels rising)
-          ((working-small levels valid, working-curve _ rising), (few, top-fits))
+          rw (working, working-held (processorOf levels) (valid-processor levels valid), working-top 0 levels rising)
+          ((working-small (processorOf levels) (valid-processor levels valid), working-curve _ rising), (few, top-fits))
 
       pub settled : (result : SettingAnswer) → result ≡ answered (settingOf (pointsOf table) ticks load)
-          → result ≡ settingAnswer (settingIn levels ticks load)
+          → result ≡ settingAnswer (settingFor (processorOf levels) ticks load)
       settled result found =
-          found ∙ rw (working, working-held levels valid, le-leb 1 ticks some, le-leb ticks maxDeadline few, le-ltb _ _ top-fits)
+          found ∙ rw (working, working-held (processorOf levels) (valid-processor levels valid), le-leb 1 ticks some, le-leb ticks maxDeadline few, le-ltb _ _ top-fits)

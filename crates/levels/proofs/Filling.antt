@@ -30,11 +30,6 @@ module _ (count : ℕ) (frequencies voltages : List ℕ) where
   abbrev levels : List Level
   levels = levelsIn count frequencies voltages
 
-  pub valid-count : ValidLevels levels → (1 ≤ count) × (count ≤ maxLevels)
-  valid-count valid =
-      let counted = length-levelsIn count frequencies voltages in
-      (rw counted at (valid .some), rw counted at (valid .few))
-
   pub level-high : ValidLevels levels → (i : ℕ) → i < count → (getD frequencies i 0 ≤ maxFrequency) × (getD voltages i 0 ≤ maxVoltage)
   level-high valid i below =
       let inside : i < length levels = rw (length-levelsIn count frequencies voltages) below in

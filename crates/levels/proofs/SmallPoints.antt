@@ -1,4 +1,4 @@
--- The points of a valid level table, and its working points, keep the limits: at most nine, rising, frequencies at most
+-- The points of a valid processor, and its working points, keep the limits: at most nine, rising, frequencies at most
 -- 1,000 and powers at most 1,000 × 500 × 500.
 -- Assumes nothing.
 use mathlib.Core.Path.{_≡_, refl}
@@ -10,12 +10,13 @@ use native.Mathlib.Omega.{arith}
 use lib.ListN.{length}
 use Rattle.model.specs.Limits.{maxPoints}
 use Rattle.model.specs.declared.Level.{Level}
-use Rattle.model.specs.Outcome.{Outcome, refused, answer}
+use Rattle.model.specs.Outcome.{Outcome, refused, answer, andThen}
 use Rattle.model.specs.Levels.{readLevels, ValidLevels}
-use Rattle.model.specs.Points.{Point, points, pointAt, dropped, working, RisingPoints}
-use Rattle.model.specs.Setting.{workingOf}
+use Rattle.model.specs.Points.{Point, pointAt, dropped, working, RisingPoints}
+use Rattle.model.specs.Processors.{Processor, allPoints, workingOf, processorOf, readProcessor, ValidProcessor}
 use Rattle.model.proofs.Levels.{levels-valid}
-use Rattle.model.proofs.Points.{points-length, points-level, valid-points-rise}
+use Rattle.model.proofs.Points.{points-length, points-level}
+use Rattle.model.proofs.Sites.{valid-processor}
 use Rattle.model.proofs.Working.{place, working-curve}
 use Rattle.model.proofs.Selection.{select-length}
 use Rattle.levels.specs.PointTables.{pointTable, pointsOf, SmallPoints, workingRead}
@@ -50,41 +51,52 @@ small-working ps few rising small =
     })
     (λ k inside. let (i, p) = place ps k inside in rw (p .same) at (small i (p .inside)))
 
-module _ (levels : List Level) (valid : ValidLevels levels) where
-  small-points : (i : ℕ) → i < length (points 0 levels) → SmallPoint (pointAt (points 0 levels) i)
-  unfolding points
-  small-points zero inside = record { frequency-high = omega arith; power-high = omega arith }
-  small-points (suc i) inside =
-      let below : i < length levels = omega (arith, points-length 0 levels) in
-      rw (points-level 0 levels i)
+module _ (processor : Processor) (valid : ValidProcessor processor) where
+  level-small : (i : ℕ) → i < length (processor .levels) → SmallPoint (pointAt (allPoints processor) (suc i))
+  level-small i below =
+      let levels = valid .levels in
+      rw (points-level (processor .idlePower) (processor .levels) i)
       (record {
-        frequency-high = valid .frequency-high i below;
-        power-high = omega (arith, mul-le-mul (mul-le-mul (valid .frequency-high i below) (valid .voltage-high i below)) (valid .voltage-high i below));
+        frequency-high = levels .frequency-high i below;
+        power-high = omega (arith, mul-le-mul (mul-le-mul (levels .frequency-high i below) (levels .voltage-high i below)) (levels .voltage-high i below));
       })
 
-  few-points : length (points 0 levels) ≤ maxPoints
-  few-points = omega (arith, points-length 0 levels, valid .few)
+  -- idling draws less than the first level
+  small-points : (i : ℕ) → i < length (allPoints processor) → SmallPoint (pointAt (allPoints processor) i)
+  small-points zero inside =
+      record {
+        frequency-high = omega (arith, valid .rising .start);
+        power-high = omega (
+          arith,
+          valid .rising .power-rises 0 (valid .rising .some),
+          level-small 0 (valid .levels .some) .power-high,
+        );
+      }
+  small-points (suc i) inside = level-small i (omega (arith, points-length (processor .idlePower) (processor .levels)))
 
-  -- all points of a valid level table
-  pub points-small : SmallPoints (pointTable (points 0 levels))
-  points-small = small-table (points 0 levels) few-points (valid-points-rise levels valid) small-points
+  few-points : length (allPoints processor) ≤ maxPoints
+  few-points = omega (arith, points-length (processor .idlePower) (processor .levels), valid .levels .few)
+
+  -- all points of a valid processor
+  pub points-small : SmallPoints (pointTable (allPoints processor))
+  points-small = small-table (allPoints processor) few-points (valid .rising) small-points
 
   -- its working points
-  pub working-small : SmallPoints (pointTable (workingOf levels))
-  working-small = small-working (points 0 levels) few-points (valid-points-rise levels valid) small-points
+  pub working-small : SmallPoints (pointTable (workingOf processor))
+  working-small = small-working (allPoints processor) few-points (valid .rising) small-points
 
   -- both stand whole in their tables
-  pub points-held : pointsOf (pointTable (points 0 levels)) ≡ points 0 levels
-  points-held = table-points (points 0 levels) few-points
+  pub points-held : pointsOf (pointTable (allPoints processor)) ≡ allPoints processor
+  points-held = table-points (allPoints processor) few-points
 
-  pub working-held : pointsOf (pointTable (workingOf levels)) ≡ workingOf levels
-  working-held = table-points (workingOf levels) (working-small .few)
+  pub working-held : pointsOf (pointTable (workingOf processor)) ≡ workingOf processor
+  working-held = table-points (workingOf processor) (working-small .few)
 
 -- the working points of any bytes
-pub read-few : (bytes : List ℕ) → length (workingRead (readLevels bytes)) ≤ maxPoints
+pub read-few : (bytes : List ℕ) → length (workingRead (readProcessor bytes)) ≤ maxPoints
 read-few bytes = go (readLevels bytes) (levels-valid bytes)
   where
     go : (outcome : Outcome (List Level)) → ((levels : List Level) → outcome ≡ answer levels → ValidLevels levels)
-        → length (workingRead outcome) ≤ maxPoints
+        → length (workingRead (andThen outcome (λ levels. answer (processorOf levels)))) ≤ maxPoints
     go (refused number place) valid = omega arith
-    go (answer levels) valid = working-small levels (valid levels refl) .few
+    go (answer levels) valid = working-small (processorOf levels) (valid-processor levels (valid levels refl)) .few

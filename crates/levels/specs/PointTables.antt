@@ -4,13 +4,12 @@ use mathlib.Core.Bool.{Bool, _&&_}
 use mathlib.Core.List.{List, []}
 use lib.ListN.{length, getD}
 use lib.Dec.{ltb}
-use Rattle.model.specs.declared.Level.{Level}
 use Rattle.model.specs.Limits.{maxPoints, maxFrequency, maxPower}
 use Rattle.model.specs.Outcome.{Outcome, refused, answer}
 use Rattle.model.specs.Entries.{listOf}
 use Rattle.model.specs.Search.{someBelow}
 use Rattle.model.specs.Points.{Point, pointAt, drops, RisingPoints}
-use Rattle.model.specs.Setting.{workingOf}
+use Rattle.model.specs.Processors.{Processor, workingOf}
 use Rattle.tables.specs.Column.{columnOf}
 use Rattle.levels.specs.declared.points.Point.{Point as CodePoint}
 use Rattle.levels.specs.declared.points.PointTable.{PointTable}
@@ -61,7 +60,7 @@ droppedBy ps a b c = ltb b c && drops (pointAt ps a) (pointAt ps b) (pointAt ps 
 abbrev pub droppedFrom : List Point → (a b : ℕ) → Bool
 droppedFrom ps a b = someBelow (length ps) (droppedBy ps a b)
 
--- The working points of a level table that was read; a table that is refused has none.
-abbrev pub workingRead : Outcome (List Level) → List Point
+-- The working points of a processor that was read; a level table that is refused has none.
+abbrev pub workingRead : Outcome Processor → List Point
 workingRead (refused number place) = []
-workingRead (answer levels) = workingOf levels
+workingRead (answer processor) = workingOf processor

@@ -4,10 +4,11 @@ ghost use Prim.Native.Nat.{_≤_};
 ghost use Rattle.model.specs.Limits.{maxDeadline};
 ghost use Rattle.model.specs.Levels.{ValidLevels};
 ghost use Rattle.model.specs.Bands.{Curve};
-ghost use Rattle.model.specs.Setting.{settingOf, setting as settingFor, bandOf};
+ghost use Rattle.model.specs.Processors.{processorOf};
+ghost use Rattle.model.specs.Setting.{settingOf, settingFor, setting as settingOfBytes, bandOf};
 ghost use Rattle.tables.specs.Tables.{levelsIn};
 ghost use Rattle.levels.specs.PointTables.{pointsOf, SmallPoints};
-ghost use Rattle.levels.specs.Settings.{settingAnswer, settingIn, answered, Fits};
+ghost use Rattle.levels.specs.Settings.{settingAnswer, answered, Fits};
 use crate::points::PointTable;
 use crate::working::working_levels;
 use model::MAX_DEADLINE;
@@ -23,7 +24,7 @@ pub enum SettingAnswer {
 
 // The setting of an interval of some length for some load. Any bytes and any numbers are answered.
 pub fn setting(levels: &[u8], length: u32, load: u64) -> SettingAnswer
-    ensures { λ r. ⌜ r ≡ settingAnswer (settingFor (now (levels .entry)) length load) ⌝ }
+    ensures { λ r. ⌜ r ≡ settingAnswer (settingOfBytes (now (levels .entry)) length load) ⌝ }
 {
     let table = read_levels(levels);
     let reading = table.reading;
@@ -46,7 +47,7 @@ fn setting_in(
     load: u64,
 ) -> SettingAnswer
     requires { ⌜ ValidLevels (levelsIn count (now frequencies) (now voltages)) ⌝ }
-    ensures { λ r. ⌜ r ≡ settingAnswer (settingIn (levelsIn count (now (frequencies .entry)) (now (voltages .entry))) length load) ⌝ }
+    ensures { λ r. ⌜ r ≡ settingAnswer (settingFor (processorOf (levelsIn count (now (frequencies .entry)) (now (voltages .entry)))) length load) ⌝ }
 {
     if length < 1 {
         return SettingAnswer::Refused {
@@ -70,7 +71,7 @@ fn setting_in(
 }
 
 // The setting of a load that fits, over the working points.
-fn setting_of(working: PointTable, length: u64, load: u64) -> SettingAnswer
+pub fn setting_of(working: PointTable, length: u64, load: u64) -> SettingAnswer
     requires { ⌜ SmallPoints working × Curve (pointsOf working) ⌝ }
     requires { ⌜ length ≤ maxDeadline ⌝ }
     requires { ⌜ Fits (pointsOf working) length load ⌝ }

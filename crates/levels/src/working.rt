@@ -2,9 +2,9 @@
 ghost use mathlib.Core.Path.{_≡_};
 ghost use Prim.Native.Nat.{_<_};
 ghost use Rattle.model.specs.Limits.{maxFrequency, maxPower};
-ghost use Rattle.model.specs.Levels.{readLevels, ValidLevels};
+ghost use Rattle.model.specs.Levels.{ValidLevels};
 ghost use Rattle.model.specs.Points.{drops as dropsPoint, dropped as isDropped, working};
-ghost use Rattle.model.specs.Setting.{workingOf};
+ghost use Rattle.model.specs.Processors.{workingOf, processorOf, readProcessor};
 ghost use Rattle.tables.specs.Tables.{levelsIn};
 ghost use Rattle.levels.specs.PointTables.{asPoint, pointTable, tableOf, pointsOf, Ordered, SmallPoints, droppedFrom, workingRead};
 use crate::points::Point;
@@ -19,7 +19,7 @@ use tables::read_levels;
 
 // The working points of a level table in bytes. Any bytes are answered; a table that is refused has none.
 pub fn read_working_levels(levels: &[u8]) -> PointTable
-    ensures { λ r. ⌜ r ≡ pointTable (workingRead (readLevels (now (levels .entry)))) ⌝ }
+    ensures { λ r. ⌜ r ≡ pointTable (workingRead (readProcessor (now (levels .entry)))) ⌝ }
 {
     let table = read_levels(levels);
     let reading = table.reading;
@@ -43,7 +43,7 @@ pub fn working_levels(
     count: usize,
 ) -> PointTable
     requires { ⌜ ValidLevels (levelsIn count (now frequencies) (now voltages)) ⌝ }
-    ensures { λ r. ⌜ r ≡ pointTable (workingOf (levelsIn count (now (frequencies .entry)) (now (voltages .entry)))) ⌝ }
+    ensures { λ r. ⌜ r ≡ pointTable (workingOf (processorOf (levelsIn count (now (frequencies .entry)) (now (voltages .entry))))) ⌝ }
 {
     let all = all_points(frequencies, voltages, count);
     let all_frequencies = all.frequencies;

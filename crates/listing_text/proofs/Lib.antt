@@ -4,6 +4,6 @@ pub mod AppendedText
 pub mod Decimals
 pub mod LineTexts
 pub mod ShownSpans
-pub mod WrittenText
+pub mod ListedPlans
 pub mod ListedRefusals
 pub mod ListingText

@@ -1,47 +1,38 @@
 -- The numbers of a line are those of its definition, and the lines of steps one after another.
 -- Assumes nothing.
-use mathlib.Core.Path.{_≡_, refl, sym, _∙_, ap}
+use mathlib.Core.Path.{_≡_, refl, sym}
 use mathlib.Core.List.{List, [], _∷_, append-nil}
 use Prim.Native.Nat.{ℕ, zero, suc, _-_, _<_, _≤_}
 use native.Mathlib.Omega.{arith}
 use Rattle.model.specs.Entries.{encodeEach}
-use Rattle.model.specs.Levels.{readLevels}
-use Rattle.model.specs.Setting.{Setting, setting, settingOf}
+use Rattle.model.specs.Points.{Point}
+use Rattle.model.specs.Setting.{Setting, settingOf}
 use Rattle.model.specs.Plans.{Shares}
 use Rattle.model.specs.Steps.{Step}
 use Rattle.levels.specs.declared.interval.SettingAnswer.{SettingAnswer}
 use Rattle.levels.specs.declared.interval.SettingAnswer.the-variants.{Set, Refused}
-use Rattle.levels.specs.PointTables.{workingRead}
-use Rattle.levels.specs.Settings.{answered, settingAnswer}
+use Rattle.levels.specs.Settings.{answered}
 use Rattle.writing.specs.StepList.{joined, stepOf, stepsIn, stepsOf}
 use Rattle.writing.proofs.CellOrder.{stepOf-none, stepOf-some}
 use Rattle.writing.proofs.Encoded.{encodeEach-append}
 use Rattle.listing_text.specs.TextLines.{line, spanWord, stepWord}
 use Rattle.listing_text.specs.PlanText.{spanLine, stepLine, stepLines}
-use Rattle.listing_text.specs.ShownPlans.{Settable}
 
 -- the setting that is answered
-module _ (levelBytes : List ℕ) (length load : ℕ) (settable : Settable levelBytes length load)
-    (found : SettingAnswer) (is : found ≡ settingAnswer (setting levelBytes length load)) where
-  abbrev own : Setting
-  own = settingOf (workingRead (readLevels levelBytes)) length load
-
-  found-is : found ≡ answered own
-  found-is = is ∙ ap settingAnswer settable
-
+module _ (own : Setting) (found : SettingAnswer) (is : found ≡ answered own) where
   pub never-refused : (number place : ℕ) → found ≡ Refused number place → ⊥
-  never-refused number place refused = let z : _≡_ {A = ℕ} 0 1 = cc (found-is, refused) in absurd (omega (arith, z))
+  never-refused number place refused = let z : _≡_ {A = ℕ} 0 1 = cc (is, refused) in absurd (omega (arith, z))
 
-  pub own-setting : (band extra gap : ℕ) → found ≡ Set band extra gap → (band ≡ own .band) × (extra ≡ own .extra) × (gap ≡ own .gap)
-  own-setting band extra gap set = (cc (found-is, set), cc (found-is, set), cc (found-is, set))
+  own-setting : (band extra gap : ℕ) → found ≡ Set band extra gap → (band ≡ own .band) × (extra ≡ own .extra) × (gap ≡ own .gap)
+  own-setting band extra gap set = (cc (is, set), cc (is, set), cc (is, set))
 
-pub span-text : (levelBytes : List ℕ) (from to load price : ℕ) → Settable levelBytes (to - from) load
-    → (found : SettingAnswer) → found ≡ settingAnswer (setting levelBytes (to - from) load)
+pub span-text : (working : List Point) (from to load price : ℕ)
+    → (found : SettingAnswer) → found ≡ answered (settingOf working (to - from) load)
     → (band extra gap : ℕ) → found ≡ Set band extra gap
-    → line spanWord (from ∷ to ∷ load ∷ band ∷ extra ∷ gap ∷ price ∷ []) ≡ spanLine (workingRead (readLevels levelBytes)) from to load price
+    → line spanWord (from ∷ to ∷ load ∷ band ∷ extra ∷ gap ∷ price ∷ []) ≡ spanLine working from to load price
 unfolding spanLine
-span-text levelBytes from to load price settable found is band extra gap set =
-    let (b, e, g) = own-setting levelBytes (to - from) load settable found is band extra gap set in
+span-text working from to load price found is band extra gap set =
+    let (b, e, g) = own-setting (settingOf working (to - from) load) found is band extra gap set in
     rw (b, e, g)
 
 module _ (interval job share : ℕ) where

@@ -11,13 +11,14 @@ use Rattle.model.specs.Search.{firstFrom, someBelow}
 use Rattle.model.specs.Sum.{sum}
 use Rattle.model.specs.Points.{points, drops, dropped, selectFrom, working}
 use Rattle.model.specs.Bands.{gap}
-use Rattle.model.specs.Setting.{workingOf, bandOf, settingOf}
-use Rattle.model.specs.Intervals.{insertTime, boundsOf, boundAt}
+use Rattle.model.specs.Setting.{bandOf, settingOf}
+use Rattle.model.specs.Intervals.{insertTime, boundsOf}
+use Rattle.model.specs.Sites.{siteOf}
 use Rattle.model.specs.Prices.{PriceList}
 use Rattle.model.specs.SiteLines.{T, job, listedShares}
 use Rattle.writing.specs.StepList.{joined, stepOf, stepsOf}
 use Rattle.listing_text.specs.TextLines.{placesOf, decimal, signedDecimal, line, overfullLine, refusedLine}
-use Rattle.listing_text.specs.PlanText.{spanLine, stepLine, spanLines, stepLines, planText}
+use Rattle.listing_text.specs.PlanText.{spanLine, stepLine, spanLines, stepLines, planText, textOfPlan}
 
 abbrev listedJobs : List Job
 listedJobs = job 0 4 6 ∷ job 2 3 4 ∷ []
@@ -48,12 +49,12 @@ eightLines =
     ∷ 101 ∷ 110 ∷ 101 ∷ 114 ∷ 103 ∷ 121 ∷ 32 ∷ 50 ∷ 50 ∷ 48 ∷ 48 ∷ 10
     ∷ []
 
-pub listing-of-document : planText (workingOf T) 2 3 (boundAt (boundsOf listedJobs)) prices listedShares 3 2_200 ≡ eightLines
+pub listing-of-document : textOfPlan (siteOf T listedJobs) prices listedShares 3 2_200 ≡ eightLines
 unfolding encodeEach firstFrom someBelow sum points drops dropped selectFrom working gap bandOf settingOf insertTime boundsOf joined stepOf stepsOf placesOf decimal line spanLine stepLine spanLines stepLines planText
 listing-of-document = refl
 
 -- no jobs: sizes 0 0 0, energy 0
-pub listing-without-jobs : planText (workingOf T) 0 0 (boundAt (boundsOf [])) prices listedShares 0 0
+pub listing-without-jobs : textOfPlan (siteOf T []) prices listedShares 0 0
     ≡ 115 ∷ 105 ∷ 122 ∷ 101 ∷ 115 ∷ 32 ∷ 48 ∷ 32 ∷ 48 ∷ 32 ∷ 48 ∷ 10 ∷ 101 ∷ 110 ∷ 101 ∷ 114 ∷ 103 ∷ 121 ∷ 32 ∷ 48 ∷ 10 ∷ []
 unfolding encodeEach firstFrom sum boundsOf joined stepsOf placesOf decimal line spanLines stepLines planText
 listing-without-jobs = refl

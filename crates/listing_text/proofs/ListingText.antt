@@ -5,15 +5,24 @@ use mathlib.Core.List.{List, [], _∷_, _++_}
 use Prim.Native.Nat.{ℕ, suc, _+_, _*_}
 use native.Mathlib.Omega.{arith}
 use lib.ListN.{length, take, drop, set}
+use lib.IntN.{ℤ}
 use lib.Seq.{sets, take-nil}
+use Rattle.model.specs.Outcome.{Outcome, refused, answer}
+use Rattle.model.specs.Sites.{Site, readSite}
+use Rattle.model.specs.Plans.{sharesIn}
+use Rattle.model.specs.PriceBytes.{pricesOf}
+use Rattle.model.specs.Planning.{refusal, planning}
+use Rattle.model.proofs.RefusalNumbers.{site-by}
 use Rattle.planning.specs.declared.operation.PlanAnswer.{PlanAnswer}
-use Rattle.planning.specs.declared.operation.PlanAnswer.the-variants.{Plan}
+use Rattle.planning.specs.declared.operation.PlanAnswer.the-variants.{Plan, Overfull, Refused}
 use Rattle.planning.specs.MadePlans.{Buffers}
-use Rattle.planning.specs.PlanAnswers.{PlanContract}
+use Rattle.planning.specs.PlanAnswers.{outcomeOf, PlanContract}
+use Rattle.listing_text.specs.TextLines.{overfullLine, refusedLine}
+use Rattle.listing_text.specs.PlanText.{textOfPlan}
 use Rattle.listing_text.specs.Appending.{textRoom, Appended}
-use Rattle.listing_text.specs.ShownPlans.{WrittenPlan}
-use Rattle.listing_text.specs.Listings.{zeros, planRoom, priceRoom, shareRoom, zeroBuffers, listingText, ListingContract}
-use Rattle.listing_text.proofs.ListedRefusals.{one-to-ten}
+use Rattle.listing_text.specs.ShownPlans.{ListedPlan}
+use Rattle.listing_text.specs.Listings.{zeros, planRoom, priceRoom, shareRoom, zeroBuffers, siteText, listingText, ListingContract}
+use Rattle.listing_text.proofs.ListedRefusals.{reading-refused}
 
 sets-shift : (y : ℕ) (l : List ℕ) (i : ℕ) (bytes : List ℕ) → sets (y ∷ l) (suc i) bytes ≡ y ∷ sets l i bytes
 sets-shift y l i [] = refl
@@ -36,34 +45,76 @@ pub lent-zeros : {levelBytes jobBytes : List ℕ} {left : Buffers} {answered : P
     → PlanContract levelBytes jobBytes zeroBuffers left answered
 lent-zeros plan prices shares planned = rw (plan, prices, shares) at planned
 
+-- the text of a site that was read
+text-read : (outcome : Outcome Site) (site : Site) → outcome ≡ answer site → (answered case : PlanAnswer) → answered ≡ case
+    → (left : Buffers) → siteText site case left ≡ listingText outcome answered left
+unfolding listingText
+text-read outcome site read answered case is left = rw (read, is)
+
 module _ {levelBytes jobBytes : List ℕ} {left : Buffers} {answered : PlanAnswer} (planned : PlanContract levelBytes jobBytes zeroBuffers left answered) where
+  -- what is not refused is planned for a site that was read
+  site-planned : ((number place : ℕ) → outcomeOf answered ≡ refusal number place → ⊥) → (site : Site) × (readSite levelBytes jobBytes ≡ answer site)
+  unfolding planning
+  site-planned never = go (readSite levelBytes jobBytes) refl
+    where
+      go : (outcome : Outcome Site) → readSite levelBytes jobBytes ≡ outcome → (site : Site) × (readSite levelBytes jobBytes ≡ answer site)
+      go (refused number place) is = absurd (never number place (rw is at (planned .outcome)))
+      go (answer site) is = (site, is)
+
+  plan-read : (intervals steps energy : ℕ) → answered ≡ Plan intervals steps energy → (site : Site) × (readSite levelBytes jobBytes ≡ answer site)
+  plan-read intervals steps energy is = site-planned (λ number place e. let z : _≡_ {A = ℕ} 0 1 = cc (ap outcomeOf is, e) in omega (arith, z))
+
   -- what was written is a plan whose text can be put
-  pub plan-written : (intervals steps energy : ℕ) → answered ≡ Plan intervals steps energy
-      → WrittenPlan levelBytes jobBytes intervals steps energy (left .prices) (left .shares)
-  plan-written intervals steps energy is =
-      let written = planned .written intervals steps energy is in
+  pub plan-listed : (intervals steps energy : ℕ) → answered ≡ Plan intervals steps energy
+      → ListedPlan levelBytes jobBytes intervals steps energy (left .prices) (left .shares)
+  plan-listed intervals steps energy is =
+      let (site, read) = plan-read intervals steps energy is in
       record {
-        jobs = written .jobs;
-        jobs-read = written .jobs-read;
+        site = site;
+        site-read = read;
         plan = take (4 + 6 * steps) (left .plan);
-        planned = written .planned;
+        planned = planned .written site read intervals steps energy is .planned;
       }
 
-  pub listing-written : (case : PlanAnswer) → answered ≡ case → (before after : List ℕ) (answer : ℕ)
-      → Appended before 0 (listingText levelBytes jobBytes case left) textRoom after answer
-      → ListingContract levelBytes jobBytes before after answer
-  listing-written case is before after answer put =
-      record {
-        text = listingText levelBytes jobBytes answered left;
-        listed = record {
-          answered = answered;
-          left = left;
-          planned = planned;
-          text-is = refl;
-          one-to-ten = λ number place refused.
-              one-to-ten levelBytes jobBytes number place (rw refused at (planned .outcome));
-        };
-        length-is = rw is (omega (arith, put .next-is));
-        written = rw is (put .after-is ∙ sets-start before (listingText levelBytes jobBytes case left));
-        fits = rw is (put .few);
-      }
+  read-refused : (number place : ℕ) → answered ≡ Refused number place → readSite levelBytes jobBytes ≡ refused number place
+  read-refused number place is = reading-refused levelBytes jobBytes number place (rw is at (planned .outcome))
+
+  module _ (before after : List ℕ) (whole : ℕ) where
+    -- what was put is the text
+    text-put : (text : List ℕ) → text ≡ listingText (readSite levelBytes jobBytes) answered left
+        → Appended before 0 text textRoom after whole → ListingContract levelBytes jobBytes before after whole
+    text-put text is put =
+        record {
+          text = text;
+          listed = record {
+            answered = answered;
+            left = left;
+            planned = planned;
+            text-is = is;
+            one-to-ten = λ number place refused. site-by levelBytes jobBytes number place (read-refused number place refused);
+          };
+          length-is = omega (arith, put .next-is);
+          written = put .after-is ∙ sets-start before text;
+          fits = put .few;
+        }
+
+    pub plan-put : (intervals steps energy : ℕ) → answered ≡ Plan intervals steps energy
+        → ((site : Site) → readSite levelBytes jobBytes ≡ answer site → Appended before 0
+        (textOfPlan site (pricesOf (take (2 + 5 * intervals) (left .prices))) (sharesIn (length (site .jobs)) (left .shares)) steps energy) textRoom after whole)
+        → ListingContract levelBytes jobBytes before after whole
+    unfolding siteText
+    plan-put intervals steps energy is put =
+        let (site, read) = plan-read intervals steps energy is in
+        text-put _ (text-read _ site read answered _ is left) (put site read)
+
+    pub overfull-put : (start end : ℕ) (spare : ℤ) → answered ≡ Overfull start end spare
+        → Appended before 0 (overfullLine start end spare) textRoom after whole → ListingContract levelBytes jobBytes before after whole
+    unfolding siteText
+    overfull-put start end spare is put =
+        let (site, read) = site-planned (λ number place e. let z : _≡_ {A = ℕ} 0 1 = cc (ap outcomeOf is, e) in omega (arith, z)) in
+        text-put _ (text-read _ site read answered _ is left) put
+
+    pub refused-put : (number place : ℕ) → answered ≡ Refused number place
+        → Appended before 0 (refusedLine number place) textRoom after whole → ListingContract levelBytes jobBytes before after whole
+    unfolding listingText
+    refused-put number place is put = text-put _ (rw (read-refused number place is)) put

@@ -4,13 +4,17 @@ use mathlib.Core.Path.{_≡_}
 use mathlib.Core.List.{List, _++_}
 use lib.ListN.{length, take, drop, replicate}
 use Rattle.model.specs.Limits.{maxJobs, maxIntervals}
+use Rattle.model.specs.Outcome.{Outcome, refused, answer, From}
+use Rattle.model.specs.Sites.{Site, readSite}
+use Rattle.model.specs.Plans.{sharesIn}
+use Rattle.model.specs.PriceBytes.{pricesOf}
 use Rattle.planning.specs.declared.operation.PlanAnswer.{PlanAnswer}
 use Rattle.planning.specs.declared.operation.PlanAnswer.the-variants.{Plan, Overfull, Refused}
 use Rattle.planning.specs.MadePlans.{Buffers}
 use Rattle.planning.specs.PlanAnswers.{PlanContract}
 use Rattle.listing_text.specs.TextLines.{overfullLine, refusedLine}
+use Rattle.listing_text.specs.PlanText.{textOfPlan}
 use Rattle.listing_text.specs.Appending.{textRoom}
-use Rattle.listing_text.specs.ShownPlans.{textOfPlan}
 
 -- The lengths of the buffers for plan, prices and shares: always enough, since a job is at most open in every interval.
 abbrev pub planRoom : ℕ
@@ -29,13 +33,18 @@ zeros n = replicate n 0
 abbrev pub zeroBuffers : Buffers
 zeroBuffers = record { plan = zeros planRoom; prices = zeros priceRoom; shares = zeros shareRoom }
 
--- The text for what planning answered and left in its buffers: of a plan the prices and the shares that were written. No jobs
--- give `sizes 0 0 0` and `energy 0`.
-unfoldable pub listingText : (levelBytes jobBytes : List ℕ) → PlanAnswer → (left : Buffers) → List ℕ
-listingText levelBytes jobBytes (Plan intervals steps energy) left =
-    textOfPlan levelBytes jobBytes intervals steps energy (left .prices) (left .shares)
-listingText levelBytes jobBytes (Overfull start end spare) left = overfullLine start end spare
-listingText levelBytes jobBytes (Refused number place) left = refusedLine number place
+-- The text for what planning a site answered and left in its buffers: of a plan the prices and the shares that were written.
+-- No jobs give `sizes 0 0 0` and `energy 0`.
+unfoldable pub siteText : Site → PlanAnswer → (left : Buffers) → List ℕ
+siteText site (Plan intervals steps energy) left =
+    textOfPlan site (pricesOf (take (2 + 5 * intervals) (left .prices))) (sharesIn (length (site .jobs)) (left .shares)) steps energy
+siteText site (Overfull start end spare) left = overfullLine start end spare
+siteText site (Refused number place) left = refusedLine number place
+
+-- A site that is refused has its refusal's line.
+unfoldable pub listingText : Outcome Site → PlanAnswer → (left : Buffers) → List ℕ
+listingText (refused number place) answered left = refusedLine number place
+listingText (answer site) answered left = siteText site answered left
 
 -- Planning answered and left something for the tables, and the text is that of its answer. Which plan is written is free where
 -- several are equally cheap, so the text is a function of what planning answered and wrote.
@@ -43,9 +52,9 @@ pub record Listed (levelBytes jobBytes text : List ℕ) : Type 0 where
   pub answered : PlanAnswer
   pub left : Buffers
   pub planned : PlanContract levelBytes jobBytes zeroBuffers left answered
-  pub text-is : text ≡ listingText levelBytes jobBytes answered left
+  pub text-is : text ≡ listingText (readSite levelBytes jobBytes) answered left
   -- "refused, number, place (1 to 10 ..)": no buffer is too short, and 11 is an overfull window
-  pub one-to-ten : (number place : ℕ) → answered ≡ Refused number place → (1 ≤ number) × (number ≤ 10)
+  pub one-to-ten : (number place : ℕ) → answered ≡ Refused number place → From 1 10 number
 
 -- The whole promise: the length of a listing's text is answered, as many of its bytes as have room stand in the buffer, and the
 -- rest of the buffer stays.

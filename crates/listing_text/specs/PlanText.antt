@@ -2,10 +2,14 @@
 -- and a line with the energy.
 use Prim.Native.Nat.{ℕ, suc, _-_}
 use mathlib.Core.List.{List, [], _∷_, _++_}
+use lib.ListN.{length}
 use Rattle.model.specs.Entries.{encodeEach}
 use Rattle.model.specs.Sum.{sum}
 use Rattle.model.specs.Points.{Point}
+use Rattle.model.specs.Processors.{workingOf}
 use Rattle.model.specs.Setting.{Setting, settingOf}
+use Rattle.model.specs.Intervals.{intervalCount, boundAt}
+use Rattle.model.specs.Sites.{Site}
 use Rattle.model.specs.Plans.{Shares}
 use Rattle.model.specs.Prices.{PriceList}
 use Rattle.model.specs.Steps.{Step}
@@ -37,3 +41,7 @@ module _ (working : List Point) (jobs intervals : ℕ) (bounds : ℕ → ℕ) (p
   planText steps energy =
       line sizesWord (jobs ∷ intervals ∷ steps ∷ [])
       ++ (spanLines ++ (stepLines jobs intervals shares ++ line energyWord (energy ∷ [])))
+
+-- The text of a plan for a site.
+abbrev pub textOfPlan : Site → PriceList → Shares → (steps energy : ℕ) → List ℕ
+textOfPlan site = planText (workingOf (site .processor)) (length (site .jobs)) (intervalCount (site .bounds)) (boundAt (site .bounds))

@@ -3,20 +3,21 @@ ghost use Prim.Native.Nat.{_+_, _-_, _<_, _≤_};
 ghost use mathlib.Core.List.{[], _∷_};
 ghost use Rattle.model.specs.Limits.{maxDeadline};
 ghost use Rattle.model.specs.Entries.{encodeEach};
-ghost use Rattle.model.specs.Levels.{readLevels};
-ghost use Rattle.levels.specs.PointTables.{workingRead};
+ghost use Rattle.model.specs.Bands.{Curve};
+ghost use Rattle.levels.specs.PointTables.{pointsOf, SmallPoints};
+ghost use Rattle.levels.specs.Settings.{Fits};
 ghost use Rattle.writing.specs.StepList.{stepOf};
 ghost use Rattle.listing_text.specs.TextLines.{line, sizesWord, energyWord, overfullLine, refusedLine};
 ghost use Rattle.listing_text.specs.PlanText.{spanLine, stepLine};
 ghost use Rattle.listing_text.specs.Appending.{textRoom, sizesRoom, spanRoom, stepRoom, energyRoom, Appended};
-ghost use Rattle.listing_text.specs.ShownPlans.{Settable};
 use crate::writer::put_byte;
 use crate::writer::put_bytes;
 use crate::writer::put_line;
 use crate::writer::put_numbers;
 use crate::writer::put_signed;
+use levels::PointTable;
 use levels::SettingAnswer;
-use levels::setting;
+use levels::setting_of;
 
 const SIZES: [u8; 5] = *b"sizes";
 
@@ -51,7 +52,7 @@ pub(crate) fn put_sizes(
 
 // span: from, to, load, then band, extra and gap as the setting of one interval answers them, price.
 pub(crate) fn put_span(
-    levels: &[u8],
+    working: PointTable,
     from: u64,
     to: u64,
     load: u64,
@@ -60,10 +61,10 @@ pub(crate) fn put_span(
     place: usize,
 ) -> usize
     requires { ⌜ (from < to) × (to ≤ maxDeadline) × (place + spanRoom ≤ textRoom) ⌝ }
-    requires { ⌜ Settable (now levels) (to - from) load ⌝ }
-    ensures { λ r. ⌜ Appended (now (text .entry)) place (spanLine (workingRead (readLevels (now (levels .entry)))) from to load price) spanRoom (now (text .exit)) r ⌝ }
+    requires { ⌜ SmallPoints working × Curve (pointsOf working) × Fits (pointsOf working) (to - from) load ⌝ }
+    ensures { λ r. ⌜ Appended (now (text .entry)) place (spanLine (pointsOf working) from to load price) spanRoom (now (text .exit)) r ⌝ }
 {
-    let set = setting(levels, (to - from) as u32, load);
+    let set = setting_of(working, to - from, load);
     match set {
         SettingAnswer::Set { band, extra, gap } => put_line(
             text,
@@ -71,7 +72,7 @@ pub(crate) fn put_span(
             &SPAN,
             &[from, to, load, band as u64, extra, gap, price as u64],
         ),
-        // Not met: no load of a plan is refused.
+        // Not met: a load that fits is not refused.
         SettingAnswer::Refused {
             number: _,
             place: _,

@@ -1,27 +1,29 @@
 // The text of a plan.
 ghost use mathlib.Core.Path.{_≡_};
-ghost use Prim.Native.Nat.{_+_, _*_, _<_, _≤_};
-ghost use lib.ListN.{length};
+ghost use Prim.Native.Nat.{_+_, _*_, _≤_};
+ghost use lib.ListN.{length, take};
 ghost use Rattle.model.specs.Limits.{maxJobs};
+ghost use Rattle.model.specs.Outcome.{answer};
 ghost use Rattle.model.specs.Entries.{encodeEach};
 ghost use Rattle.model.specs.Sum.{sum};
-ghost use Rattle.model.specs.Levels.{readLevels};
+ghost use Rattle.model.specs.Sites.{Site, readSite};
 ghost use Rattle.model.specs.Plans.{sharesIn};
-ghost use Rattle.levels.specs.PointTables.{workingRead};
+ghost use Rattle.model.specs.PriceBytes.{pricesOf};
+ghost use Rattle.levels.specs.PointTables.{pointsOf};
 ghost use Rattle.writing.specs.StepList.{stepsIn};
-ghost use Rattle.listing_text.specs.PlanText.{stepLine, spanLines, stepLines, planText};
+ghost use Rattle.listing_text.specs.PlanText.{stepLine, spanLines, stepLines, planText, textOfPlan};
 ghost use Rattle.listing_text.specs.Appending.{textRoom, spanRoom, stepRoom, Appended};
-ghost use Rattle.listing_text.specs.ShownPlans.{boundsIn, pricesIn, ShownPlan, WrittenPlan, textOfPlan};
+ghost use Rattle.listing_text.specs.ShownPlans.{boundsIn, pricesIn, ShownPlan, ListedPlan};
 use crate::lines::put_energy;
 use crate::lines::put_sizes;
 use crate::lines::put_span;
 use crate::lines::put_step;
+use levels::PointTable;
 use model::MAX_BOUNDS;
-use tables::Reading;
-use tables::read_jobs;
-use windows::bounds_of;
+use model::MAX_JOBS;
+use site::read_site;
 
-// Puts the text of a plan that was written for two tables.
+// Puts the text of a plan for the site that two tables are read as.
 pub(crate) fn put_plan(
     levels: &[u8],
     jobs: &[u8],
@@ -32,38 +34,38 @@ pub(crate) fn put_plan(
     shares: &[u32],
     text: &mut [u8],
 ) -> usize
-    requires { ⌜ WrittenPlan (now levels) (now jobs) intervals steps energy (now prices) (now shares) ⌝ }
-    ensures { λ r. ⌜ Appended (now (text .entry)) 0 (textOfPlan (now (levels .entry)) (now (jobs .entry)) intervals steps energy (now (prices .entry)) (now (shares .entry))) textRoom (now (text .exit)) r ⌝ }
+    requires { ⌜ ListedPlan (now levels) (now jobs) intervals steps energy (now prices) (now shares) ⌝ }
+    ensures { λ r. ⌜ ((s : Site) → readSite (now (levels .entry)) (now (jobs .entry)) ≡ answer s → Appended (now (text .entry)) 0
+        (textOfPlan s (pricesOf (take (2 + 5 * intervals) (now (prices .entry)))) (sharesIn (length (s .jobs)) (now (shares .entry))) steps energy) textRoom (now (text .exit)) r) ⌝ }
 {
-    let table = read_jobs(jobs);
-    let reading = table.reading;
-    match reading {
-        // Not met: a plan comes out of jobs that were read.
-        Reading::Refused {
-            number: _,
-            place: _,
-        } => 0,
-        Reading::Entries(count) => {
-            let mut times = [0u64; MAX_BOUNDS];
-            bounds_of(&table.releases, &table.deadlines, count, &mut times);
-            put_lines(
-                levels,
-                &times,
-                count,
-                intervals,
-                steps,
-                energy,
-                prices,
-                shares,
-                text,
-            )
-        }
-    }
+    let mut releases = [0u64; MAX_JOBS];
+    let mut deadlines = [0u64; MAX_JOBS];
+    let mut cycles = [0u64; MAX_JOBS];
+    let mut times = [0u64; MAX_BOUNDS];
+    let site = read_site(
+        levels,
+        jobs,
+        &mut releases,
+        &mut deadlines,
+        &mut cycles,
+        &mut times,
+    );
+    put_lines(
+        site.working,
+        &times,
+        site.jobs,
+        intervals,
+        steps,
+        energy,
+        prices,
+        shares,
+        text,
+    )
 }
 
 // The lines of a plan, one after another. Interval i goes from time i to time i + 1.
 fn put_lines(
-    levels: &[u8],
+    working: PointTable,
     times: &[u64; MAX_BOUNDS],
     jobs: usize,
     intervals: usize,
@@ -73,20 +75,20 @@ fn put_lines(
     shares: &[u32],
     text: &mut [u8],
 ) -> usize
-    requires { ⌜ ShownPlan (now levels) jobs intervals (now times) (now prices) (now shares) ⌝ }
+    requires { ⌜ ShownPlan working jobs intervals (now times) (now prices) (now shares) ⌝ }
     ensures { λ r. ⌜ Appended (now (text .entry)) 0
-        (planText (workingRead (readLevels (now (levels .entry)))) jobs intervals (boundsIn (now (times .entry)))
+        (planText (pointsOf working) jobs intervals (boundsIn (now (times .entry)))
         (pricesIn intervals (now (prices .entry))) (sharesIn jobs (now (shares .entry))) steps energy) textRoom (now (text .exit)) r ⌝ }
 {
     let first = put_sizes(text, 0, jobs, intervals, steps);
-    let second = put_spans(levels, times, jobs, intervals, prices, shares, text, first);
+    let second = put_spans(working, times, jobs, intervals, prices, shares, text, first);
     let last = put_steps(shares, jobs, intervals, text, second);
     put_energy(text, last, energy)
 }
 
 // A line for each interval.
 fn put_spans(
-    levels: &[u8],
+    working: PointTable,
     times: &[u64; MAX_BOUNDS],
     jobs: usize,
     intervals: usize,
@@ -95,10 +97,10 @@ fn put_spans(
     text: &mut [u8],
     place: usize,
 ) -> usize
-    requires { ⌜ ShownPlan (now levels) jobs intervals (now times) (now prices) (now shares) ⌝ }
+    requires { ⌜ ShownPlan working jobs intervals (now times) (now prices) (now shares) ⌝ }
     requires { ⌜ place + spanRoom * intervals ≤ textRoom ⌝ }
     ensures { λ r. ⌜ Appended (now (text .entry)) place
-        (spanLines (workingRead (readLevels (now (levels .entry)))) jobs intervals (boundsIn (now (times .entry)))
+        (spanLines (pointsOf working) jobs intervals (boundsIn (now (times .entry)))
         (pricesIn intervals (now (prices .entry))) (sharesIn jobs (now (shares .entry)))) (spanRoom * intervals) (now (text .exit)) r ⌝ }
 {
     let mut next = place;
@@ -106,7 +108,7 @@ fn put_spans(
     while i < intervals {
         let load = load_of(shares, jobs, i);
         let price = prices[2 + 4 * intervals + i];
-        next = put_span(levels, times[i], times[i + 1], load, price, text, next);
+        next = put_span(working, times[i], times[i + 1], load, price, text, next);
         i += 1;
     }
     next

@@ -3,7 +3,7 @@
 ghost use mathlib.Core.List.{[], _∷_};
 ghost use Prim.Native.Nat.{_+_, _*_, _<_, _≤_};
 ghost use lib.ListN.{length};
-ghost use Rattle.listing_text.specs.TextLines.{newline, space, decimal, signedDecimal, field, fields, line};
+ghost use Rattle.listing_text.specs.TextLines.{space, decimal, signedDecimal, field, fields, line};
 ghost use Rattle.listing_text.specs.Appending.{textRoom, digitRoom, numberRoom, lineRoom, Appended};
 use integers::magnitude;
 

@@ -11,17 +11,18 @@ use lib.Dec.{ltb, eqb}
 use borrow.Author.Tests.{ltb-true, ltb-false, lt-ltb, le-ltb, leb-true, le-leb, eqb-true, eqb-false, eq-eqb, ne-eqb, not-false}
 use Rattle.model.specs.declared.Job.{Job}
 use Rattle.model.specs.Jobs.{jobOf}
-use Rattle.model.specs.Points.{Point}
+use Rattle.model.specs.Processors.{workingOf, topOf}
 use Rattle.model.specs.Intervals.{intervalCount, boundAt, lengthOf, isOpen}
+use Rattle.model.specs.Sites.{Site}
 use Rattle.model.specs.Plans.{load}
 use Rattle.model.specs.Prices.{isBandNumber, fitsLoad}
-use Rattle.model.specs.Steps.{stepCount, cellAt, stepAt, wrongPlanLength, sharesOf}
+use Rattle.model.specs.Steps.{stepCount, cellAt, stepAt, wrongPlanLength, jobSum, sharesOf}
 use Rattle.model.specs.PriceBytes.{priceIntervals, endAt, pricesOf}
-use Rattle.model.specs.Checking.{isOpenPair, wrongCell, wrongCycles, stepFault, jobSum, jobSumFault, loadFault}
+use Rattle.model.specs.Checking.{isOpenPair, wrongCell, wrongCycles, stepFault, jobSumFault, loadFault}
 use Rattle.model.specs.Checking.{wrongPriceLength, entryFault, priceFault, cheaperFault}
 use Rattle.model.proofs.Numbers.{true-or-false, both-true}
 use Rattle.model.proofs.Search.{someBelow-none, someBelow-fails}
-use Rattle.model.proofs.Tests.{neither, in-range, no-fault, never-false, FaultUnless, fault-unless, fault-when}
+use Rattle.model.proofs.Tests.{neither, in-range, no-fault, FaultUnless, fault-unless, fault-when}
 
 -- 15: a plan is as long as its step count says.
 pub plan-length : (plan : List ℕ) → (wrongPlanLength plan ≡ false) ↔ (length plan ≡ 4 + 6 * stepCount plan)
@@ -42,12 +43,12 @@ pub record SoundCycles (jobs : List Job) (plan : List ℕ) (s : ℕ) : Type 0 wh
   pub some : 1 ≤ stepAt plan s .cycles
   pub upto : stepAt plan s .cycles ≤ jobOf jobs (stepAt plan s .job) .cycles
 
-module _ (top : ℕ) (jobs : List Job) (bounds : List ℕ) (plan : List ℕ) where
+module _ (site : Site) (plan : List ℕ) where
   -- the tests of 17 and 18 say just that
-  cell-sound : (s : ℕ) → (wrongCell top jobs bounds plan s ≡ false) ↔ SoundCell jobs bounds plan s
+  cell-sound : (s : ℕ) → (wrongCell site plan s ≡ false) ↔ SoundCell (site .jobs) (site .bounds) plan s
   cell-sound s = (
     λ e.
-        let (pair, new) = neither (not (isOpenPair top jobs bounds plan (stepAt plan s))) _ e in
+        let (pair, new) = neither (not (isOpenPair site (stepAt plan s))) _ e in
         let (numbers, is-open) = both-true _ _ (not-false _ pair) in
         let (interval, job) = both-true _ _ numbers in
         record {
@@ -65,44 +66,35 @@ module _ (top : ℕ) (jobs : List Job) (bounds : List ℕ) (plan : List ℕ) whe
         ),
   )
 
-  cycles-sound : (s : ℕ) → (wrongCycles top jobs bounds plan s ≡ false) ↔ SoundCycles jobs plan s
+  cycles-sound : (s : ℕ) → (wrongCycles site plan s ≡ false) ↔ SoundCycles (site .jobs) plan s
   cycles-sound s = (
     λ e. let (some, upto) = in-range (stepAt plan s .cycles) _ e in record { some = some; upto = upto },
     λ h. rw (le-leb _ _ (h .some), le-leb _ _ (h .upto)),
   )
 
   -- a step has no fault exactly when its cell and its cycles are sound
-  pub step-sound : (s : ℕ) → (stepFault top jobs bounds plan s ≡ 0) ↔ (SoundCell jobs bounds plan s × SoundCycles jobs plan s)
+  pub step-sound : (s : ℕ) → (stepFault site plan s ≡ 0) ↔ (SoundCell (site .jobs) (site .bounds) plan s × SoundCycles (site .jobs) plan s)
   unfolding stepFault
   step-sound s = (
     λ e. let (cell, cycles) = no-fault _ _ 16 17 e in (cell-sound s .0 cell, cycles-sound s .0 cycles),
     λ h. rw (cell-sound s .1 (h .0), cycles-sound s .1 (h .1)),
   )
 
-  -- otherwise the cell's refusal comes first
-  pub wrong-cell : (s : ℕ) → (SoundCell jobs bounds plan s → ⊥) → stepFault top jobs bounds plan s ≡ 17
-  unfolding stepFault
-  wrong-cell s unsound = rw (never-false _ (λ e. unsound (cell-sound s .0 e)))
-
-  pub wrong-cycles : (s : ℕ) → SoundCell jobs bounds plan s → (SoundCycles jobs plan s → ⊥) → stepFault top jobs bounds plan s ≡ 18
-  unfolding stepFault
-  wrong-cycles s cell unsound = rw (cell-sound s .1 cell) (fault-when _ 17 (cycles-sound s) .wrong unsound)
-
   -- 19: a job's steps add to its cycles
-  pub job-sum-fault : (j : ℕ) → FaultUnless (jobSum top jobs bounds plan j ≡ jobOf jobs j .cycles) (jobSumFault top jobs bounds plan j) 19
+  pub job-sum-fault : (j : ℕ) → FaultUnless (jobSum plan j ≡ jobOf (site .jobs) j .cycles) (jobSumFault site plan j) 19
   unfolding jobSumFault
   job-sum-fault j = fault-unless _ 18 (eqb-true _ _, eq-eqb _ _)
 
   -- 20: an interval is loaded at most to its length × top frequency
-  pub load-fault : (i : ℕ) → FaultUnless (load jobs (sharesOf plan) i ≤ lengthOf bounds i * top) (loadFault top jobs bounds plan i) 20
+  pub load-fault : (i : ℕ) → FaultUnless (load (site .jobs) (sharesOf plan) i ≤ lengthOf (site .bounds) i * topOf (site .processor)) (loadFault site plan i) 20
   unfolding loadFault
   load-fault i = fault-unless _ 19 (leb-true _ _, le-leb _ _)
 
-module _ (ws : List Point) (jobs : List Job) (bounds : List ℕ) (plan prices : List ℕ) where
+module _ (site : Site) (plan prices : List ℕ) where
   -- 21: a price list has an entry for each interval
   pub price-length :
-      (wrongPriceLength ws jobs bounds plan prices ≡ false)
-      ↔ ((priceIntervals prices ≡ intervalCount bounds) × (length prices ≡ 2 + 5 * intervalCount bounds))
+      (wrongPriceLength site plan prices ≡ false)
+      ↔ ((priceIntervals prices ≡ intervalCount (site .bounds)) × (length prices ≡ 2 + 5 * intervalCount (site .bounds)))
   price-length = (
     λ e.
         let (count, size) = neither _ _ e in
@@ -112,35 +104,35 @@ module _ (ws : List Point) (jobs : List Job) (bounds : List ℕ) (plan prices : 
 
   -- 22: an entry of the price list has its interval's end and a band number
   pub entry-fault : (i : ℕ)
-      → FaultUnless ((endAt prices i ≡ boundAt bounds (suc i)) × (isBandNumber ws (pricesOf prices i) ≡ true))
-      (entryFault ws jobs bounds plan prices i) 22
+      → FaultUnless ((endAt prices i ≡ boundAt (site .bounds) (suc i)) × (isBandNumber (workingOf (site .processor)) (pricesOf prices i) ≡ true))
+      (entryFault site plan prices i) 22
   unfolding entryFault
   entry-fault i =
-      fault-unless (eqb (endAt prices i) (boundAt bounds (suc i)) && isBandNumber ws (pricesOf prices i)) 21
+      fault-unless (eqb (endAt prices i) (boundAt (site .bounds) (suc i)) && isBandNumber (workingOf (site .processor)) (pricesOf prices i)) 21
       (λ e. let (end, number) = both-true _ _ e in (eqb-true _ _ end, number), λ h. rw (eq-eqb _ _ (h .0), h .1))
 
   -- 23: a price fits its interval's load
   pub price-fault : (i : ℕ)
-      → FaultUnless (fitsLoad ws (lengthOf bounds i) (load jobs (sharesOf plan) i) (pricesOf prices i) ≡ true)
-      (priceFault ws jobs bounds plan prices i) 23
+      → FaultUnless (fitsLoad (workingOf (site .processor)) (lengthOf (site .bounds) i) (load (site .jobs) (sharesOf plan) i) (pricesOf prices i) ≡ true)
+      (priceFault site plan prices i) 23
   unfolding priceFault
   price-fault i = fault-unless _ 22 (λ e. e, λ h. h)
 
   -- 24: a step's job is open in no interval of smaller price
   pub cheaper-fault : (s : ℕ)
       → FaultUnless
-      ((i : ℕ) → i < intervalCount bounds → isOpen bounds (jobOf jobs (stepAt plan s .job)) i ≡ true
+      ((i : ℕ) → i < intervalCount (site .bounds) → isOpen (site .bounds) (jobOf (site .jobs) (stepAt plan s .job)) i ≡ true
       → pricesOf prices (stepAt plan s .interval) ≤ pricesOf prices i)
-      (cheaperFault ws jobs bounds plan prices s) 24
+      (cheaperFault site plan prices s) 24
   unfolding cheaperFault
   cheaper-fault s =
       fault-when _ 23 (
-        λ e i below open-there. ltb-false _ _ (rw open-there at (someBelow-none (intervalCount bounds) cheaper e i below)),
+        λ e i below open-there. ltb-false _ _ (rw open-there at (someBelow-none (intervalCount (site .bounds)) cheaper e i below)),
         λ h. someBelow-fails _ cheaper (λ i below. shut-or-dearer i (h i below) (true-or-false (is-open i))),
       )
     where
       is-open : (i : ℕ) → Bool
-      is-open i = isOpen bounds (jobOf jobs (stepAt plan s .job)) i
+      is-open i = isOpen (site .bounds) (jobOf (site .jobs) (stepAt plan s .job)) i
 
       cheaper : (i : ℕ) → Bool
       cheaper i = is-open i && ltb (pricesOf prices i) (pricesOf prices (stepAt plan s .interval))

@@ -1,6 +1,5 @@
 -- The theorems of least energy, with nothing left to supply, and the sites that they hold of: those of valid tables.
 -- Assumes nothing.
-use mathlib.Core.Path.{_≡_}
 use mathlib.Core.List.{List}
 use Prim.Native.Nat.{ℕ, _≤_}
 use native.Mathlib.Nat.{le-of-mul-le-mul-left}
@@ -15,7 +14,7 @@ use Rattle.model.specs.Plans.{Shares, Gives}
 use Rattle.model.specs.Energy.{exactEnergy}
 use Rattle.model.specs.Prices.{PriceList, FittingPrices}
 use Rattle.model.specs.LeastEnergy.{
-  Site,
+  SoundSite,
   Certificate,
   OverfullNeverServed,
   PlansAreSchedules,
@@ -61,7 +60,7 @@ fitting-is-between ws curve length load long fits k = (
 )
 
 -- a plan with fitting prices needs at most the energy of another plan, which is a schedule too
-no-plan-needs-less : (idlePower : ℕ) (levels : List Level) (jobs : List Job) → Site idlePower levels jobs
+no-plan-needs-less : (idlePower : ℕ) (levels : List Level) (jobs : List Job) → SoundSite idlePower levels jobs
     → (bounds : List ℕ) → Bounds jobs bounds
     → (one two : Shares) → Gives (topFrequency levels) jobs bounds one → Gives (topFrequency levels) jobs bounds two
     → (prices : PriceList) → FittingPrices (working (points idlePower levels)) jobs bounds one prices
@@ -80,5 +79,5 @@ least-energy-is-one idlePower levels jobs site bounds B one two first second pri
     )
 
 -- valid tables make a site, idling without power
-pub valid-site : (levels : List Level) (jobs : List Job) → ValidLevels levels → ValidJobs jobs → Site 0 levels jobs
+pub valid-site : (levels : List Level) (jobs : List Job) → ValidLevels levels → ValidJobs jobs → SoundSite 0 levels jobs
 valid-site levels jobs valid sound = record { rising = valid-points-rise levels valid; ordered = sound .release-before-deadline }

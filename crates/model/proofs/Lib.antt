@@ -33,6 +33,8 @@ pub mod IntervalSlots
 pub mod PointNumbers
 pub mod PlansAreSchedules
 pub mod LeastEnergy
+pub mod Sites
+pub mod Hypotheses
 pub mod SiteLines
 pub mod Steps
 pub mod Faults

@@ -16,20 +16,20 @@ use Rattle.model.specs.Outcome.{Outcome, refused, answer, andThen, refus
 use Rattle.model.specs.Entries.{listOf}
 use Rattle.model.specs.Levels.{levelCount, levelEntries, wrongFrequency, wrongVoltage, faultOfLevel, levelFault, readLevels}
 use Rattle.model.specs.Jobs.{jobOf, jobCount, jobEntries, wrongWindow, wrongCycles as wrongJobCycles, faultOfJob, jobFault, readJobs}
-use Rattle.model.specs.Points.{Point, topFrequency}
-use Rattle.model.specs.Setting.{settingOf, workingOf, setting}
+use Rattle.model.specs.Processors.{workingOf, topOf, processorOf, readProcessor}
+use Rattle.model.specs.Setting.{settingOf, setting}
 use Rattle.model.specs.Search.{someBelow}
-use Rattle.model.specs.Intervals.{boundsOf, intervalCount, boundAt, lengthOf, isOpen, openPairs}
+use Rattle.model.specs.Intervals.{intervalCount, boundAt, lengthOf, isOpen}
+use Rattle.model.specs.Sites.{Site, siteOf, readSite}
 use Rattle.model.specs.Windows.{Window, spareOf, earliestOverfull, spare}
 use Rattle.model.specs.Plans.{load}
 use Rattle.model.specs.Prices.{isBandNumber, fitsLoad}
-use Rattle.model.specs.Steps.{planIntervals, stepCount, stepAt, wrongPlanLength, walk, sharesOf}
+use Rattle.model.specs.Steps.{planIntervals, stepCount, stepAt, wrongPlanLength, walk, jobSum, sharesOf}
 use Rattle.model.specs.PriceBytes.{endAt, pricesOf}
 use Rattle.model.specs.Checking.{
   wrongCell,
   wrongCycles,
   stepFault,
-  jobSum,
   jobSumFault,
   loadFault,
   fitting,
@@ -39,9 +39,10 @@ use Rattle.model.specs.Checking.{
   cheaperFault,
   pricing,
   figureOf,
+  checkFor,
   check,
 }
-use Rattle.model.specs.Planning.{PlanOutcome, refusal, afterReading, unlessOverfull, wants, planning}
+use Rattle.model.specs.Planning.{PlanOutcome, refusal, afterReading, unlessOverfull, wants, planLength, priceLength, shareCount, planFor, planning}
 
 -- A fault number is 0, for none, or one of the numbers.
 abbrev FaultBy : (numbers : ℕ → Type 0) → ℕ → Type 0
@@ -117,30 +118,36 @@ jobs-by bytes =
     (by-entries (From 6 10) 0 (jobCount bytes) (jobFault (jobEntries bytes)) (λ j. job-fault _)
     (by-answer (From 6 10) (jobEntries bytes)))))
 
+processor-by : (bytes : List ℕ) → RefusesBy (From 1 5) (readProcessor bytes)
+processor-by bytes = by-then (From 1 5) (readLevels bytes) _ (levels-by bytes) λ levels. by-answer (From 1 5) (processorOf levels)
+
 pub setting-by : (levels : List ℕ) (size load : ℕ) → RefusesBy (λ n. From 1 5 n ⊎ From 25 26 n) (setting levels size load)
 unfolding setting
 setting-by levels size load =
     let numbers : ℕ → Type 0 = λ n. From 1 5 n ⊎ From 25 26 n in
-    by-then numbers (readLevels levels) _ (widen (λ n low. inl low) (levels-by levels)) λ read.
+    by-then numbers (readProcessor levels) _ (widen (λ n low. inl low) (processor-by levels)) λ processor.
     by-when numbers (not (leb 1 size && leb size maxDeadline)) 25 (inr (omega arith))
-    (by-when numbers (ltb (size * topFrequency read) load) 26 (inr (omega arith))
-    (by-answer numbers (settingOf (workingOf read) size load)))
+    (by-when numbers (ltb (size * topOf processor) load) 26 (inr (omega arith))
+    (by-answer numbers (settingOf (workingOf processor) size load)))
 
-module _ (levels jobs : List ℕ) (past : ℕ → Type 0) where
-  levels-then : RefusesBy (λ n. From 1 10 n ⊎ past n) (readLevels levels)
-  levels-then = widen (λ n low. inl (omega (arith, low))) (levels-by levels)
+pub site-by : (levels jobs : List ℕ) → RefusesBy (From 1 10) (readSite levels jobs)
+unfolding readSite
+site-by levels jobs =
+    by-then (From 1 10) (readLevels levels) _ (widen (λ n low. omega (arith, low)) (levels-by levels)) λ read.
+    by-then (From 1 10) (readJobs jobs) _ (widen (λ n low. omega (arith, low)) (jobs-by jobs)) λ own.
+    by-answer (From 1 10) (siteOf read own)
 
-  jobs-then : RefusesBy (λ n. From 1 10 n ⊎ past n) (readJobs jobs)
-  jobs-then = widen (λ n low. inl (omega (arith, low))) (jobs-by jobs)
+-- an operation that reads a site refuses as reading does, or by its own numbers
+site-then : (levels jobs : List ℕ) (past : ℕ → Type 0) → RefusesBy (λ n. From 1 10 n ⊎ past n) (readSite levels jobs)
+site-then levels jobs past = widen (λ n low. inl low) (site-by levels jobs)
 
 pub spare-by : (levels jobs : List ℕ) (start end : ℕ) → RefusesBy (λ n. From 1 10 n ⊎ From 27 27 n) (spare levels jobs start end)
 unfolding spare
 spare-by levels jobs start end =
     let numbers : ℕ → Type 0 = λ n. From 1 10 n ⊎ From 27 27 n in
-    by-then numbers (readLevels levels) _ (levels-then levels jobs (From 27 27)) λ read.
-    by-then numbers (readJobs jobs) _ (jobs-then levels jobs (From 27 27)) λ own.
+    by-then numbers (readSite levels jobs) _ (site-then levels jobs (From 27 27)) λ site.
     by-when numbers (leb end start || ltb maxDeadline end) 27 (inr (omega arith))
-    (by-answer numbers (spareOf (topFrequency read) own start end))
+    (by-answer numbers (spareOf (topOf (site .processor)) (site .jobs) start end))
 
 pub walk-by : (plan : List ℕ) → RefusesBy (From 15 15) (walk plan)
 unfolding walk
@@ -149,67 +156,66 @@ walk-by plan = by-when (From 15 15) (wrongPlanLength plan) 15 (omega arith) (by-
 abbrev CheckNumbers : ℕ → Type 0
 CheckNumbers n = From 1 10 n ⊎ From 15 24 n
 
-module _ (top : ℕ) (jobs : List Job) (bounds plan : List ℕ) where
-  step-fault : (s : ℕ) → FaultBy CheckNumbers (stepFault top jobs bounds plan s)
+module _ (site : Site) (plan : List ℕ) where
+  step-fault : (s : ℕ) → FaultBy CheckNumbers (stepFault site plan s)
   unfolding stepFault
   step-fault s =
-      fault-cond CheckNumbers (wrongCell top jobs bounds plan s) 17 (cond (wrongCycles top jobs bounds plan s) 18 0) (inr (omega arith))
-      (fault-cond CheckNumbers (wrongCycles top jobs bounds plan s) 18 0 (inr (omega arith)) (inl refl))
+      fault-cond CheckNumbers (wrongCell site plan s) 17 (cond (wrongCycles site plan s) 18 0) (inr (omega arith))
+      (fault-cond CheckNumbers (wrongCycles site plan s) 18 0 (inr (omega arith)) (inl refl))
 
-  job-sum-fault : (j : ℕ) → FaultBy CheckNumbers (jobSumFault top jobs bounds plan j)
+  job-sum-fault : (j : ℕ) → FaultBy CheckNumbers (jobSumFault site plan j)
   unfolding jobSumFault
-  job-sum-fault j = fault-unless CheckNumbers (eqb (jobSum top jobs bounds plan j) (jobOf jobs j .cycles)) 19 (inr (omega arith))
+  job-sum-fault j = fault-unless CheckNumbers (eqb (jobSum plan j) (jobOf (site .jobs) j .cycles)) 19 (inr (omega arith))
 
-  load-fault : (i : ℕ) → FaultBy CheckNumbers (loadFault top jobs bounds plan i)
+  load-fault : (i : ℕ) → FaultBy CheckNumbers (loadFault site plan i)
   unfolding loadFault
-  load-fault i = fault-unless CheckNumbers (leb (load jobs (sharesOf plan) i) (lengthOf bounds i * top)) 20 (inr (omega arith))
+  load-fault i = fault-unless CheckNumbers (leb (load (site .jobs) (sharesOf plan) i) (lengthOf (site .bounds) i * topOf (site .processor))) 20 (inr (omega arith))
 
-  fitting-by : {A : Type 0} {next : Outcome A} → RefusesBy CheckNumbers next → RefusesBy CheckNumbers (fitting top jobs bounds plan next)
+  fitting-by : {A : Type 0} {next : Outcome A} → RefusesBy CheckNumbers next → RefusesBy CheckNumbers (fitting site plan next)
   unfolding fitting
   fitting-by rest =
       by-when CheckNumbers (wrongPlanLength plan) 15 (inr (omega arith))
-      (by-when CheckNumbers (not (eqb (planIntervals plan) (intervalCount bounds))) 16 (inr (omega arith))
-      (by-entries CheckNumbers 0 (stepCount plan) (stepFault top jobs bounds plan) step-fault
-      (by-entries CheckNumbers 0 (length jobs) (jobSumFault top jobs bounds plan) job-sum-fault
-      (by-entries CheckNumbers 0 (intervalCount bounds) (loadFault top jobs bounds plan) load-fault
+      (by-when CheckNumbers (not (eqb (planIntervals plan) (intervalCount (site .bounds)))) 16 (inr (omega arith))
+      (by-entries CheckNumbers 0 (stepCount plan) (stepFault site plan) step-fault
+      (by-entries CheckNumbers 0 (length (site .jobs)) (jobSumFault site plan) job-sum-fault
+      (by-entries CheckNumbers 0 (intervalCount (site .bounds)) (loadFault site plan) load-fault
       rest))))
 
-module _ (ws : List Point) (jobs : List Job) (bounds plan prices : List ℕ) where
-  entry-fault : (i : ℕ) → FaultBy CheckNumbers (entryFault ws jobs bounds plan prices i)
+module _ (site : Site) (plan prices : List ℕ) where
+  entry-fault : (i : ℕ) → FaultBy CheckNumbers (entryFault site plan prices i)
   unfolding entryFault
   entry-fault i =
-      fault-unless CheckNumbers (eqb (endAt prices i) (boundAt bounds (suc i)) && isBandNumber ws (pricesOf prices i)) 22 (inr (omega arith))
+      fault-unless CheckNumbers (eqb (endAt prices i) (boundAt (site .bounds) (suc i)) && isBandNumber (workingOf (site .processor)) (pricesOf prices i)) 22 (inr (omega arith))
 
-  price-fault : (i : ℕ) → FaultBy CheckNumbers (priceFault ws jobs bounds plan prices i)
+  price-fault : (i : ℕ) → FaultBy CheckNumbers (priceFault site plan prices i)
   unfolding priceFault
   price-fault i =
-      fault-unless CheckNumbers (fitsLoad ws (lengthOf bounds i) (load jobs (sharesOf plan) i) (pricesOf prices i)) 23 (inr (omega arith))
+      fault-unless CheckNumbers (fitsLoad (workingOf (site .processor)) (lengthOf (site .bounds) i) (load (site .jobs) (sharesOf plan) i) (pricesOf prices i)) 23 (inr (omega arith))
 
-  cheaper-fault : (s : ℕ) → FaultBy CheckNumbers (cheaperFault ws jobs bounds plan prices s)
+  cheaper-fault : (s : ℕ) → FaultBy CheckNumbers (cheaperFault site plan prices s)
   unfolding cheaperFault
   cheaper-fault s =
       fault-cond CheckNumbers
-      (someBelow (intervalCount bounds)
-      (λ i. isOpen bounds (jobOf jobs (stepAt plan s .job)) i && ltb (pricesOf prices i) (pricesOf prices (stepAt plan s .interval))))
+      (someBelow (intervalCount (site .bounds))
+      (λ i. isOpen (site .bounds) (jobOf (site .jobs) (stepAt plan s .job)) i && ltb (pricesOf prices i) (pricesOf prices (stepAt plan s .interval))))
       24 0 (inr (omega arith)) (inl refl)
 
-  pricing-by : {A : Type 0} {next : Outcome A} → RefusesBy CheckNumbers next → RefusesBy CheckNumbers (pricing ws jobs bounds plan prices next)
+  pricing-by : {A : Type 0} {next : Outcome A} → RefusesBy CheckNumbers next → RefusesBy CheckNumbers (pricing site plan prices next)
   unfolding pricing
   pricing-by rest =
-      by-when CheckNumbers (wrongPriceLength ws jobs bounds plan prices) 21 (inr (omega arith))
-      (by-entries CheckNumbers 0 (intervalCount bounds) (entryFault ws jobs bounds plan prices) entry-fault
-      (by-entries CheckNumbers 0 (intervalCount bounds) (priceFault ws jobs bounds plan prices) price-fault
-      (by-entries CheckNumbers 0 (stepCount plan) (cheaperFault ws jobs bounds plan prices) cheaper-fault
+      by-when CheckNumbers (wrongPriceLength site plan prices) 21 (inr (omega arith))
+      (by-entries CheckNumbers 0 (intervalCount (site .bounds)) (entryFault site plan prices) entry-fault
+      (by-entries CheckNumbers 0 (intervalCount (site .bounds)) (priceFault site plan prices) price-fault
+      (by-entries CheckNumbers 0 (stepCount plan) (cheaperFault site plan prices) cheaper-fault
       rest)))
 
 pub check-by : (levels jobs plan prices : List ℕ) → RefusesBy CheckNumbers (check levels jobs plan prices)
-unfolding check
+unfolding check checkFor
 check-by levels jobs plan prices =
-    by-then CheckNumbers (readLevels levels) _ (levels-then levels jobs (From 15 24)) λ read.
-    by-then CheckNumbers (readJobs jobs) _ (jobs-then levels jobs (From 15 24)) λ own.
-    fitting-by (topFrequency read) own (boundsOf own) plan
-    (pricing-by (workingOf read) own (boundsOf own) plan prices
-    (by-answer CheckNumbers (figureOf read own plan)))
+    by-then CheckNumbers (readSite levels jobs) _ (site-then levels jobs (From 15 24)) λ site.
+    fitting-by site plan
+    (pricing-by site plan prices
+    (by-answer CheckNumbers (figureOf site plan)))
 
 -- planning's own form of outcome
 abbrev PlanNumbers : ℕ → Type 0
@@ -223,10 +229,10 @@ after-reading : {A : Type 0} (first : Outcome A) (next : A → PlanOutcome) → 
 after-reading (refused own at) next by rest = λ number place e. let same : own ≡ number = cc e in rw same at (by own at refl)
 after-reading (answer a) next by rest = rest a
 
-unless-overfull : (top : ℕ) (jobs : List Job) (found : Option Window) {next : PlanOutcome} → PlanRefusesBy next
-    → PlanRefusesBy (unlessOverfull top jobs found next)
-unless-overfull top jobs (some window) rest = λ number place e. let z : _≡_ {A = ℕ} 0 1 = cc e in absurd (omega (arith, z))
-unless-overfull top jobs none rest = rest
+unless-overfull : (site : Site) (found : Option Window) {next : PlanOutcome} → PlanRefusesBy next
+    → PlanRefusesBy (unlessOverfull site found next)
+unless-overfull site (some window) rest = λ number place e. let z : _≡_ {A = ℕ} 0 1 = cc e in absurd (omega (arith, z))
+unless-overfull site none rest = rest
 
 wanted : (own wants-length room : ℕ) {next : PlanOutcome} → PlanNumbers own → PlanRefusesBy next → PlanRefusesBy (wants own wants-length room next)
 wanted own length room {next} by rest = go (ltb room length)
@@ -236,12 +242,11 @@ wanted own length room {next} by rest = go (ltb room length)
     go false = rest
 
 pub planning-by : (levels jobs : List ℕ) (planRoom priceRoom shareRoom : ℕ) → PlanRefusesBy (planning levels jobs planRoom priceRoom shareRoom)
-unfolding planning
+unfolding planning planFor
 planning-by levels jobs planRoom priceRoom shareRoom =
-    after-reading (readLevels levels) _ (levels-then levels jobs (From 12 14)) λ read.
-    after-reading (readJobs jobs) _ (jobs-then levels jobs (From 12 14)) λ own.
-    unless-overfull (topFrequency read) own (earliestOverfull (topFrequency read) own)
-    (wanted 12 (4 + 6 * openPairs (boundsOf own) own) planRoom (inr (omega arith))
-    (wanted 13 (2 + 5 * intervalCount (boundsOf own)) priceRoom (inr (omega arith))
-    (wanted 14 (length own * intervalCount (boundsOf own)) shareRoom (inr (omega arith))
+    after-reading (readSite levels jobs) _ (site-then levels jobs (From 12 14)) λ site.
+    unless-overfull site (earliestOverfull (topOf (site .processor)) (site .jobs))
+    (wanted 12 (planLength site) planRoom (inr (omega arith))
+    (wanted 13 (priceLength site) priceRoom (inr (omega arith))
+    (wanted 14 (shareCount site) shareRoom (inr (omega arith))
     (λ number place e. let z : _≡_ {A = ℕ} 0 1 = cc e in absurd (omega (arith, z))))))

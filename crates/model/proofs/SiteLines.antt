@@ -18,11 +18,23 @@ use Rattle.model.specs.Windows.{cyclesInside, spareOf, isOverfull, overf
 use Rattle.model.specs.Plans.{load}
 use Rattle.model.specs.Energy.{bandCycles, intervalEnergy, exactEnergy, bandTotal, energyFigure}
 use Rattle.model.specs.Prices.{fitsLoad}
-use Rattle.model.specs.Steps.{stepAt, sharesOf}
+use Rattle.model.specs.Steps.{stepAt, jobSum, sharesOf}
 use Rattle.model.specs.PriceBytes.{pricesOf}
-use Rattle.model.specs.Checking.{stepFault, jobSum, jobSumFault, loadFault, fitting, entryFault, priceFault, cheaperFault, pricing, check}
-use Rattle.model.specs.Planning.{planning}
+use Rattle.model.specs.Sites.{readSite}
+use Rattle.model.specs.Checking.{
+  stepFault,
+  jobSumFault,
+  loadFault,
+  fitting,
+  entryFault,
+  priceFault,
+  cheaperFault,
+  pricing,
+  checkFor,
+  check,
+}
+use Rattle.model.specs.Planning.{planFor, planning}
 
 pub lines-hold : (allHold pLines ≡ true) × (allHold workedLines ≡ true)
-unfolding allHold holds pLines workedLines byEntryFrom numberAt bytesOf listOf encodeEach readLevels levelAt faultOfLevel encodeLevels readJobs jobAt faultOfJob encodeJobs sum product someBelow firstFrom leastBelow points drops dropped selectFrom working gap rise scale price bandOf settingOf setting insertTime boundsOf lengthOf cyclesInside spareOf isOverfull overfullTo earliestStart earliestEnd earliestOverfull spare load bandCycles intervalEnergy exactEnergy bandTotal energyFigure isOpen fitsLoad stepAt sharesOf pricesOf stepFault jobSum jobSumFault loadFault fitting entryFault priceFault cheaperFault pricing check openCount openPairs planning
+unfolding allHold holds pLines workedLines byEntryFrom numberAt bytesOf listOf encodeEach readLevels levelAt faultOfLevel encodeLevels readJobs jobAt faultOfJob encodeJobs sum product someBelow firstFrom leastBelow points drops dropped selectFrom working gap rise scale price bandOf settingOf setting insertTime boundsOf lengthOf cyclesInside spareOf isOverfull overfullTo earliestStart earliestEnd earliestOverfull spare load bandCycles intervalEnergy exactEnergy bandTotal energyFigure isOpen fitsLoad stepAt sharesOf pricesOf stepFault jobSum jobSumFault loadFault fitting entryFault priceFault cheaperFault pricing readSite checkFor check openCount openPairs planFor planning
 lines-hold = (refl, refl)

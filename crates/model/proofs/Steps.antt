@@ -16,8 +16,7 @@ use Rattle.model.specs.declared.Job.{Job}
 use Rattle.model.specs.Limits.{maxJobs}
 use Rattle.model.specs.Sum.{sum, onlyIf}
 use Rattle.model.specs.Plans.{load}
-use Rattle.model.specs.Steps.{cellOf, stepCount, cellAt, stepAt, sharesOf}
-use Rattle.model.specs.Checking.{jobSum}
+use Rattle.model.specs.Steps.{cellOf, stepCount, cellAt, stepAt, jobSum, sharesOf}
 use Rattle.model.proofs.Numbers.{lt-or-le, true-or-false, both-true}
 use Rattle.model.proofs.Sum.{sum-cong, sum-swap, sum-pos, sum-only, sum-hit, sum-term}
 use Rattle.model.proofs.SumMore.{onlyIf-pos}
@@ -95,10 +94,9 @@ module _ (plan : List ℕ) where
 
   -- a job's shares over all intervals are the cycles of its steps
   pub shares-of-job : (count : ℕ) → ((s : ℕ) → s < stepCount plan → stepAt plan s .interval < count)
-      → (top : ℕ) (jobs : List Job) (bounds : List ℕ) (j : ℕ)
-      → sum count (λ i. sharesOf plan i j) ≡ jobSum top jobs bounds plan j
+      → (j : ℕ) → sum count (λ i. sharesOf plan i j) ≡ jobSum plan j
   unfolding sharesOf jobSum
-  shares-of-job count inside top jobs bounds j =
+  shares-of-job count inside j =
       sum-swap count (stepCount plan)
       (λ i s. onlyIf (eqb (stepAt plan s .interval) i && eqb (stepAt plan s .job) j) (stepAt plan s .cycles))
       ∙ sum-cong (stepCount plan) (λ s below. simp onlyIf-both (sum-hit count (stepAt plan s .interval) _ (inside s below)))
@@ -113,9 +111,8 @@ module _ (plan : List ℕ) where
       ∙ sum-cong (stepCount plan) (λ s below. simp onlyIf-swap (sum-hit (length jobs) (stepAt plan s .job) _ (inside s below)))
 
   -- a step's cycles are among its job's
-  pub step-in-job-sum : (top : ℕ) (jobs : List Job) (bounds : List ℕ) (s : ℕ) → s < stepCount plan
-      → stepAt plan s .cycles ≤ jobSum top jobs bounds plan (stepAt plan s .job)
+  pub step-in-job-sum : (s : ℕ) → s < stepCount plan → stepAt plan s .cycles ≤ jobSum plan (stepAt plan s .job)
   unfolding jobSum
-  step-in-job-sum top jobs bounds s below =
+  step-in-job-sum s below =
       rw (eq-eqb (stepAt plan s .job) _ refl)
       at (sum-term (stepCount plan) (λ r. onlyIf (eqb (stepAt plan r .job) (stepAt plan s .job)) (stepAt plan r .cycles)) s below)

@@ -149,6 +149,18 @@ pub sum-next : (n : ℕ) (f : ℕ → ℕ) → sum (n + 1) f ≡ sum n f + f n
 unfolding sum
 sum-next n f = rw (add-one n)
 
+-- a loop that sums: before its first turn, after one more and after the last
+module _ (f : ℕ → ℕ) where
+  pub sum-none : 0 ≡ sum 0 f
+  unfolding sum
+  sum-none = refl
+
+  pub sum-more : (i total value : ℕ) → total ≡ sum i f → value ≡ f i → total + value ≡ sum (i + 1) f
+  sum-more i total value before is-next = omega (arith, sum-next i f)
+
+  pub sum-whole : (i count n : ℕ) → i ≤ count → count ≤ i → n ≡ count → (total : ℕ) → total ≡ sum i f → total ≡ sum n f
+  sum-whole i count n low high counted total e = let all : n ≡ i = omega arith in rw all e
+
 -- a sum of sums over consecutive stretches is one sum
 pub sum-stretches : (n : ℕ) (start : ℕ → ℕ) (f : ℕ → ℕ) → start 0 ≡ 0 → (size : ℕ → ℕ)
     → ((i : ℕ) → i < n → start (suc i) ≡ start i + size i)

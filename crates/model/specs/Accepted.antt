@@ -6,22 +6,20 @@ use mathlib.Core.Bool.{true}
 use mathlib.Core.Logic.{_↔_}
 use mathlib.Core.List.{List}
 use lib.ListN.{length}
-use Rattle.model.specs.declared.Level.{Level}
 use Rattle.model.specs.declared.Job.{Job}
 use Rattle.model.specs.Outcome.{answer}
-use Rattle.model.specs.Levels.{readLevels}
-use Rattle.model.specs.Jobs.{jobOf, readJobs}
-use Rattle.model.specs.Points.{topFrequency}
+use Rattle.model.specs.Jobs.{jobOf}
 use Rattle.model.specs.Bands.{bandCount, scale}
-use Rattle.model.specs.Setting.{workingOf}
-use Rattle.model.specs.Intervals.{boundsOf, intervalCount, boundAt, isOpen}
+use Rattle.model.specs.Processors.{workingOf, topOf}
+use Rattle.model.specs.Intervals.{intervalCount, boundAt, isOpen}
+use Rattle.model.specs.Sites.{Site, ValidSite}
 use Rattle.model.specs.Plans.{Gives}
 use Rattle.model.specs.Energy.{exactEnergy}
 use Rattle.model.specs.Prices.{FittingPrices}
 use Rattle.model.specs.Schedules.{Schedule, Serves, slotPowers}
 use Rattle.model.specs.Steps.{planIntervals, stepCount, cellAt, stepAt, sharesOf}
 use Rattle.model.specs.PriceBytes.{priceIntervals, endAt, pricesOf}
-use Rattle.model.specs.Checking.{check, figureOf}
+use Rattle.model.specs.Checking.{checkFor, figureOf}
 
 -- The bytes are a plan for the jobs over the bounds: every step gives an open pair some cycles, and no pair has two steps.
 pub record IsPlan (jobs : List Job) (bounds : List ℕ) (plan : List ℕ) : Type 0 where
@@ -40,40 +38,43 @@ pub record IsPriceList (bounds : List ℕ) (prices : List ℕ) : Type 0 where
   pub ends : (i : ℕ) → i < intervalCount bounds → endAt prices i ≡ boundAt bounds (suc i)
 
 -- The plan gives each job exactly its cycles between release and deadline, and the prices fit.
-pub record Accepted (levels : List Level) (jobs : List Job) (plan prices : List ℕ) : Type 0 where
-  pub is-plan : IsPlan jobs (boundsOf jobs) plan
-  pub gives : Gives (topFrequency levels) jobs (boundsOf jobs) (sharesOf plan)
-  pub is-price-list : IsPriceList (boundsOf jobs) prices
-  pub fitting : FittingPrices (workingOf levels) jobs (boundsOf jobs) (sharesOf plan) (pricesOf prices)
+pub record Accepted (site : Site) (plan prices : List ℕ) : Type 0 where
+  pub is-plan : IsPlan (site .jobs) (site .bounds) plan
+  pub gives : Gives (topOf (site .processor)) (site .jobs) (site .bounds) (sharesOf plan)
+  pub is-price-list : IsPriceList (site .bounds) prices
+  pub fitting : FittingPrices (workingOf (site .processor)) (site .jobs) (site .bounds) (sharesOf plan) (pricesOf prices)
 
--- T8. Whatever tables were read: the check accepts with a figure exactly when the plan is such a plan, the prices fit,
--- and the figure is the plan's.
+-- T8. Whatever the site: the check accepts with a figure exactly when the plan is such a plan, the prices fit, and the
+-- figure is the plan's.
 abbrev pub CheckAccepts : Type 0
 CheckAccepts =
-    (levelBytes jobBytes plan prices : List ℕ) (levels : List Level) (jobs : List Job)
-    → readLevels levelBytes ≡ answer levels → readJobs jobBytes ≡ answer jobs
-    → (figure : ℕ)
-    → (check levelBytes jobBytes plan prices ≡ answer figure)
-    ↔ (Accepted levels jobs plan prices × (figure ≡ figureOf levels jobs plan))
+    (site : Site) (plan prices : List ℕ) (figure : ℕ)
+    → (checkFor site plan prices ≡ answer figure) ↔ (Accepted site plan prices × (figure ≡ figureOf site plan))
 
--- The check accepts only tables that are read.
-abbrev pub CheckReads : Type 0
-CheckReads =
-    (levelBytes jobBytes plan prices : List ℕ) (figure : ℕ) → check levelBytes jobBytes plan prices ≡ answer figure
-    → (levels : List Level) × (jobs : List Job) × (readLevels levelBytes ≡ answer levels) × (readJobs jobBytes ≡ answer jobs)
+-- A schedule over the levels of a site, for its jobs; and its energy multiplied by q, what idling draws with it.
+abbrev pub ScheduleFor : Site → Type 0
+ScheduleFor site = Schedule (site .processor .levels) (site .jobs)
+
+abbrev pub powersFor : (site : Site) → ScheduleFor site → ℕ
+powersFor site schedule = slotPowers (site .processor .idlePower) schedule
+
+-- The exact energy of a plan, multiplied out by all gaps of the site's bands.
+abbrev pub exactFor : Site → (plan : List ℕ) → ℕ
+exactFor site plan = exactEnergy (workingOf (site .processor)) (site .jobs) (site .bounds) (sharesOf plan)
+
+abbrev pub gapsOf : Site → ℕ
+gapsOf site = scale (workingOf (site .processor))
 
 -- Accepted means that no schedule over the levels that meets all deadlines, for any q, has less than the plan's exact
 -- energy, and that the figure answered is at most the exact energy and less than m below it.
-pub record LeastPlan (levels : List Level) (jobs : List Job) (plan : List ℕ) (figure : ℕ) : Type 0 where
-  pub least : (schedule : Schedule levels jobs) → Serves schedule
-      → schedule .q * exactEnergy (workingOf levels) jobs (boundsOf jobs) (sharesOf plan) ≤ scale (workingOf levels) * slotPowers 0 schedule
-  pub figure-low : scale (workingOf levels) * figure ≤ exactEnergy (workingOf levels) jobs (boundsOf jobs) (sharesOf plan)
-  pub figure-high : exactEnergy (workingOf levels) jobs (boundsOf jobs) (sharesOf plan)
-      < scale (workingOf levels) * (figure + bandCount (workingOf levels))
+pub record LeastPlan (site : Site) (plan : List ℕ) (figure : ℕ) : Type 0 where
+  pub least : (schedule : ScheduleFor site) → Serves schedule
+      → schedule .q * exactFor site plan ≤ gapsOf site * powersFor site schedule
+  pub figure-low : gapsOf site * figure ≤ exactFor site plan
+  pub figure-high : exactFor site plan < gapsOf site * (figure + bandCount (workingOf (site .processor)))
 
 abbrev pub AcceptedIsLeast : Type 0
 AcceptedIsLeast =
-    (levelBytes jobBytes plan prices : List ℕ) (levels : List Level) (jobs : List Job)
-    → readLevels levelBytes ≡ answer levels → readJobs jobBytes ≡ answer jobs
-    → (figure : ℕ) → check levelBytes jobBytes plan prices ≡ answer figure
-    → LeastPlan levels jobs plan figure
+    (site : Site) → ValidSite site
+    → (plan prices : List ℕ) (figure : ℕ) → checkFor site plan prices ≡ answer figure
+    → LeastPlan site plan figure

@@ -1,6 +1,6 @@
 -- Bands, gaps and prices over the working points (document 01, "Working levels").
 -- Band k of document 01, counted from 1, is band k − 1 here: the step from working point k − 1 to working point k.
-use Prim.Native.Nat.{ℕ, zero, suc, _+_, _-_, _*_, _<_, _≤_}
+use Prim.Native.Nat.{ℕ, suc, _+_, _-_, _*_, _<_, _≤_}
 use mathlib.Core.Path.{_≡_}
 use mathlib.Core.Bool.{cond}
 use mathlib.Core.List.{List}

@@ -1,6 +1,6 @@
 -- Little-endian numbers in a list of bytes. A byte list has numbers below 256; a place counts from 0.
 use Prim.Native.Nat.{ℕ, zero, suc, _+_, _*_, _/_, _%_, _<_}
-use mathlib.Core.List.{List, [], _∷_, _++_}
+use mathlib.Core.List.{List, [], _∷_}
 use lib.ListN.{getD}
 
 -- Every element is a byte.

@@ -1,5 +1,5 @@
 -- Energy of a plan (document 01, "Energy"). Idling draws powerAt ws 0, which is 0 in document 01.
-use Prim.Native.Nat.{ℕ, suc, _+_, _-_, _*_, _/_, min}
+use Prim.Native.Nat.{ℕ, _+_, _-_, _*_, _/_, min}
 use mathlib.Core.List.{List}
 use Rattle.model.specs.declared.Job.{Job}
 use Rattle.model.specs.Sum.{sum}

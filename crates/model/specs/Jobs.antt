@@ -1,5 +1,5 @@
 -- The job table: reading it, what makes it valid, and how it is encoded (document 01, "Tables in bytes", "Reading jobs").
-use Prim.Native.Nat.{ℕ, zero, suc, _+_, _*_, _<_, _≤_}
+use Prim.Native.Nat.{ℕ, _+_, _*_, _<_, _≤_}
 use mathlib.Core.Path.{_≡_}
 use mathlib.Core.Logic.{_↔_}
 use mathlib.Core.Bool.{Bool, not, cond, _||_, _&&_}

@@ -21,7 +21,7 @@ use Rattle.model.specs.CarriedOut.{slotsPerTick, slotOf}
 
 -- What the theory asks of a site, whatever its size: levels that rise in frequency and power above idling, and jobs
 -- released before their deadlines.
-pub record Site (idlePower : ℕ) (levels : List Level) (jobs : List Job) : Type 0 where
+pub record SoundSite (idlePower : ℕ) (levels : List Level) (jobs : List Job) : Type 0 where
   pub rising : RisingPoints (points idlePower levels)
   pub ordered : (j : ℕ) → j < length jobs → jobOf jobs j .release < jobOf jobs j .deadline
 
@@ -29,7 +29,7 @@ pub record Site (idlePower : ℕ) (levels : List Level) (jobs : List Job) : Type
 -- whatever whole number q of slots it cuts a tick into. Both sides are multiplied out by all gaps and by q.
 abbrev pub Certificate : Type 0
 Certificate =
-    (idlePower : ℕ) (levels : List Level) (jobs : List Job) → Site idlePower levels jobs
+    (idlePower : ℕ) (levels : List Level) (jobs : List Job) → SoundSite idlePower levels jobs
     → (bounds : List ℕ) → Bounds jobs bounds
     → (shares : Shares) → Gives (topFrequency levels) jobs bounds shares
     → (prices : PriceList) → FittingPrices (working (points idlePower levels)) jobs bounds shares prices
@@ -40,7 +40,7 @@ Certificate =
 -- T4. Where a window is overfull, no schedule meets all deadlines.
 abbrev pub OverfullNeverServed : Type 0
 OverfullNeverServed =
-    (idlePower : ℕ) (levels : List Level) (jobs : List Job) → Site idlePower levels jobs
+    (idlePower : ℕ) (levels : List Level) (jobs : List Job) → SoundSite idlePower levels jobs
     → (start end : ℕ) → isOverfull (topFrequency levels) jobs start end ≡ true
     → (schedule : Schedule levels jobs) → Serves schedule → ⊥
 
@@ -56,7 +56,7 @@ pub record CarriedOut (idlePower : ℕ) (levels : List Level) (jobs : List Job) 
 
 abbrev pub PlansAreSchedules : Type 0
 PlansAreSchedules =
-    (idlePower : ℕ) (levels : List Level) (jobs : List Job) → Site idlePower levels jobs
+    (idlePower : ℕ) (levels : List Level) (jobs : List Job) → SoundSite idlePower levels jobs
     → (bounds : List ℕ) → Bounds jobs bounds
     → (shares : Shares) → Gives (topFrequency levels) jobs bounds shares
     → CarriedOut idlePower levels jobs bounds shares
@@ -78,7 +78,7 @@ FittingIsBetween =
 -- Two plans for one set of tables that both have fitting prices have equal exact energy.
 abbrev pub LeastEnergyIsOne : Type 0
 LeastEnergyIsOne =
-    (idlePower : ℕ) (levels : List Level) (jobs : List Job) → Site idlePower levels jobs
+    (idlePower : ℕ) (levels : List Level) (jobs : List Job) → SoundSite idlePower levels jobs
     → (bounds : List ℕ) → Bounds jobs bounds
     → (one two : Shares) → Gives (topFrequency levels) jobs bounds one → Gives (topFrequency levels) jobs bounds two
     → (prices : PriceList) → FittingPrices (working (points idlePower levels)) jobs bounds one prices

@@ -10,8 +10,10 @@ pub mod Sum
 pub mod Search
 pub mod Points
 pub mod Bands
+pub mod Processors
 pub mod Setting
 pub mod Intervals
+pub mod Sites
 pub mod Windows
 pub mod Plans
 pub mod Energy
@@ -25,4 +27,5 @@ pub mod Checking
 pub mod Accepted
 pub mod Planning
 pub mod Demands
+pub mod Hypotheses
 pub mod SiteLines

@@ -3,13 +3,12 @@ use Prim.Native.Nat.{ℕ, zero, suc, _-_, _*_}
 use mathlib.Core.Bool.{not, _&&_}
 use mathlib.Core.List.{List}
 use lib.Dec.{ltb, leb}
-use Rattle.model.specs.declared.Level.{Level}
 use Rattle.model.specs.Limits.{maxDeadline}
 use Rattle.model.specs.Outcome.{Outcome, answer, refuseWhen, andThen}
 use Rattle.model.specs.Search.{firstBelow}
-use Rattle.model.specs.Levels.{readLevels}
-use Rattle.model.specs.Points.{Point, points, working, topFrequency}
+use Rattle.model.specs.Points.{Point}
 use Rattle.model.specs.Bands.{bandCount, frequencyOf, gap}
+use Rattle.model.specs.Processors.{Processor, workingOf, topOf, readProcessor}
 
 -- The clock stays extra / gap ticks on working level `band`, first, and the remaining time on the one below.
 -- The band counts from 1, as in document 01; zeros for load 0, which idles.
@@ -30,14 +29,15 @@ settingOf ws length (suc cycles) =
     let k : ℕ = bandOf ws length load in
     record { band = suc k; extra = load - length * frequencyOf ws k; gap = gap ws k }
 
--- The working points of a level table. Idling draws no power.
-abbrev pub workingOf : List Level → List Point
-workingOf levels = working (points 0 levels)
+-- 25: length not 1 to 1,000,000. 26: load above length × top frequency.
+abbrev pub settingFor : Processor → (length load : ℕ) → Outcome Setting
+settingFor processor length load =
+    refuseWhen (not (leb 1 length && leb length maxDeadline)) 25
+    (refuseWhen (ltb (length * topOf processor) load) 26
+    (answer (settingOf (workingOf processor) length load)))
 
--- Setting of one interval. Levels. 25: length not 1 to 1,000,000. 26: load above length × top frequency.
+-- Setting of one interval. Levels, then 25 and 26.
 unfoldable pub setting : List ℕ → (length load : ℕ) → Outcome Setting
 setting levelBytes length load =
-    andThen (readLevels levelBytes) λ levels.
-    refuseWhen (not (leb 1 length && leb length maxDeadline)) 25
-    (refuseWhen (ltb (length * topFrequency levels) load) 26
-    (answer (settingOf (workingOf levels) length load)))
+    andThen (readProcessor levelBytes) λ processor.
+    settingFor processor length load

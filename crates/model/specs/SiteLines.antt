@@ -12,7 +12,8 @@ use Rattle.model.specs.Levels.{encodeLevels}
 use Rattle.model.specs.Jobs.{encodeJobs}
 use Rattle.model.specs.BuiltIn.{level, firstBuiltIn}
 use Rattle.model.specs.Points.{Point}
-use Rattle.model.specs.Setting.{Setting, setting, workingOf}
+use Rattle.model.specs.Processors.{workingOf, processorOf}
+use Rattle.model.specs.Setting.{Setting, setting}
 use Rattle.model.specs.Intervals.{boundsOf, intervalCount}
 use Rattle.model.specs.Windows.{spare}
 use Rattle.model.specs.Bands.{scale}
@@ -161,20 +162,20 @@ unfolding sameSetting sameNumber sameRefusal sameInteger sameSpare sameNumbers s
 holds (sets levels length load band extra gap) = sameSetting (setting (encodeLevels levels) length load) band extra gap
 holds (refusesSetting levels length load number) = sameRefusal (setting (encodeLevels levels) length load) number
 holds (spares levels jobs start end z) = sameSpare (spare (encodeLevels levels) (encodeJobs jobs) start end) z
-holds (works levels frequencies) = sameWorking (workingOf levels) frequencies
+holds (works levels frequencies) = sameWorking (workingOf (processorOf levels)) frequencies
 holds (refusesOverfull levels jobs start end z) = sameOverfull (planning (encodeLevels levels) (encodeJobs jobs) 0 0 0) start end z
 holds (plans levels jobs planRoom priceRoom shareRoom) =
     isPlan (planning (encodeLevels levels) (encodeJobs jobs) planRoom priceRoom shareRoom)
 holds (intervals jobs count) = eqb (intervalCount (boundsOf jobs)) count
 holds (idleEnergy levels jobs energy) =
-    eqb (exactEnergy (workingOf levels) jobs (boundsOf jobs) (λ i j. 0)) energy
-    && eqb (energyFigure (workingOf levels) jobs (boundsOf jobs) (λ i j. 0)) energy
+    eqb (exactEnergy (workingOf (processorOf levels)) jobs (boundsOf jobs) (λ i j. 0)) energy
+    && eqb (energyFigure (workingOf (processorOf levels)) jobs (boundsOf jobs) (λ i j. 0)) energy
 holds (accepts levels jobs plan prices figure) = sameNumber (check (encodeLevels levels) (encodeJobs jobs) plan prices) figure
 holds (costs levels length load energy) =
-    eqb (intervalEnergy (workingOf levels) length load) (energy * scale (workingOf levels))
+    eqb (intervalEnergy (workingOf (processorOf levels)) length load) (energy * scale (workingOf (processorOf levels)))
 holds (needs levels jobs shares figure over parts) =
-    eqb (energyFigure (workingOf levels) jobs (boundsOf jobs) shares) figure
-    && eqb (parts * exactEnergy (workingOf levels) jobs (boundsOf jobs) shares) ((parts * figure + over) * scale (workingOf levels))
+    eqb (energyFigure (workingOf (processorOf levels)) jobs (boundsOf jobs) shares) figure
+    && eqb (parts * exactEnergy (workingOf (processorOf levels)) jobs (boundsOf jobs) shares) ((parts * figure + over) * scale (workingOf (processorOf levels)))
 
 -- All lines hold.
 unfoldable pub allHold : List SiteLine → Bool

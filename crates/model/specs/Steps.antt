@@ -48,6 +48,10 @@ module _ (bytes : List ℕ) where
   unfoldable pub walk : Outcome (List Step)
   walk = refuseWhen wrongPlanLength 15 (answer (listOf stepCount stepAt))
 
+  -- The cycles of a job's steps, added.
+  unfoldable pub jobSum : (job : ℕ) → ℕ
+  jobSum j = sum stepCount (λ s. onlyIf (eqb (stepAt s .job) j) (stepAt s .cycles))
+
   -- The share of a job in an interval: the cycles of the steps with that cell.
   unfoldable pub sharesOf : Shares
   sharesOf i j =

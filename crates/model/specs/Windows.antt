@@ -1,6 +1,6 @@
 -- Windows: the spare, and the earliest overfull one (document 01, refusal 11 and "Spare of a window").
-use Prim.Native.Nat.{ℕ, zero, suc, _-_, _*_}
-use mathlib.Core.Bool.{Bool, not, _&&_, _||_}
+use Prim.Native.Nat.{ℕ, _-_, _*_}
+use mathlib.Core.Bool.{Bool, _&&_, _||_}
 use mathlib.Core.List.{List}
 use mathlib.Core.Option.{Option, none, some}
 use lib.ListN.{length}
@@ -11,9 +11,9 @@ use Rattle.model.specs.Limits.{maxDeadline}
 use Rattle.model.specs.Outcome.{Outcome, answer, refuseWhen, andThen}
 use Rattle.model.specs.Sum.{sum, onlyIf}
 use Rattle.model.specs.Search.{someBelow, leastBelow}
-use Rattle.model.specs.Levels.{readLevels}
-use Rattle.model.specs.Jobs.{jobOf, readJobs}
-use Rattle.model.specs.Points.{topFrequency}
+use Rattle.model.specs.Jobs.{jobOf}
+use Rattle.model.specs.Processors.{topOf}
+use Rattle.model.specs.Sites.{Site, readSite}
 
 -- A window's own jobs are those inside it: release ≥ start, deadline ≤ end.
 abbrev pub isInside : (start end : ℕ) → Job → Bool
@@ -63,10 +63,14 @@ windowFrom ends (some start) = windowTo start (ends start)
 unfoldable pub earliestOverfull : (top : ℕ) → List Job → Option Window
 earliestOverfull top jobs = windowFrom (earliestEnd top jobs) (earliestStart top jobs)
 
--- Spare of a window. Levels, jobs. 27: start not before end, or end above 1,000,000.
+-- 27: start not before end, or end above 1,000,000.
+abbrev pub spareFor : Site → (start end : ℕ) → Outcome ℤ
+spareFor site start end =
+    refuseWhen (leb end start || ltb maxDeadline end) 27
+    (answer (spareOf (topOf (site .processor)) (site .jobs) start end))
+
+-- Spare of a window. Levels, jobs, then 27.
 unfoldable pub spare : (levelBytes jobBytes : List ℕ) → (start end : ℕ) → Outcome ℤ
 spare levelBytes jobBytes start end =
-    andThen (readLevels levelBytes) λ levels.
-    andThen (readJobs jobBytes) λ jobs.
-    refuseWhen (leb end start || ltb maxDeadline end) 27
-    (answer (spareOf (topFrequency levels) jobs start end))
+    andThen (readSite levelBytes jobBytes) λ site.
+    spareFor site start end

@@ -10,7 +10,9 @@ use native.Mathlib.Nat.{eq-or-lt-of-le, eq-zero-or-pos, le-of-suc-le-suc}
 use native.Mathlib.Omega.{arith}
 use Rattle.model.specs.Plans.{Shares}
 use Rattle.model.proofs.Sum.{sum-zero}
-use Rattle.planner.specs.Placement.{Problem, SoundProblem, Open, placedOf, Placed, Filling, Placing}
+use Rattle.workloads.specs.Placement.{Problem, SoundProblem, Open, placedOf, Placed}
+use Rattle.paths.specs.Placing.{Placing}
+use Rattle.planner.specs.Filling.{Filling}
 
 -- nothing is placed, and all prices are 0
 pub filling-none : {p : Problem} → SoundProblem p → (shares : Shares) (prices : ℕ → ℕ)
@@ -119,12 +121,3 @@ placing-lower placing =
       band-below = omega (arith, placing .band-below);
       reaches = λ i inside is-open. omega (arith, placing .reaches i inside is-open);
     }
-
--- no job has more than its cycles
-pub placed-most : {p : Problem} {shares : Shares} {prices lefts : ℕ → ℕ} {job left band : ℕ} → Placing p shares prices lefts job left band
-    → (j : ℕ) → j < p .jobs → placedOf p shares j ≤ p .cycles j
-placed-most {p} {shares} {job = job} placing j below = go (ℕ-discrete j job)
-  where
-    go : Dec (j ≡ job) → placedOf p shares j ≤ p .cycles j
-    go (yes its) = rw its (omega (arith, placing .here))
-    go (no other) = omega (arith, placing .others j below other)

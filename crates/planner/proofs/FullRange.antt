@@ -12,10 +12,12 @@ use borrow.Author.Tests.{le-leb}
 use Rattle.model.specs.Sum.{sum, onlyIf}
 use Rattle.model.specs.Plans.{Shares}
 use Rattle.model.proofs.Sum.{sum-mono, sum-strict, sum-swap, sum-mul-right, sum-split, sum-pos}
-use Rattle.planner.specs.Placement.{Problem, SoundProblem, loadOf, placedOf, Placing, Reached, Scanned}
-use Rattle.planner.specs.RangesFit.{isWithin, RangesFit}
-use Rattle.planner.proofs.BandOrder.{placed-most}
-use Rattle.planner.proofs.RaisedPrices.{window-closed}
+use Rattle.workloads.specs.Placement.{Problem, SoundProblem, loadOf, placedOf}
+use Rattle.workloads.specs.RangesFit.{isWithin, RangesFit}
+use Rattle.searching.specs.Reached.{Closed}
+use Rattle.paths.specs.Placing.{Placing}
+use Rattle.paths.proofs.Placing.{placed-most}
+use Rattle.planner.proofs.ClosedRange.{window-closed}
 
 -- part of a sum
 sum-part : (n start end : ℕ) (f : ℕ → ℕ) → start ≤ end → end ≤ n → sum (end - start) (λ d. f (start + d)) ≤ sum n f
@@ -27,16 +29,15 @@ onlyIf-most : (t : Bool) (n m : ℕ) → n ≤ m → onlyIf t n ≤ onlyIf t m
 onlyIf-most true n m order = order
 onlyIf-most false n m order = omega arith
 
-module _ {p : Problem} (sound : SoundProblem p) {shares : Shares} {prices lefts : ℕ → ℕ} {job left band count start end : ℕ} {reached source : ℕ → ℕ}
-    (placing : Placing p shares prices lefts job left band) (now : Reached p shares job count reached source start end)
-    (scanned : (i : ℕ) → start ≤ i → i < end → Scanned p shares band count reached i) where
+module _ {p : Problem} (sound : SoundProblem p) {shares : Shares} {prices lefts : ℕ → ℕ} {job left band start end : ℕ}
+    (placing : Placing p shares prices lefts job left band) (closed : Closed p shares job band start end) where
   pub range-order : start ≤ end
   range-order =
       omega (
         arith,
-        now .from-start 0 (now .some),
-        now .to-end 0 (now .some),
-        sound .window (reached 0) (now .job-below 0 (now .some)),
+        closed .now .from-start 0 (closed .now .some),
+        closed .now .to-end 0 (closed .now .some),
+        sound .window (closed .reached 0) (closed .now .job-below 0 (closed .now .some)),
       )
 
   -- what a job has in the range, all of it if anything
@@ -48,8 +49,8 @@ module _ {p : Problem} (sound : SoundProblem p) {shares : Shares} {prices lefts 
       go (inl nothing) = omega arith
       go (inr something) =
           let (d, inside, share) = sum-pos (end - start) (λ d. shares (start + d) j) something in
-          let (from, to) = window-closed now scanned {i = start + d} (omega arith) (omega arith) below share in
-          rw (le-leb start (p .first j) from, le-leb (p .last j) end to) (sum-part (p .intervals) start end (λ i. shares i j) range-order (now .end-below))
+          let (from, to) = window-closed closed {i = start + d} (omega arith) (omega arith) below share in
+          rw (le-leb start (p .first j) from, le-leb (p .last j) end to) (sum-part (p .intervals) start end (λ i. shares i j) range-order (closed .now .end-below))
 
   -- the jobs inside have what the range holds, and the one being placed lacks some
   pub range-overfull : 0 < left → suc band ≡ p .bands
@@ -57,11 +58,11 @@ module _ {p : Problem} (sound : SoundProblem p) {shares : Shares} {prices lefts 
       < sum (p .jobs) (λ j. onlyIf (isWithin p start end j) (p .cycles j))
   range-overfull lacks top =
       let full : sum (end - start) (λ d. p .size (start + d) * p .frequency (p .bands)) ≤ sum (end - start) (λ d. loadOf p shares (start + d)) =
-      sum-mono (end - start) (λ d inside. rw (← top) (scanned (start + d) (omega arith) (omega arith) .full)) in
+      sum-mono (end - start) (λ d inside. rw (← top) (closed .scanned (start + d) (omega arith) (omega arith) .full)) in
       let parts : sum (p .jobs) (λ j. sum (end - start) (λ d. shares (start + d) j)) ≤ sum (p .jobs) (λ j. onlyIf (isWithin p start end j) (placedOf p shares j)) =
       sum-mono (p .jobs) part in
       let own : isWithin p start end job ≡ true =
-      rw (le-leb start (p .first job) (rw (now .origin) at (now .from-start 0 (now .some))), le-leb (p .last job) end (rw (now .origin) at (now .to-end 0 (now .some)))) in
+      rw (le-leb start (p .first job) (rw (closed .now .origin) at (closed .now .from-start 0 (closed .now .some))), le-leb (p .last job) end (rw (closed .now .origin) at (closed .now .to-end 0 (closed .now .some)))) in
       let needs : sum (p .jobs) (λ j. onlyIf (isWithin p start end j) (placedOf p shares j)) < sum (p .jobs) (λ j. onlyIf (isWithin p start end j) (p .cycles j)) =
       sum-strict (p .jobs) job (placing .job-below) (λ j below. onlyIf-most (isWithin p start end j) _ _ (placed-most placing j below)) (rw own (omega (arith, placing .here))) in
       omega (
@@ -75,5 +76,5 @@ module _ {p : Problem} (sound : SoundProblem p) {shares : Shares} {prices lefts 
   next-band fit lacks = go (eq-or-lt-of-le (placing .band-below))
     where
       go : (suc band ≡ p .bands) ⊎ (suc band < p .bands) → suc band < p .bands
-      go (inl top) = absurd (omega (arith, range-overfull lacks top, fit start end range-order (now .end-below)))
+      go (inl top) = absurd (omega (arith, range-overfull lacks top, fit start end range-order (closed .now .end-below)))
       go (inr more) = more

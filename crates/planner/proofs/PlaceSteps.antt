@@ -1,270 +1,273 @@
--- Laws of placing jobs in plain arrays: a job's own window is filled; what is left goes along a path where a target is found, and
--- prices are raised where the search is closed; then the next job has its turn.
+-- Laws of placing jobs in plain arrays: bands begin and end; a job has its turn; what is left goes along a path where a target is found,
+-- and prices are raised where the search is closed; then the next job has its turn.
 -- Assumes nothing.
-use mathlib.Core.Path.{_≡_, sym, _∙_}
+use mathlib.Core.Path.{_≡_, ap, _∙_}
 use mathlib.Core.List.{List}
-use Prim.Native.Nat.{ℕ, _+_, _-_, _*_, _<_, _≤_}
+use Prim.Native.Nat.{ℕ, suc, _+_, _-_, _*_, _<_, _≤_}
 use native.Mathlib.Numerals.{add-one}
 use native.Mathlib.Omega.{arith}
 use lib.ListN.{length, replicate, set, length-replicate, length-set}
-use lib.Seq.{getD-set-same, getD-set-other}
+use lib.Seq.{getD-set-same, getD-set-other, set-getD}
 use Rattle.model.specs.Limits.{maxJobs, maxDeadline, maxFrequency, maxIntervals}
 use Rattle.model.specs.Plans.{sharesIn}
 use Rattle.model.proofs.Sum.{sum-zero}
-use Rattle.planner.specs.declared.workload.Workload.{Workload}
-use Rattle.planner.specs.Placement.{Raised, Open}
-use Rattle.planner.specs.Arrays.{numbersIn, problemIn, SoundWorkload, KeptPast}
-use Rattle.planner.specs.Reaching.{SearchState, onlyJob, Reaching, HasRoom, ToSearch, Searched}
-use Rattle.planner.specs.PlacedTables.{PlacedTables, FillingTables, PlacingTables, CanFill, Filled}
-use Rattle.planner.specs.BandPasses.{CanMoveJob, JobMoved, CanRaise}
+use Rattle.workloads.specs.declared.Workload.{Workload}
+use Rattle.workloads.specs.Placement.{Open, loadOf}
+use Rattle.workloads.specs.RangesFit.{RangesFit}
+use Rattle.workloads.specs.Arrays.{numbersIn, problemIn, SoundWorkload}
+use Rattle.workloads.proofs.Capacity.{capacity-most}
+use Rattle.workloads.proofs.SharesTable.{place-below}
+use Rattle.workloads.proofs.StoredNumbers.{zeros}
+use Rattle.searching.specs.Reached.{Closed}
+use Rattle.searching.specs.Reaching.{SearchState, ToSearch, Searched}
+use Rattle.paths.specs.Placing.{Placing}
+use Rattle.paths.specs.FilledTargets.{PlacingTables, CanFill, Filled}
+use Rattle.paths.proofs.HeldJobs.{holding-start}
+use Rattle.prices.specs.RisingPrices.{Raised}
+use Rattle.planner.specs.PlacedTables.{PlacedTables, BandStart, FillingTables}
+use Rattle.planner.specs.BandPasses.{CanRaise}
 use Rattle.planner.proofs.BandOrder.{filling-none, placing-start, filling-passed, filling-next, filling-end, filling-turn, placing-lower}
-use Rattle.planner.proofs.RaisedPrices.{raised-up, placing-raised}
+use Rattle.planner.proofs.ClosedRange.{placing-raised}
 use Rattle.planner.proofs.FullRange.{range-order, next-band}
-use Rattle.planner.proofs.HeldJobs.{holding-start}
-use Rattle.planner.proofs.Capacity.{capacity-most}
-use Rattle.planner.proofs.ScanSteps.{reaching-start}
-use Rattle.planner.proofs.SearchSteps.{withTarget, reaching-target, search-room}
-use Rattle.planner.proofs.SharesTable.{place-below, kept-refl, kept-trans, zeros}
 
 -- nothing is placed
 pub tables-start : {work : Workload} → SoundWorkload work → length (work .cycles) ≡ maxJobs → (table : List ℕ)
     → work .intervals * work .jobs ≤ length table → ((k : ℕ) → k < work .intervals * work .jobs → numbersIn table k ≡ 0)
-    → FillingTables work table (replicate maxIntervals 0) (replicate maxIntervals 0) (work .cycles) (numbersIn (replicate maxIntervals 0)) 0 0
+    → BandStart work table (replicate maxIntervals 0) (replicate maxIntervals 0) (work .cycles) (numbersIn (replicate maxIntervals 0)) 0
 tables-start {work} sound cycles-length table room cleared =
     let no-share : (i j : ℕ) → i < work .intervals → j < work .jobs → sharesIn (work .jobs) table i j ≡ 0 =
     λ i j inside below. cleared (i * work .jobs + j) (place-below inside below) in
     record {
-      sound = sound;
       stored =
           record {
+            sound = sound;
             table-length = room;
-            loads-length = length-replicate {A = ℕ} maxIntervals 0;
-            loads-are = λ i inside. zeros maxIntervals i ∙ sym (sum-zero (work .jobs) (λ j below. no-share i j inside below));
-            loads-past = λ i past. zeros maxIntervals i;
+            room-at =
+                record {
+                  room-length = length-replicate {A = ℕ} maxIntervals 0;
+                  room-is = λ i inside.
+                      let none = sum-zero (work .jobs) (λ j below. no-share i j inside below) in
+                      rw (zeros maxIntervals i, sound .sound .start) (omega arith);
+                  room-past = λ i past. zeros maxIntervals i;
+                };
+            holding = holding-start no-share (zeros maxIntervals);
           };
-      holding = holding-start no-share (zeros maxIntervals);
       left-length = cycles-length;
       filling = filling-none (sound .sound) (sharesIn (work .jobs) table) (numbersIn (replicate maxIntervals 0)) no-share (λ i inside. zeros maxIntervals i);
     }
 
-module _ {work : Workload} {table loads holders left : List ℕ} {prices : ℕ → ℕ} {band count : ℕ}
-    (tables : FillingTables work table loads holders left prices band count) where
-  -- a job with cycles left
-  pub turn-start : {job : ℕ} → job < work .jobs → band < work .bands → 0 < numbersIn left job
-      → PlacingTables work table loads holders prices (numbersIn left) job (numbersIn left job) band
-  turn-start below more has =
-      record {
-        sound = tables .sound;
-        stored = tables .stored;
-        holding = tables .holding;
-        placing = placing-start (tables .filling) below more has;
-      }
+-- what an interval still takes up to a higher frequency
+wider : (room load size low high : ℕ) → low ≤ high → room + load ≡ size * low → room + size * (high - low) + load ≡ size * high
+wider room load size low high order e =
+    let all : high ≡ low + (high - low) = omega arith in
+    omega (arith, ap (λ (x : ℕ). size * x) all)
 
-  -- after its turn
-  pub turn-end : {job rest : ℕ} → count ≤ job → job < work .jobs → {after loads-after holders-after : List ℕ} {prices-after : ℕ → ℕ}
-      → ((i : ℕ) → prices i ≤ prices-after i)
-      → PlacingTables work after loads-after holders-after prices-after (numbersIn left) job rest band
-      → FillingTables work after loads-after holders-after (set left job rest) prices-after band count
-  turn-end {job} {rest} turn below rises placing =
-      record {
-        sound = tables .sound;
-        stored = placing .stored;
-        holding = placing .holding;
-        left-length = length-set left job rest ∙ tables .left-length;
-        filling =
-            filling-turn (tables .filling) turn rises (placing .placing) (numbersIn (set left job rest))
-            (getD-set-same left job rest 0 (omega (arith, tables .left-length, tables .sound .jobs-most)))
-            (λ j other. getD-set-other left job j rest 0 other);
-      }
+module _ {work : Workload} {table room holders left : List ℕ} {prices : ℕ → ℕ} {band : ℕ} (start : BandStart work table room holders left prices band) where
+  -- a band begins: the room grows by what it adds
+  module _ (more : band < work .bands) where
+    room-wider : (i : ℕ) → i < work .intervals
+        → numbersIn room i + numbersIn (work .size) i * (numbersIn (work .frequency) (suc band) - numbersIn (work .frequency) band)
+        + loadOf (problemIn work) (sharesIn (work .jobs) table) i
+        ≡ numbersIn (work .size) i * numbersIn (work .frequency) (suc band)
+    room-wider i inside =
+        wider (numbersIn room i) _ (numbersIn (work .size) i) (numbersIn (work .frequency) band) (numbersIn (work .frequency) (suc band))
+        (omega (arith, start .stored .sound .sound .rises band more)) (start .stored .room-at .room-is i inside)
 
-  -- one job more has had its turn
+    pub band-order : numbersIn (work .frequency) band ≤ numbersIn (work .frequency) (band + 1)
+    band-order = rw add-one (omega (arith, start .stored .sound .sound .rises band more))
+
+    pub band-fits : (i : ℕ) → i < work .intervals
+        → numbersIn room i + numbersIn (work .size) i * (numbersIn (work .frequency) (band + 1) - numbersIn (work .frequency) band) ≤ maxDeadline * maxFrequency
+    band-fits i inside = rw add-one (omega (arith, room-wider i inside, capacity-most (start .stored .sound) i (suc band) inside more))
+
+    pub band-opens : {after : List ℕ} → length after ≡ maxIntervals
+        → ((i : ℕ) → i < work .intervals
+        → numbersIn after i ≡ numbersIn room i + numbersIn (work .size) i * (numbersIn (work .frequency) (band + 1) - numbersIn (work .frequency) band))
+        → ((i : ℕ) → work .intervals ≤ i → numbersIn after i ≡ numbersIn room i)
+        → FillingTables work table after holders left prices band 0
+    band-opens {after} same-length grows stays =
+        record {
+          stored =
+              record {
+                sound = start .stored .sound;
+                table-length = start .stored .table-length;
+                room-at =
+                    record {
+                      room-length = same-length;
+                      room-is = λ i inside. rw (rw add-one at (grows i inside)) (room-wider i inside);
+                      room-past = λ i past. stays i past ∙ start .stored .room-at .room-past i past;
+                    };
+                holding = start .stored .holding;
+              };
+          band-below = more;
+          left-length = start .left-length;
+          filling = start .filling;
+        }
+
+-- past the last band
+module _ {work : Workload} {table room holders left : List ℕ} {prices : ℕ → ℕ} {band : ℕ} (start : BandStart work table room holders left prices band)
+    (end : band ≡ work .bands) where
+  end-room : (i : ℕ) → i < work .intervals
+      → numbersIn room i + loadOf (problemIn work) (sharesIn (work .jobs) table) i ≡ numbersIn (work .size) i * numbersIn (work .frequency) (work .bands)
+  end-room i inside = rw end at (start .stored .room-at .room-is i inside)
+
+  pub end-fits : (i : ℕ) → i < work .intervals
+      → (numbersIn (work .size) i * numbersIn (work .frequency) (work .bands) ≤ maxDeadline * maxFrequency)
+      × (numbersIn room i ≤ numbersIn (work .size) i * numbersIn (work .frequency) (work .bands))
+  end-fits i inside =
+      (capacity-most (start .stored .sound) i (work .bands) inside (omega arith), omega (arith, end-room i inside))
+
+-- the loads are what the room lacks
+pub tables-end : {work : Workload} {table room holders left prices : List ℕ} {band : ℕ} → BandStart work table room holders left (numbersIn prices) band
+    → band ≡ work .bands → length prices ≡ maxIntervals → {loads : List ℕ} → length loads ≡ maxIntervals
+    → ((i : ℕ) → i < work .intervals → numbersIn loads i + numbersIn room i ≡ numbersIn (work .size) i * numbersIn (work .frequency) (work .bands))
+    → ((i : ℕ) → work .intervals ≤ i → numbersIn loads i ≡ numbersIn room i)
+    → PlacedTables work table loads prices
+tables-end start end prices-length same-length sums stays =
+    record {
+      stored =
+          record {
+            table-length = start .stored .table-length;
+            loads-length = same-length;
+            loads-are = λ i inside. omega (arith, sums i inside, end-room start end i inside);
+            loads-past = λ i past. stays i past ∙ start .stored .room-at .room-past i past;
+          };
+      prices-length = prices-length;
+      placed = filling-end (start .filling) (start .stored .sound .sound) (omega arith);
+    }
+
+module _ {work : Workload} {table room holders left : List ℕ} {prices : ℕ → ℕ} {band count : ℕ}
+    (tables : FillingTables work table room holders left prices band count) where
+  -- the next band
+  pub band-next : count ≡ work .jobs → BandStart work table room holders left prices (band + 1)
+  band-next all =
+      rw add-one (record { stored = tables .stored; left-length = tables .left-length; filling = filling-next (tables .filling) all })
+
+  -- one job more has had its turn along paths
   pub turn-passed : ((i : ℕ) → i < work .intervals → 0 < numbersIn left count → Open (problemIn work) i count → band < prices i)
-      → FillingTables work table loads holders left prices band (count + 1)
+      → FillingTables work table room holders left prices band (count + 1)
   turn-passed here =
       record {
-        sound = tables .sound;
         stored = tables .stored;
-        holding = tables .holding;
+        band-below = tables .band-below;
         left-length = tables .left-length;
         filling = rw add-one (filling-passed (tables .filling) here);
       }
 
-  -- the next band
-  pub band-next : count ≡ work .jobs → FillingTables work table loads holders left prices (band + 1) 0
-  band-next all =
-      record {
-        sound = tables .sound;
-        stored = tables .stored;
-        holding = tables .holding;
-        left-length = tables .left-length;
-        filling = rw add-one (filling-next (tables .filling) all);
-      }
+  module _ {job : ℕ} (below : job < work .jobs) where
+    -- a job with cycles left
+    pub turn-start : 0 < numbersIn left job → PlacingTables work table room holders prices (numbersIn left) job (numbersIn left job) band
+    turn-start has =
+        record { stored = tables .stored; placing = placing-start (tables .filling) below (tables .band-below) has }
 
-module _ {work : Workload} {table loads holders : List ℕ} {prices lefts : ℕ → ℕ} {job left band : ℕ}
-    (tables : PlacingTables work table loads holders prices lefts job left band) where
-  within : band + 1 ≤ work .bands
-  within = omega (arith, tables .placing .band-below)
+    -- after its turn
+    pub turn-end : count ≤ job → {rest : ℕ} {after room-after holders-after : List ℕ} {prices-after : ℕ → ℕ}
+        → ((i : ℕ) → prices i ≤ prices-after i)
+        → PlacingTables work after room-after holders-after prices-after (numbersIn left) job rest band
+        → FillingTables work after room-after holders-after (set left job rest) prices-after band count
+    turn-end turn {rest} rises placing =
+        record {
+          stored = placing .stored;
+          band-below = tables .band-below;
+          left-length = length-set left job rest ∙ tables .left-length;
+          filling =
+              filling-turn (tables .filling) turn rises (placing .placing) (numbersIn (set left job rest))
+              (getD-set-same left job rest 0 (omega (arith, tables .left-length, tables .stored .sound .jobs-most)))
+              (λ j other. getD-set-other left job j rest 0 other);
+        }
 
-  pub place-capacity : (i : ℕ) → i < work .intervals → numbersIn (work .size) i * numbersIn (work .frequency) (band + 1) ≤ maxDeadline * maxFrequency
-  place-capacity i inside = capacity-most (tables .sound) i (band + 1) inside within
+-- what is left of a job is stored anew
+pub left-same : (left : List ℕ) (job : ℕ) {rest : ℕ} → numbersIn left job ≡ rest → set left job rest ≡ left
+left-same left job is = rw (← is) (set-getD left job 0)
 
-  pub place-search : ToSearch (problemIn work) (sharesIn (work .jobs) table) (numbersIn (work .frequency) (band + 1)) loads holders job band
+module _ {work : Workload} {table room holders : List ℕ} {prices lefts : ℕ → ℕ} {job left band : ℕ}
+    (tables : PlacingTables work table room holders prices lefts job left band) where
+  pub place-search : ToSearch (problemIn work) (sharesIn (work .jobs) table) room holders job band
   place-search =
       record {
-        sound = tables .sound .sound;
-        jobs-most = tables .sound .jobs-most;
-        intervals-most = tables .sound .intervals-most;
-        capacity-most = place-capacity;
-        frequency-is = rw add-one;
-        loads-are = tables .stored .loads-are;
-        holding = tables .holding;
+        sound = tables .stored .sound .sound;
+        jobs-most = tables .stored .sound .jobs-most;
+        intervals-most = tables .stored .sound .intervals-most;
+        room-at = tables .stored .room-at;
+        holding = tables .stored .holding;
         shut = tables .placing .priced .shut;
         job-below = tables .placing .job-below;
       }
 
-  module _ {found : SearchState} (reaching : Reaching (problemIn work) (sharesIn (work .jobs) table) job found) where
+  module _ {found : SearchState} (searched : Searched (problemIn work) (sharesIn (work .jobs) table) job band found) where
     -- a target is reached
-    pub place-fill : 0 < left → HasRoom (problemIn work) (sharesIn (work .jobs) table) band found → CanFill work table loads holders found band left
-    place-fill lacks room =
+    pub place-fill : 0 < left → found .target < maxIntervals → CanFill work table room holders found band left
+    place-fill lacks is-target =
         record {
-          sound = tables .sound;
-          stored = tables .stored;
-          holding = tables .holding;
           lacks = lacks;
-          room = room;
+          has-room = searched .target is-target;
           prices = prices;
           lefts = lefts;
           job = job;
-          placing = tables .placing;
-          reaching = reaching;
+          tables = tables;
+          reaching = searched .reaching;
         }
 
-    pub place-filled : {after loads-after holders-after : List ℕ} {amount : ℕ} → Filled work table after loads-after holders-after found band left amount
-        → PlacingTables work after loads-after holders-after prices lefts job (left - amount) band
+    pub place-filled : {after room-after holders-after : List ℕ} {amount : ℕ} → Filled work table after room-after holders-after found band left amount
+        → PlacingTables work after room-after holders-after prices lefts job (left - amount) band
     place-filled filled =
+        record { stored = filled .stored; placing = filled .placing prices lefts job (tables .placing) (searched .reaching) }
+
+    -- no target is reached
+    pub search-closed : maxIntervals ≤ found .target
+        → Closed (problemIn work) (sharesIn (work .jobs) table) job band (found .start) (found .end)
+    search-closed no-target =
         record {
-          sound = tables .sound;
-          stored = filled .stored;
-          holding = filled .holding;
-          placing = filled .placing prices lefts job (tables .placing) reaching;
+          count = found .count;
+          reached = numbersIn (found .reached);
+          source = numbersIn (found .source);
+          now = searched .reaching .now;
+          scanned = searched .closed no-target;
         }
 
-  -- an interval of the job's own window that has room is a target
-  pub own-target : (reached source : List ℕ) → numbersIn reached 0 ≡ job → length reached ≡ maxJobs → length source ≡ maxJobs → {interval : ℕ}
-      → numbersIn (work .first) job ≤ interval → interval < numbersIn (work .last) job
-      → numbersIn loads interval < numbersIn (work .size) interval * numbersIn (work .frequency) (band + 1)
-      → let found = withTarget (onlyJob job (numbersIn (work .first) job) (numbersIn (work .last) job) reached source) interval in
-      Reaching (problemIn work) (sharesIn (work .jobs) table) job found × HasRoom (problemIn work) (sharesIn (work .jobs) table) band found
-  own-target reached source origin jobs-length sources-length {interval} from to room =
-      let below = tables .placing .job-below in
-      let inside : interval < work .intervals = omega (arith, tables .sound .sound .inside job below) in (
-        reaching-target (reaching-start (tables .sound .sound) (tables .sound .jobs-most) below reached source origin jobs-length sources-length) interval,
-        record { from = from; to = to; room = search-room place-search inside room },
-      )
+  -- the prices of a closed range rise past the band
+  module _ {start end : ℕ} (closed : Closed (problemIn work) (sharesIn (work .jobs) table) job band start end) where
+    pub closed-range : (start ≤ end) × (end ≤ maxIntervals)
+    closed-range = (
+      range-order (tables .stored .sound .sound) (tables .placing) closed,
+      omega (arith, closed .now .end-below, tables .stored .sound .intervals-most),
+    )
 
--- While a job is placed along paths, in tables that started as `before` and at prices that started as `prices-before`.
-pub record MovingJob (work : Workload) (before prices-before table loads holders prices : List ℕ) (lefts : ℕ → ℕ) (job left band : ℕ) : Type 0 where
-  pub kept : KeptPast (work .intervals * work .jobs) before table
-  pub rises : (i : ℕ) → numbersIn prices-before i ≤ numbersIn prices i
-  pub can : CanMoveJob work table loads holders prices lefts job left band
+    module _ (fit : RangesFit (problemIn work)) (lacks : 0 < left) {after : ℕ → ℕ} (raised : Raised start end (band + 1) prices after) where
+      next-placing : Placing (problemIn work) (sharesIn (work .jobs) table) after lefts job left (suc band)
+      next-placing =
+          let sound = tables .stored .sound .sound in
+          placing-raised sound (tables .placing) closed (next-band sound (tables .placing) closed fit lacks) (rw add-one at raised)
 
-pub moving-job-start : {work : Workload} {table loads holders prices : List ℕ} {lefts : ℕ → ℕ} {job left band : ℕ}
-    → CanMoveJob work table loads holders prices lefts job left band → MovingJob work table prices table loads holders prices lefts job left band
-moving-job-start can = record { kept = kept-refl _ _; rises = λ i. omega arith; can = can }
+      pub raised-tables : PlacingTables work table room holders after lefts job left band
+      raised-tables = record { stored = tables .stored; placing = placing-lower next-placing }
 
-module _ {work : Workload} {before prices-before table loads holders prices : List ℕ} {lefts : ℕ → ℕ} {job left band : ℕ}
-    (moving : MovingJob work before prices-before table loads holders prices lefts job left band) where
-  -- no cycles are left
-  pub moved-whole : left ≤ 0 → JobMoved work before prices-before table loads holders prices lefts job left band
-  moved-whole none =
-      record {
-        kept = moving .kept;
-        prices-length = moving .can .prices-length;
-        rises = moving .rises;
-        tables = moving .can .tables;
-        passed = λ has. absurd (omega arith);
-      }
-
-  module _ {found : SearchState} (searched : Searched (problemIn work) (sharesIn (work .jobs) table) job band found) where
-    -- a target is filled
-    pub moved-filled : {after loads-after holders-after : List ℕ} {amount : ℕ} → Filled work table after loads-after holders-after found band left amount
-        → MovingJob work before prices-before after loads-after holders-after prices lefts job (left - amount) band
-    moved-filled filled =
-        record {
-          kept = kept-trans (moving .kept) (filled .kept);
-          rises = moving .rises;
-          can =
-              record {
-                fit = moving .can .fit;
-                prices-length = moving .can .prices-length;
-                tables = place-filled (moving .can .tables) (searched .reaching) filled;
-              };
-        }
-
-    -- the search is closed
-    module _ (no-target : maxIntervals ≤ found .target) where
-      pub closed-range : (found .start ≤ found .end) × (found .end ≤ maxIntervals)
-      closed-range =
-          let tables = moving .can .tables in (
-            range-order (tables .sound .sound) (tables .placing) (searched .reaching .now) (searched .closed no-target),
-            omega (arith, searched .reaching .now .end-below, tables .sound .intervals-most),
-          )
-
-      pub moved-closed : 0 < left → {after : List ℕ} → Raised (found .start) (found .end) (band + 1) (numbersIn prices) (numbersIn after)
-          → length after ≡ maxIntervals → JobMoved work before prices-before table loads holders after lefts job left band
-      moved-closed lacks {after} raised same =
-          let tables = moving .can .tables in
-          let sound = tables .sound .sound in
-          let closed = searched .closed no-target in
-          let more = next-band sound (tables .placing) (searched .reaching .now) closed (moving .can .fit) lacks in
-          let placing = placing-raised sound (tables .placing) (searched .reaching .now) closed more (rw add-one at raised) in
-          record {
-            kept = moving .kept;
-            prices-length = same;
-            rises = λ i. omega (arith, moving .rises i, raised-up raised i);
-            tables =
-                record {
-                  sound = tables .sound;
-                  stored = tables .stored;
-                  holding = tables .holding;
-                  placing = placing-lower placing;
-                };
-            passed = λ has i inside is-open. omega (arith, placing .reaches i inside is-open);
-          }
+      pub raised-past : (i : ℕ) → i < work .intervals → Open (problemIn work) i job → band < after i
+      raised-past i inside is-open = omega (arith, next-placing .reaches i inside is-open)
 
 -- A job's turn in the pass along paths.
-module _ {work : Workload} {table loads holders prices left : List ℕ} {band job : ℕ} (can : CanRaise work table loads holders prices left band job) where
-  -- it has cycles left
-  pub raise-start : job < work .jobs → 0 < numbersIn left job
-      → CanMoveJob work table loads holders prices (numbersIn left) job (numbersIn left job) band
-  raise-start below has =
-      record { fit = can .fit; prices-length = can .prices-length; tables = turn-start (can .tables) below (can .band-below) has }
-
+module _ {work : Workload} {table room holders prices left : List ℕ} {band job : ℕ} (can : CanRaise work table room holders prices left band job)
+    {rest : ℕ} where
   -- it has none left, or only in intervals of higher prices
-  pub raise-passed : ((i : ℕ) → i < work .intervals → 0 < numbersIn left job → Open (problemIn work) i job → band < numbersIn prices i)
-      → CanRaise work table loads holders prices left band (job + 1)
-  raise-passed here =
-      record { fit = can .fit; prices-length = can .prices-length; band-below = can .band-below; tables = turn-passed (can .tables) here }
+  pub raise-passed : numbersIn left job ≡ rest
+      → ((i : ℕ) → i < work .intervals → 0 < numbersIn left job → Open (problemIn work) i job → band < numbersIn prices i)
+      → CanRaise work table room holders prices (set left job rest) band (job + 1)
+  raise-passed is here =
+      rw (left-same left job is) (record { fit = can .fit; prices-length = can .prices-length; tables = turn-passed (can .tables) here })
 
-  -- after its turn
-  pub raise-moved : job < work .jobs → {after loads-after holders-after prices-after : List ℕ} {rest : ℕ}
-      → JobMoved work table prices after loads-after holders-after prices-after (numbersIn left) job rest band
-      → CanRaise work after loads-after holders-after prices-after (set left job rest) band (job + 1)
-  raise-moved below {rest = rest} moved =
+  -- it was moved, and has none left or prices were raised
+  pub raise-moved : job < work .jobs → {after room-after holders-after prices-after : List ℕ} → length prices-after ≡ maxIntervals
+      → ((i : ℕ) → numbersIn prices i ≤ numbersIn prices-after i)
+      → PlacingTables work after room-after holders-after (numbersIn prices-after) (numbersIn left) job rest band
+      → (0 < rest → (i : ℕ) → i < work .intervals → Open (problemIn work) i job → band < numbersIn prices-after i)
+      → CanRaise work after room-after holders-after prices-after (set left job rest) band (job + 1)
+  raise-moved below same-length rises moved passed =
       let own : numbersIn (set left job rest) job ≡ rest =
-      getD-set-same left job rest 0 (omega (arith, can .tables .left-length, can .tables .sound .jobs-most)) in
+      getD-set-same left job rest 0 (omega (arith, can .tables .left-length, can .tables .stored .sound .jobs-most)) in
       record {
         fit = can .fit;
-        prices-length = moved .prices-length;
-        band-below = can .band-below;
+        prices-length = same-length;
         tables =
-            turn-passed (turn-end (can .tables) (omega arith) below (moved .rises) (moved .tables))
-            (λ i inside has is-open. moved .passed (rw own at has) i inside is-open);
+            turn-passed (turn-end (can .tables) below (omega arith) rises moved)
+            (λ i inside has is-open. passed (rw own at has) i inside is-open);
       }
-
--- past the last band
-pub tables-end : {work : Workload} {table loads holders left prices : List ℕ} {band : ℕ}
-    → FillingTables work table loads holders left (numbersIn prices) band 0 → length prices ≡ maxIntervals → work .bands ≤ band
-    → PlacedTables work table loads prices
-tables-end tables same past =
-    record { stored = tables .stored; prices-length = same; placed = filling-end (tables .filling) (tables .sound .sound) past }

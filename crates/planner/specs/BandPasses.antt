@@ -1,88 +1,70 @@
--- What the functions that place jobs at one band ask and promise. They are lent the windows and lengths of a workload, and the
--- frequency at the end of the band: what they ask holds of some such workload, and what they promise holds of each.
-use Prim.Native.Nat.{ℕ, _+_, _*_, _<_, _≤_}
+-- What the functions that place jobs along paths at a band ask and promise. They are lent the windows of a workload: what they ask
+-- holds of some such workload, and what they promise holds of each.
+use Prim.Native.Nat.{ℕ, _+_, _*_, _<_}
 use mathlib.Core.Path.{_≡_}
 use mathlib.Core.List.{List}
-use lib.ListN.{length}
+use lib.ListN.{length, set}
 use Rattle.model.specs.Limits.{maxIntervals}
-use Rattle.planner.specs.declared.workload.Workload.{Workload}
-use Rattle.planner.specs.Placement.{Open}
-use Rattle.planner.specs.RangesFit.{RangesFit}
-use Rattle.planner.specs.Arrays.{numbersIn, problemIn, lentSizes, KeptPast}
-use Rattle.planner.specs.PlacedTables.{FillingTables, PlacingTables}
+use Rattle.model.specs.Plans.{sharesIn}
+use Rattle.workloads.specs.declared.Workload.{Workload}
+use Rattle.workloads.specs.RangesFit.{RangesFit}
+use Rattle.workloads.specs.Arrays.{numbersIn, problemIn, lentWindows, KeptPast}
+use Rattle.searching.specs.Reached.{Closed}
+use Rattle.paths.specs.declared.Turn.{Turn}
+use Rattle.paths.specs.FilledTargets.{PlacingTables}
+use Rattle.planner.specs.declared.moving.Rest.{Rest}
+use Rattle.planner.specs.PlacedTables.{FillingTables}
 
--- A job is being placed, with some prices.
-abbrev pub SizesPlace : (jobs : ℕ) → (first last size : List ℕ) → (frequency : ℕ) → (table loads holders : List ℕ) → (job left : ℕ) → Type 0
-SizesPlace jobs first last size frequency table loads holders job left =
-    (work : Workload) × (band : ℕ) × (prices : ℕ → ℕ) × (lefts : ℕ → ℕ) × (numbersIn (work .frequency) (band + 1) ≡ frequency)
-    × PlacingTables (lentSizes work jobs first last size) table loads holders prices lefts job left band
-
--- With any such prices, all but `rest` of its cycles are placed.
-abbrev pub SizesPlaced : (jobs : ℕ) → (first last size : List ℕ) → (frequency : ℕ)
-    → (before loads-before holders-before table loads holders : List ℕ) → (job left rest : ℕ) → Type 0
-SizesPlaced jobs first last size frequency before loads-before holders-before table loads holders job left rest =
-    (work : Workload) (band : ℕ) (prices lefts : ℕ → ℕ) → numbersIn (work .frequency) (band + 1) ≡ frequency
-    → PlacingTables (lentSizes work jobs first last size) before loads-before holders-before prices lefts job left band
-    → KeptPast (work .intervals * jobs) before table
-    × PlacingTables (lentSizes work jobs first last size) table loads holders prices lefts job rest band
-
--- Jobs can be placed at a band, with some prices.
-abbrev pub SizesPass : (jobs : ℕ) → (first last size : List ℕ) → (frequency : ℕ) → (table loads holders left : List ℕ) → Type 0
-SizesPass jobs first last size frequency table loads holders left =
-    (work : Workload) × (band : ℕ) × (prices : ℕ → ℕ) × (numbersIn (work .frequency) (band + 1) ≡ frequency) × (band < work .bands)
-    × FillingTables (lentSizes work jobs first last size) table loads holders left prices band 0
-
--- With any such prices, they still can. That windows are filled saves searches, and nothing else rests on it.
-abbrev pub SizesPassed : (jobs : ℕ) → (first last size : List ℕ) → (frequency : ℕ)
-    → (before loads-before holders-before left-before table loads holders left : List ℕ) → Type 0
-SizesPassed jobs first last size frequency before loads-before holders-before left-before table loads holders left =
-    (work : Workload) (band : ℕ) (prices : ℕ → ℕ) → numbersIn (work .frequency) (band + 1) ≡ frequency → band < work .bands
-    → FillingTables (lentSizes work jobs first last size) before loads-before holders-before left-before prices band 0
-    → KeptPast (work .intervals * jobs) before table × FillingTables (lentSizes work jobs first last size) table loads holders left prices band 0
-
--- A job can be placed along paths, and its reached range raised.
-pub record CanMoveJob (work : Workload) (table loads holders prices : List ℕ) (lefts : ℕ → ℕ) (job left band : ℕ) : Type 0 where
-  pub fit : RangesFit (problemIn work)
-  pub prices-length : length prices ≡ maxIntervals
-  pub tables : PlacingTables work table loads holders (numbersIn prices) lefts job left band
-
--- All but `rest` of its cycles are placed; where some are left, all prices of its window are above the band.
-pub record JobMoved (work : Workload) (before prices-before table loads holders prices : List ℕ) (lefts : ℕ → ℕ) (job rest band : ℕ) : Type 0 where
+-- All but what is left of a job's cycles are placed; where some are left, the search from it is closed.
+pub record JobMoved (work : Workload) (before table room holders : List ℕ) (prices lefts : ℕ → ℕ) (job band : ℕ) (rest : Rest) : Type 0 where
   pub kept : KeptPast (work .intervals * work .jobs) before table
-  pub prices-length : length prices ≡ maxIntervals
-  pub rises : (i : ℕ) → numbersIn prices-before i ≤ numbersIn prices i
-  pub tables : PlacingTables work table loads holders (numbersIn prices) lefts job rest band
-  pub passed : 0 < rest → (i : ℕ) → i < work .intervals → Open (problemIn work) i job → band < numbersIn prices i
+  pub tables : PlacingTables work table room holders prices lefts job (rest .left) band
+  pub closed : 0 < rest .left → Closed (problemIn work) (sharesIn (work .jobs) table) job band (rest .start) (rest .end)
 
-abbrev pub SizesMove : (jobs : ℕ) → (first last size : List ℕ) → (frequency : ℕ) → (table loads holders prices : List ℕ) → (job left band : ℕ) → Type 0
-SizesMove jobs first last size frequency table loads holders prices job left band =
-    (work : Workload) × (lefts : ℕ → ℕ) × (numbersIn (work .frequency) (band + 1) ≡ frequency)
-    × CanMoveJob (lentSizes work jobs first last size) table loads holders prices lefts job left band
+-- To a function that is not lent the prices: with some prices, a job is being placed, and with any such it is moved.
+abbrev pub WindowsPlace : (first last table room holders : List ℕ) → Turn → Type 0
+WindowsPlace first last table room holders turn =
+    (work : Workload) × (band : ℕ) × (prices : ℕ → ℕ) × (lefts : ℕ → ℕ)
+    × PlacingTables (lentWindows work (turn .jobs) first last) table room holders prices lefts (turn .job) (turn .left) band
 
-abbrev pub SizesMoved : (jobs : ℕ) → (first last size : List ℕ) → (frequency : ℕ)
-    → (before loads-before holders-before prices-before table loads holders prices : List ℕ) → (job left rest band : ℕ) → Type 0
-SizesMoved jobs first last size frequency before loads-before holders-before prices-before table loads holders prices job left rest band =
-    (work : Workload) (lefts : ℕ → ℕ) → numbersIn (work .frequency) (band + 1) ≡ frequency
-    → CanMoveJob (lentSizes work jobs first last size) before loads-before holders-before prices-before lefts job left band
-    → JobMoved (lentSizes work jobs first last size) before prices-before table loads holders prices lefts job rest band
+abbrev pub WindowsPlaced : (first last before room-before holders-before table room holders : List ℕ) → Turn → Rest → Type 0
+WindowsPlaced first last before room-before holders-before table room holders turn rest =
+    (work : Workload) (band : ℕ) (prices lefts : ℕ → ℕ)
+    → PlacingTables (lentWindows work (turn .jobs) first last) before room-before holders-before prices lefts (turn .job) (turn .left) band
+    → JobMoved (lentWindows work (turn .jobs) first last) before table room holders prices lefts (turn .job) band rest
 
 -- The pass along paths has come to job number `count`.
-pub record CanRaise (work : Workload) (table loads holders prices left : List ℕ) (band count : ℕ) : Type 0 where
+pub record CanRaise (work : Workload) (table room holders prices left : List ℕ) (band count : ℕ) : Type 0 where
   pub fit : RangesFit (problemIn work)
   pub prices-length : length prices ≡ maxIntervals
-  pub band-below : band < work .bands
-  pub tables : FillingTables work table loads holders left (numbersIn prices) band count
+  pub tables : FillingTables work table room holders left (numbersIn prices) band count
 
-abbrev pub SizesRaise : (jobs : ℕ) → (first last size : List ℕ) → (frequency : ℕ) → (table loads holders prices left : List ℕ) → (band count : ℕ) → Type 0
-SizesRaise jobs first last size frequency table loads holders prices left band count =
-    (work : Workload) × (numbersIn (work .frequency) (band + 1) ≡ frequency)
-    × CanRaise (lentSizes work jobs first last size) table loads holders prices left band count
+-- It is a job's turn in the pass, and an array has what is left of each.
+pub record CanRaiseJob (work : Workload) (table room holders prices left : List ℕ) (band : ℕ) (turn : Turn) : Type 0 where
+  pub job-below : turn .job < work .jobs
+  pub left-is : numbersIn left (turn .job) ≡ turn .left
+  pub can : CanRaise work table room holders prices left band (turn .job)
 
--- It has come from number `count` to number `next`.
-abbrev pub SizesRaised : (jobs : ℕ) → (first last size : List ℕ) → (frequency : ℕ)
-    → (before loads-before holders-before prices-before left-before table loads holders prices left : List ℕ) → (band count next : ℕ) → Type 0
-SizesRaised jobs first last size frequency before loads-before holders-before prices-before left-before table loads holders prices left band count next =
-    (work : Workload) → numbersIn (work .frequency) (band + 1) ≡ frequency
-    → CanRaise (lentSizes work jobs first last size) before loads-before holders-before prices-before left-before band count
+abbrev pub TurnRaise : (first last table room holders prices : List ℕ) → (band : ℕ) → Turn → Type 0
+TurnRaise first last table room holders prices band turn =
+    (work : Workload) × (left : List ℕ) × CanRaiseJob (lentWindows work (turn .jobs) first last) table room holders prices left band turn
+
+-- With what is left of the job then, it is the next one's turn.
+abbrev pub TurnRaised : (first last before room-before holders-before prices-before table room holders prices : List ℕ) → (band : ℕ) → Turn → (rest : ℕ) → Type 0
+TurnRaised first last before room-before holders-before prices-before table room holders prices band turn rest =
+    (work : Workload) (left : List ℕ)
+    → CanRaiseJob (lentWindows work (turn .jobs) first last) before room-before holders-before prices-before left band turn
+    → KeptPast (work .intervals * turn .jobs) before table
+    × CanRaise (lentWindows work (turn .jobs) first last) table room holders prices (set left (turn .job) rest) band (turn .job + 1)
+
+-- The pass can go over all jobs, and it has.
+abbrev pub WindowsRaise : (jobs : ℕ) → (first last table room holders prices left : List ℕ) → (band : ℕ) → Type 0
+WindowsRaise jobs first last table room holders prices left band =
+    (work : Workload) × CanRaise (lentWindows work jobs first last) table room holders prices left band 0
+
+abbrev pub WindowsRaised : (jobs : ℕ) → (first last before room-before holders-before prices-before left-before table room holders prices left : List ℕ)
+    → (band count : ℕ) → Type 0
+WindowsRaised jobs first last before room-before holders-before prices-before left-before table room holders prices left band count =
+    (work : Workload) → CanRaise (lentWindows work jobs first last) before room-before holders-before prices-before left-before band 0
     → KeptPast (work .intervals * jobs) before table
-    × CanRaise (lentSizes work jobs first last size) table loads holders prices left band next
+    × CanRaise (lentWindows work jobs first last) table room holders prices left band count

@@ -1,11 +1,5 @@
 -- The invariants of the planner.
-pub mod Words
-pub mod Placement
-pub mod RangesFit
-pub mod SiteProblem
-pub mod Arrays
-pub mod Reaching
-pub mod Moves
+pub mod Filling
 pub mod PlacedTables
+pub mod OwnWindows
 pub mod BandPasses
-pub mod RisingPrices

@@ -1,142 +1,119 @@
-// Filling a job's own window at a band: cycles go into each interval that has room, as far as they reach.
-ghost use mathlib.Core.Path.{_≡_};
-ghost use Prim.Native.Nat.{_<_, _≤_};
-ghost use lib.ListN.{length};
-ghost use Rattle.model.specs.Limits.{maxJobs};
-ghost use Rattle.planner.specs.Arrays.{numbersIn};
-ghost use Rattle.planner.specs.BandPasses.{SizesPlace, SizesPlaced, SizesPass, SizesPassed};
-use crate::path::fill;
-use crate::search::only;
+// Filling the jobs' own windows at a band: cycles go into each interval that has room, as far as they reach.
+ghost use Prim.Native.Nat.{ℕ, _+_, _<_};
+ghost use Rattle.workloads.specs.Arrays.{numbersIn};
+ghost use Rattle.planner.specs.OwnWindows.{RangeFill, RangeFilled, TurnFill, TurnFilled, WindowsPass, WindowsPassed};
 use model::MAX_INTERVALS;
 use model::MAX_JOBS;
+use paths::Turn;
+use paths::put;
 
-// Fills the window of a job with what is left of it.
-pub(crate) fn fill_job(
+// Fills the windows of the jobs in an order. This is for speed: a cycle that goes into its job's own window needs no search.
+// Whatever is put there, `move_jobs` then places what is left at least price.
+pub(crate) fn fill_jobs(
     first: &[usize; MAX_JOBS],
     last: &[usize; MAX_JOBS],
-    size: &[u64; MAX_INTERVALS],
-    frequency: u64,
-    jobs: usize,
+    order: &[usize; MAX_JOBS],
     shares: &mut [u32],
-    loads: &mut [u64; MAX_INTERVALS],
+    room: &mut [u64; MAX_INTERVALS],
     holders: &mut [u64; MAX_INTERVALS],
     left: &mut [u64; MAX_JOBS],
-    job: usize,
+    jobs: usize,
 )
-    requires { ⌜ SizesPass jobs (now first) (now last) (now size) frequency (now shares) (now loads) (now holders) (now left) ⌝ }
-    requires { ⌜ job < jobs ⌝ }
-    ensures { λ _. ⌜ SizesPassed jobs (now (first .entry)) (now (last .entry)) (now (size .entry)) frequency
-        (now (shares .entry)) (now (loads .entry)) (now (holders .entry)) (now (left .entry))
-        (now (shares .exit)) (now (loads .exit)) (now (holders .exit)) (now (left .exit)) ⌝ }
+    requires { ⌜ WindowsPass jobs (now first) (now last) (now shares) (now room) (now holders) (now left) ⌝ }
+    requires { ⌜ ((k : ℕ) → k < jobs → numbersIn (now order) k < jobs) ⌝ }
+    ensures { λ _. ⌜ WindowsPassed jobs (now (first .entry)) (now (last .entry))
+        (now (shares .entry)) (now (room .entry)) (now (holders .entry)) (now (left .entry))
+        (now (shares .exit)) (now (room .exit)) (now (holders .exit)) (now (left .exit)) ⌝ }
 {
-    let most = left[job];
-    if most == 0 {
-        return;
+    let mut k = 0;
+    while k < jobs {
+        let job = order[k];
+        let turn = Turn {
+            job,
+            jobs,
+            left: left[job],
+        };
+        left[job] = fill_job(first, last, shares, room, holders, turn);
+        k += 1;
     }
-    let rest = fill_window(
-        first,
-        last,
-        size,
-        frequency,
-        jobs,
-        shares,
-        loads,
-        holders,
-        job,
-        most,
-    );
-    left[job] = rest;
 }
 
 // Fills the window of a job, and answers how many of its cycles are left then.
-fn fill_window(
+fn fill_job(
     first: &[usize; MAX_JOBS],
     last: &[usize; MAX_JOBS],
-    size: &[u64; MAX_INTERVALS],
-    frequency: u64,
-    jobs: usize,
     shares: &mut [u32],
-    loads: &mut [u64; MAX_INTERVALS],
+    room: &mut [u64; MAX_INTERVALS],
     holders: &mut [u64; MAX_INTERVALS],
-    job: usize,
-    most: u64,
+    turn: Turn,
 ) -> u64
-    requires { ⌜ SizesPlace jobs (now first) (now last) (now size) frequency (now shares) (now loads) (now holders) job most ⌝ }
-    ensures { λ r. ⌜ SizesPlaced jobs (now (first .entry)) (now (last .entry)) (now (size .entry)) frequency
-        (now (shares .entry)) (now (loads .entry)) (now (holders .entry))
-        (now (shares .exit)) (now (loads .exit)) (now (holders .exit)) job most r ⌝ }
+    requires { ⌜ TurnFill (now first) (now last) (now shares) (now room) (now holders) turn ⌝ }
+    ensures { λ r. ⌜ TurnFilled (now (first .entry)) (now (last .entry)) (now (shares .entry)) (now (room .entry)) (now (holders .entry))
+        (now (shares .exit)) (now (room .exit)) (now (holders .exit)) turn r ⌝ }
 {
-    let reached = [job; MAX_JOBS];
-    let source = [0; MAX_JOBS];
-    let end = last[job];
-    let mut left = most;
-    let mut interval = first[job];
+    if turn.left == 0 {
+        return 0;
+    }
+    let job = turn.job;
+    fill_range(shares, room, holders, turn, first[job], last[job])
+}
+
+// Fills the intervals from start up to, not including, end, in which a job is open, and answers how many of its cycles are left.
+fn fill_range(
+    shares: &mut [u32],
+    room: &mut [u64; MAX_INTERVALS],
+    holders: &mut [u64; MAX_INTERVALS],
+    turn: Turn,
+    start: usize,
+    end: usize,
+) -> u64
+    requires { ⌜ RangeFill (now shares) (now room) (now holders) turn start end ⌝ }
+    ensures { λ r. ⌜ RangeFilled (now (shares .entry)) (now (room .entry)) (now (holders .entry))
+        (now (shares .exit)) (now (room .exit)) (now (holders .exit)) turn start end r ⌝ }
+{
+    let mut left = turn.left;
+    let mut interval = start;
     while interval < end {
         if left == 0 {
             return left;
         }
-        left = fill_interval(
-            first,
-            last,
-            size,
-            frequency,
-            jobs,
-            shares,
-            loads,
-            holders,
-            &reached,
-            &source,
-            job,
-            interval,
+        let rest = Turn {
+            job: turn.job,
+            jobs: turn.jobs,
             left,
-        );
+        };
+        left = fill_interval(shares, room, holders, rest, interval);
         interval += 1;
     }
     left
 }
 
-// Fills one interval of the window, and answers how many cycles are left then. Only the job itself is reached, so that the
-// path ends where it starts.
+// Fills one interval, and answers how many of the job's cycles are left.
 fn fill_interval(
-    first: &[usize; MAX_JOBS],
-    last: &[usize; MAX_JOBS],
-    size: &[u64; MAX_INTERVALS],
-    frequency: u64,
-    jobs: usize,
     shares: &mut [u32],
-    loads: &mut [u64; MAX_INTERVALS],
+    room: &mut [u64; MAX_INTERVALS],
     holders: &mut [u64; MAX_INTERVALS],
-    reached: &[usize; MAX_JOBS],
-    source: &[usize; MAX_JOBS],
-    job: usize,
+    turn: Turn,
     interval: usize,
-    left: u64,
 ) -> u64
-    requires { ⌜ SizesPlace jobs (now first) (now last) (now size) frequency (now shares) (now loads) (now holders) job left ⌝ }
-    requires { ⌜ (0 < left) × (numbersIn (now first) job ≤ interval) × (interval < numbersIn (now last) job) ⌝ }
-    requires { ⌜ (numbersIn (now reached) 0 ≡ job) × (length (now reached) ≡ maxJobs) × (length (now source) ≡ maxJobs) ⌝ }
-    ensures { λ r. ⌜ SizesPlaced jobs (now (first .entry)) (now (last .entry)) (now (size .entry)) frequency
-        (now (shares .entry)) (now (loads .entry)) (now (holders .entry))
-        (now (shares .exit)) (now (loads .exit)) (now (holders .exit)) job left r ⌝ }
+    requires { ⌜ RangeFill (now shares) (now room) (now holders) turn interval (interval + 1) ⌝ }
+    requires { ⌜ 0 < turn .left ⌝ }
+    ensures { λ r. ⌜ RangeFilled (now (shares .entry)) (now (room .entry)) (now (holders .entry))
+        (now (shares .exit)) (now (room .exit)) (now (holders .exit)) turn interval (interval + 1) r ⌝ }
 {
-    if size[interval] * frequency <= loads[interval] {
-        return left;
+    let free = room[interval];
+    if free == 0 {
+        return turn.left;
     }
-    let mut found = only(job, first[job], last[job]);
-    found.target = interval;
-    let amount = fill(
-        first,
-        last,
-        size,
-        frequency,
-        jobs,
+    let amount = if free < turn.left { free } else { turn.left };
+    put(
         shares,
-        loads,
         holders,
-        reached,
-        source,
-        found,
-        left,
+        turn.jobs,
+        turn.job,
+        interval,
+        amount as u32,
     );
-    left - amount
+    room[interval] = free - amount;
+    turn.left - amount
 }

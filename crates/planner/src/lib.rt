@@ -2,12 +2,7 @@
 mod filling;
 mod moving;
 mod order;
-mod path;
 mod placement;
-mod prices;
-mod search;
-mod workload;
+mod rooms;
 
 pub use placement::place;
-pub use prices::smallest_prices;
-pub use workload::Workload;

@@ -1,111 +1,136 @@
-// Placing what is left of a job along paths, at a band.
-ghost use Prim.Native.Nat.{_+_, _<_};
-ghost use Rattle.planner.specs.BandPasses.{SizesMove, SizesMoved, SizesRaise, SizesRaised};
-use crate::path::fill;
-use crate::prices::is_below;
-use crate::prices::raise;
-use crate::search::search;
+// Placing what is left of the jobs along paths, at a band.
+ghost use Rattle.planner.specs.BandPasses.{WindowsPlace, WindowsPlaced, TurnRaise, TurnRaised, WindowsRaise, WindowsRaised};
 use model::MAX_INTERVALS;
 use model::MAX_JOBS;
+use paths::Turn;
+use paths::fill;
+use prices::is_below;
+use prices::raise;
+use searching::search;
 
-// Places what is left of a job, where a price of its window is not above the band.
-pub(crate) fn move_job(
+// How many cycles of a job are left. Where some are, the intervals from `start` up to, not including, `end` are all that a
+// search reaches from the job, and none of them has room.
+pub struct Rest {
+    pub left: u64,
+    pub start: usize,
+    pub end: usize,
+}
+
+// Places along paths what is left of the jobs. Where some is left after that, no price of the job's window is the band's. On
+// this alone it rests that all jobs are placed at least price.
+pub(crate) fn move_jobs(
     first: &[usize; MAX_JOBS],
     last: &[usize; MAX_JOBS],
-    size: &[u64; MAX_INTERVALS],
-    frequency: u64,
-    jobs: usize,
     shares: &mut [u32],
-    loads: &mut [u64; MAX_INTERVALS],
+    room: &mut [u64; MAX_INTERVALS],
     holders: &mut [u64; MAX_INTERVALS],
     prices: &mut [u64; MAX_INTERVALS],
     left: &mut [u64; MAX_JOBS],
+    jobs: usize,
     band: u64,
-    job: usize,
 )
-    requires { ⌜ SizesRaise jobs (now first) (now last) (now size) frequency (now shares) (now loads) (now holders) (now prices) (now left) band job ⌝ }
-    requires { ⌜ job < jobs ⌝ }
-    ensures { λ _. ⌜ SizesRaised jobs (now (first .entry)) (now (last .entry)) (now (size .entry)) frequency
-        (now (shares .entry)) (now (loads .entry)) (now (holders .entry)) (now (prices .entry)) (now (left .entry))
-        (now (shares .exit)) (now (loads .exit)) (now (holders .exit)) (now (prices .exit)) (now (left .exit)) band job (job + 1) ⌝ }
+    requires { ⌜ WindowsRaise jobs (now first) (now last) (now shares) (now room) (now holders) (now prices) (now left) band ⌝ }
+    ensures { λ _. ⌜ WindowsRaised jobs (now (first .entry)) (now (last .entry))
+        (now (shares .entry)) (now (room .entry)) (now (holders .entry)) (now (prices .entry)) (now (left .entry))
+        (now (shares .exit)) (now (room .exit)) (now (holders .exit)) (now (prices .exit)) (now (left .exit)) band jobs ⌝ }
 {
-    let most = left[job];
-    if most == 0 {
-        return;
-    }
-    if is_below(prices, first[job], last[job], band + 1) {
-        let rest = move_cycles(
-            first,
-            last,
-            size,
-            frequency,
-            jobs,
-            shares,
-            loads,
-            holders,
-            prices,
-            band,
+    let mut job = 0;
+    while job < jobs {
+        let turn = Turn {
             job,
-            most,
-        );
-        left[job] = rest;
+            jobs,
+            left: left[job],
+        };
+        left[job] = move_job(first, last, shares, room, holders, prices, band, turn);
+        job += 1;
     }
 }
 
-// Places cycles of a job along paths, and answers how many are left. Some are left only where no interval that is reached has
-// room at the band; then the prices of all that is reached are raised past it.
-fn move_cycles(
+// Places what is left of a job, where a price of its window is not above the band, and answers how many cycles are left then.
+// Some are left only where no interval that is reached has room at the band; then the prices of all of them rise past it.
+fn move_job(
     first: &[usize; MAX_JOBS],
     last: &[usize; MAX_JOBS],
-    size: &[u64; MAX_INTERVALS],
-    frequency: u64,
-    jobs: usize,
     shares: &mut [u32],
-    loads: &mut [u64; MAX_INTERVALS],
+    room: &mut [u64; MAX_INTERVALS],
     holders: &mut [u64; MAX_INTERVALS],
     prices: &mut [u64; MAX_INTERVALS],
     band: u64,
-    job: usize,
-    most: u64,
+    turn: Turn,
 ) -> u64
-    requires { ⌜ SizesMove jobs (now first) (now last) (now size) frequency (now shares) (now loads) (now holders) (now prices) job most band ⌝ }
-    ensures { λ r. ⌜ SizesMoved jobs (now (first .entry)) (now (last .entry)) (now (size .entry)) frequency
-        (now (shares .entry)) (now (loads .entry)) (now (holders .entry)) (now (prices .entry))
-        (now (shares .exit)) (now (loads .exit)) (now (holders .exit)) (now (prices .exit)) job most r band ⌝ }
+    requires { ⌜ TurnRaise (now first) (now last) (now shares) (now room) (now holders) (now prices) band turn ⌝ }
+    ensures { λ r. ⌜ TurnRaised (now (first .entry)) (now (last .entry))
+        (now (shares .entry)) (now (room .entry)) (now (holders .entry)) (now (prices .entry))
+        (now (shares .exit)) (now (room .exit)) (now (holders .exit)) (now (prices .exit)) band turn r ⌝ }
+{
+    if turn.left == 0 {
+        return 0;
+    }
+    let job = turn.job;
+    if is_below(prices, first[job], last[job], band + 1) {
+        let rest = move_cycles(first, last, shares, room, holders, turn);
+        if rest.left == 0 {
+            return 0;
+        }
+        raise(prices, rest.start, rest.end, band + 1);
+        return rest.left;
+    }
+    turn.left
+}
+
+// Places cycles of a job along paths, until none are left or no interval that is reached has room.
+fn move_cycles(
+    first: &[usize; MAX_JOBS],
+    last: &[usize; MAX_JOBS],
+    shares: &mut [u32],
+    room: &mut [u64; MAX_INTERVALS],
+    holders: &mut [u64; MAX_INTERVALS],
+    turn: Turn,
+) -> Rest
+    requires { ⌜ WindowsPlace (now first) (now last) (now shares) (now room) (now holders) turn ⌝ }
+    ensures { λ r. ⌜ WindowsPlaced (now (first .entry)) (now (last .entry)) (now (shares .entry)) (now (room .entry)) (now (holders .entry))
+        (now (shares .exit)) (now (room .exit)) (now (holders .exit)) turn r ⌝ }
 {
     let mut reached = [0; MAX_JOBS];
     let mut source = [0; MAX_JOBS];
-    let mut left = most;
+    let mut left = turn.left;
     while left > 0 {
         let found = search(
             first,
             last,
-            size,
-            frequency,
-            loads,
+            room,
             holders,
-            job,
+            turn.job,
             &mut reached,
             &mut source,
         );
         if found.target >= MAX_INTERVALS {
-            raise(prices, found.start, found.end, band + 1);
-            return left;
+            return Rest {
+                left,
+                start: found.start,
+                end: found.end,
+            };
         }
+        let rest = Turn {
+            job: turn.job,
+            jobs: turn.jobs,
+            left,
+        };
         left -= fill(
             first,
             last,
-            size,
-            frequency,
-            jobs,
             shares,
-            loads,
+            room,
             holders,
             &reached,
             &source,
             found,
-            left,
+            rest,
         );
     }
-    left
+    Rest {
+        left,
+        start: 0,
+        end: 0,
+    }
 }

@@ -3,19 +3,20 @@ ghost use mathlib.Core.Path.{_≡_};
 ghost use Prim.Native.Nat.{ℕ, _*_, _<_, _≤_};
 ghost use lib.ListN.{length};
 ghost use Rattle.model.specs.Limits.{maxJobs};
-ghost use Rattle.planner.specs.RangesFit.{RangesFit};
-ghost use Rattle.planner.specs.Arrays.{numbersIn, problemIn, workloadWith, SoundWorkload, KeptPast};
+ghost use Rattle.workloads.specs.RangesFit.{RangesFit};
+ghost use Rattle.workloads.specs.Arrays.{numbersIn, problemIn, workloadWith, SoundWorkload, KeptPast};
 ghost use Rattle.planner.specs.PlacedTables.{PlacedTables};
-ghost use Rattle.planner.specs.BandPasses.{SizesPass, SizesPassed, SizesRaise, SizesRaised};
-use crate::filling::fill_job;
-use crate::moving::move_job;
+use crate::filling::fill_jobs;
+use crate::moving::move_jobs;
 use crate::order::by_deadline;
+use crate::rooms::add_band;
+use crate::rooms::loads_of;
 use model::MAX_INTERVALS;
 use model::MAX_JOBS;
 use model::MAX_POINTS;
 
 // Places all jobs, from an empty table. Prices are bands, counted from 0. At each band the jobs go into their own windows as
-// far as these have room, and what is still left of them goes along paths.
+// far as these have room, and what is still left of them goes along paths. Until the end the array of the loads has the room.
 // The arrays of a workload are lent at one lifetime, so that they can be fields of one struct.
 pub fn place<'a>(
     jobs: usize,
@@ -46,34 +47,32 @@ pub fn place<'a>(
     let order = by_deadline(last, jobs);
     let mut band = 0;
     while band < bands {
-        let band_end = frequency[band + 1];
+        let gap = frequency[band + 1] - frequency[band];
+        add_band(size, intervals, gap, loads);
         fill_jobs(
             first,
             last,
-            size,
-            band_end,
-            jobs,
             &order,
             shares,
             loads,
             &mut holders,
             &mut left,
+            jobs,
         );
         move_jobs(
             first,
             last,
-            size,
-            band_end,
-            jobs,
             shares,
             loads,
             &mut holders,
             prices,
             &mut left,
+            jobs,
             band as u64,
         );
         band += 1;
     }
+    loads_of(size, intervals, frequency[bands], loads);
 }
 
 // Sets the first numbers of the table to 0.
@@ -86,81 +85,5 @@ fn clear(shares: &mut [u32], count: usize)
     while k < count {
         shares[k] = 0;
         k += 1;
-    }
-}
-
-// Fills the windows of the jobs in an order.
-fn fill_jobs(
-    first: &[usize; MAX_JOBS],
-    last: &[usize; MAX_JOBS],
-    size: &[u64; MAX_INTERVALS],
-    frequency: u64,
-    jobs: usize,
-    order: &[usize; MAX_JOBS],
-    shares: &mut [u32],
-    loads: &mut [u64; MAX_INTERVALS],
-    holders: &mut [u64; MAX_INTERVALS],
-    left: &mut [u64; MAX_JOBS],
-)
-    requires { ⌜ SizesPass jobs (now first) (now last) (now size) frequency (now shares) (now loads) (now holders) (now left) ⌝ }
-    requires { ⌜ ((k : ℕ) → k < jobs → numbersIn (now order) k < jobs) ⌝ }
-    ensures { λ _. ⌜ SizesPassed jobs (now (first .entry)) (now (last .entry)) (now (size .entry)) frequency
-        (now (shares .entry)) (now (loads .entry)) (now (holders .entry)) (now (left .entry))
-        (now (shares .exit)) (now (loads .exit)) (now (holders .exit)) (now (left .exit)) ⌝ }
-{
-    let mut k = 0;
-    while k < jobs {
-        fill_job(
-            first,
-            last,
-            size,
-            frequency,
-            jobs,
-            shares,
-            loads,
-            holders,
-            left,
-            order[k],
-        );
-        k += 1;
-    }
-}
-
-// Places along paths what is left of the jobs. Where some is left after that, no price of the job's window is the band's.
-fn move_jobs(
-    first: &[usize; MAX_JOBS],
-    last: &[usize; MAX_JOBS],
-    size: &[u64; MAX_INTERVALS],
-    frequency: u64,
-    jobs: usize,
-    shares: &mut [u32],
-    loads: &mut [u64; MAX_INTERVALS],
-    holders: &mut [u64; MAX_INTERVALS],
-    prices: &mut [u64; MAX_INTERVALS],
-    left: &mut [u64; MAX_JOBS],
-    band: u64,
-)
-    requires { ⌜ SizesRaise jobs (now first) (now last) (now size) frequency (now shares) (now loads) (now holders) (now prices) (now left) band 0 ⌝ }
-    ensures { λ _. ⌜ SizesRaised jobs (now (first .entry)) (now (last .entry)) (now (size .entry)) frequency
-        (now (shares .entry)) (now (loads .entry)) (now (holders .entry)) (now (prices .entry)) (now (left .entry))
-        (now (shares .exit)) (now (loads .exit)) (now (holders .exit)) (now (prices .exit)) (now (left .exit)) band 0 jobs ⌝ }
-{
-    let mut job = 0;
-    while job < jobs {
-        move_job(
-            first,
-            last,
-            size,
-            frequency,
-            jobs,
-            shares,
-            loads,
-            holders,
-            prices,
-            left,
-            band,
-            job,
-        );
-        job += 1;
     }
 }

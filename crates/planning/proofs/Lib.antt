@@ -1,6 +1,6 @@
 -- Laws for the proofs of the functions, of placing for a site, and of the plan that is made.
-pub mod SiteArrays
 pub mod SiteTables
+pub mod SiteArrays
 pub mod Placeable
 pub mod SameShares
 pub mod WrittenSite

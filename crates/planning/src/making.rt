@@ -1,28 +1,19 @@
-// The plan where both tables were read, no window is overfull, and the buffers are long enough.
+// The plan where a site was read, no window of it is overfull, and the buffers are long enough.
 ghost use mathlib.Core.Path.{_≡_};
-ghost use mathlib.Core.Option.{none};
 ghost use Prim.Native.Nat.{ℕ, _+_, _<_, _≤_};
-ghost use lib.ListN.{length, getD};
+ghost use lib.ListN.{getD};
 ghost use Rattle.model.specs.Limits.{maxIntervals};
-ghost use Rattle.model.specs.Jobs.{ValidJobs};
-ghost use Rattle.model.specs.Bands.{frequencyOf, bandCount};
-ghost use Rattle.model.specs.Intervals.{boundsOf};
-ghost use Rattle.model.specs.Windows.{earliestOverfull};
-ghost use Rattle.model.specs.Demands.{LongEnough};
+ghost use Rattle.model.specs.Sites.{Site};
 ghost use Rattle.tables.specs.Column.{columnOf};
-ghost use Rattle.tables.specs.Tables.{jobsIn};
-ghost use Rattle.levels.specs.PointTables.{pointsOf};
-ghost use Rattle.windows.specs.Answers.{HoldsTimes};
-ghost use Rattle.planning.specs.Workloads.{PaddedCycles, WorkingTable};
-ghost use Rattle.planning.specs.MadePlans.{MadePlan};
+ghost use Rattle.planning.specs.MadePlans.{CanMake, MadePlan};
 use crate::workload::workload_of;
 use energy::energy_figure;
-use levels::PointTable;
 use model::MAX_BOUNDS;
 use model::MAX_INTERVALS;
 use model::MAX_JOBS;
 use planner::place;
-use planner::smallest_prices;
+use prices::smallest_prices;
+use site::SiteTable;
 use writing::write_plan;
 use writing::write_prices;
 
@@ -35,28 +26,22 @@ pub struct Figures {
 
 // Places the jobs, finds the smallest prices, and writes both.
 pub(crate) fn make_plan(
+    site: SiteTable,
     releases: &[u64; MAX_JOBS],
     deadlines: &[u64; MAX_JOBS],
     cycles: &[u64; MAX_JOBS],
-    count: usize,
     times: &[u64; MAX_BOUNDS],
-    bounds: usize,
-    working: PointTable,
     plan: &mut [u8],
     prices: &mut [u8],
     shares: &mut [u32],
 ) -> Figures
-    requires { ⌜ ValidJobs (jobsIn count (now releases) (now deadlines) (now cycles)) ⌝ }
-    requires { ⌜ HoldsTimes (now times) bounds (boundsOf (jobsIn count (now releases) (now deadlines) (now cycles))) ⌝ }
-    requires { ⌜ WorkingTable working ⌝ }
-    requires { ⌜ earliestOverfull (frequencyOf (pointsOf working) (bandCount (pointsOf working))) (jobsIn count (now releases) (now deadlines) (now cycles)) ≡ none ⌝ }
-    requires { ⌜ LongEnough (jobsIn count (now releases) (now deadlines) (now cycles)) (length (now plan)) (length (now prices)) (length (now shares)) ⌝ }
-    requires { ⌜ PaddedCycles count (now cycles) ⌝ }
-    ensures { λ r. ⌜ MadePlan (pointsOf working) (jobsIn count (now (releases .entry)) (now (deadlines .entry)) (now (cycles .entry))) (r .intervals) (r .steps) (r .energy)
+    requires { ⌜ ((s : Site) × CanMake s site (now releases) (now deadlines) (now cycles) (now times) (record { plan = now plan; prices = now prices; shares = now shares })) ⌝ }
+    ensures { λ r. ⌜ ((s : Site) → CanMake s site (now (releases .entry)) (now (deadlines .entry)) (now (cycles .entry)) (now (times .entry)) (record { plan = now (plan .entry); prices = now (prices .entry); shares = now (shares .entry) })
+        → MadePlan s (r .intervals) (r .steps) (r .energy)
         (record { plan = now (plan .entry); prices = now (prices .entry); shares = now (shares .entry) })
-        (record { plan = now (plan .exit); prices = now (prices .exit); shares = now (shares .exit) }) ⌝ }
+        (record { plan = now (plan .exit); prices = now (prices .exit); shares = now (shares .exit) })) ⌝ }
 {
-    let work = workload_of(releases, deadlines, cycles, count, times, bounds, working);
+    let work = workload_of(site, releases, deadlines, cycles, times);
     let mut loads = [0u64; MAX_INTERVALS];
     let mut numbers = [0u64; MAX_INTERVALS];
     let intervals = work.intervals;
@@ -88,7 +73,7 @@ pub(crate) fn make_plan(
     let counted = from_one(&numbers, intervals);
     let steps = write_plan(shares, work.jobs, intervals, plan);
     write_prices(times, &counted, intervals, prices);
-    let energy = energy_figure(working, times, bounds, &loads);
+    let energy = energy_figure(site.working, times, site.bounds, &loads);
     Figures {
         intervals,
         steps,

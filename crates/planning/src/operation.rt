@@ -1,26 +1,16 @@
 // Planning, from bytes.
-ghost use mathlib.Core.Path.{_≡_};
-ghost use mathlib.Core.Option.{none};
-ghost use Prim.Native.Nat.{_≤_};
-ghost use Rattle.model.specs.Limits.{maxFrequency};
-ghost use Rattle.model.specs.Jobs.{ValidJobs};
-ghost use Rattle.model.specs.Bands.{frequencyOf, bandCount};
-ghost use Rattle.model.specs.Windows.{earliestOverfull};
-ghost use Rattle.tables.specs.Tables.{jobsIn};
-ghost use Rattle.levels.specs.PointTables.{pointsOf};
-ghost use Rattle.planning.specs.Workloads.{PaddedCycles, WorkingTable};
-ghost use Rattle.planning.specs.PlanAnswers.{LevelStage, TableStage, PlanContract};
+ghost use Rattle.model.specs.Sites.{Site, ValidSite};
+ghost use Rattle.site.specs.SiteTables.{HoldsSite, HoldsSome};
+ghost use Rattle.planning.specs.MadePlans.{FitsIn};
+ghost use Rattle.planning.specs.PlanAnswers.{SitePlanned, PlanContract};
 use crate::making::make_plan;
 use crate::rooms::rooms_of;
-use levels::PointTable;
-use levels::working_levels;
 use model::MAX_BOUNDS;
 use model::MAX_JOBS;
-use tables::Reading;
-use tables::read_jobs;
-use tables::read_levels;
+use site::SiteReading;
+use site::SiteTable;
+use site::read_site;
 use windows::Overfull;
-use windows::bounds_of;
 use windows::earliest_overfull;
 use windows::window_spare;
 
@@ -55,74 +45,52 @@ pub fn plan(
         (record { plan = now (plan .entry); prices = now (prices .entry); shares = now (shares .entry) })
         (record { plan = now (plan .exit); prices = now (prices .exit); shares = now (shares .exit) }) r ⌝ }
 {
-    let table = read_levels(levels);
-    let reading = table.reading;
+    let mut releases = [0u64; MAX_JOBS];
+    let mut deadlines = [0u64; MAX_JOBS];
+    let mut cycles = [0u64; MAX_JOBS];
+    let mut times = [0u64; MAX_BOUNDS];
+    let site = read_site(
+        levels,
+        jobs,
+        &mut releases,
+        &mut deadlines,
+        &mut cycles,
+        &mut times,
+    );
+    let reading = site.reading;
     match reading {
-        Reading::Refused { number, place } => PlanAnswer::Refused { number, place },
-        Reading::Entries(count) => {
-            let frequencies = table.frequencies;
-            let voltages = table.voltages;
-            let working = working_levels(&frequencies, &voltages, count);
-            plan_jobs(working, frequencies[count - 1], jobs, plan, prices, shares)
-        }
+        SiteReading::Refused { number, place } => PlanAnswer::Refused { number, place },
+        SiteReading::Read => plan_site(
+            site,
+            &releases,
+            &deadlines,
+            &cycles,
+            &times,
+            plan,
+            prices,
+            shares,
+        ),
     }
 }
 
-// Planning where the levels were read.
-fn plan_jobs(
-    working: PointTable,
-    top: u64,
-    jobs: &[u8],
+// Planning where the site was read: the earliest overfull window, or a plan.
+fn plan_site(
+    site: SiteTable,
+    releases: &[u64; MAX_JOBS],
+    deadlines: &[u64; MAX_JOBS],
+    cycles: &[u64; MAX_JOBS],
+    times: &[u64; MAX_BOUNDS],
     plan: &mut [u8],
     prices: &mut [u8],
     shares: &mut [u32],
 ) -> PlanAnswer
-    requires { ⌜ WorkingTable working ⌝ }
-    requires { ⌜ (top ≤ maxFrequency) × (frequencyOf (pointsOf working) (bandCount (pointsOf working)) ≡ top) ⌝ }
-    ensures { λ r. ⌜ LevelStage (pointsOf working) top (now (jobs .entry))
+    requires { ⌜ HoldsSome site (now releases) (now deadlines) (now cycles) (now times) ⌝ }
+    ensures { λ r. ⌜ ((s : Site) → ValidSite s → HoldsSite s site (now (releases .entry)) (now (deadlines .entry)) (now (cycles .entry)) (now (times .entry)) → SitePlanned s
         (record { plan = now (plan .entry); prices = now (prices .entry); shares = now (shares .entry) })
-        (record { plan = now (plan .exit); prices = now (prices .exit); shares = now (shares .exit) }) r ⌝ }
+        (record { plan = now (plan .exit); prices = now (prices .exit); shares = now (shares .exit) }) r) ⌝ }
 {
-    let table = read_jobs(jobs);
-    let reading = table.reading;
-    match reading {
-        Reading::Refused { number, place } => PlanAnswer::Refused { number, place },
-        Reading::Entries(count) => {
-            plan_tables(
-                working,
-                top,
-                &table.releases,
-                &table.deadlines,
-                &table.cycles,
-                count,
-                plan,
-                prices,
-                shares,
-            )
-        }
-    }
-}
-
-// Planning where both tables were read: the earliest overfull window, or a plan.
-fn plan_tables<'a>(
-    working: PointTable,
-    top: u64,
-    releases: &'a [u64; MAX_JOBS],
-    deadlines: &'a [u64; MAX_JOBS],
-    cycles: &'a [u64; MAX_JOBS],
-    count: usize,
-    plan: &mut [u8],
-    prices: &mut [u8],
-    shares: &mut [u32],
-) -> PlanAnswer
-    requires { ⌜ ValidJobs (jobsIn count (now releases) (now deadlines) (now cycles)) ⌝ }
-    requires { ⌜ WorkingTable working ⌝ }
-    requires { ⌜ (top ≤ maxFrequency) × (frequencyOf (pointsOf working) (bandCount (pointsOf working)) ≡ top) ⌝ }
-    requires { ⌜ PaddedCycles count (now cycles) ⌝ }
-    ensures { λ r. ⌜ TableStage (pointsOf working) top (jobsIn count (now (releases .entry)) (now (deadlines .entry)) (now (cycles .entry)))
-        (record { plan = now (plan .entry); prices = now (prices .entry); shares = now (shares .entry) })
-        (record { plan = now (plan .exit); prices = now (prices .exit); shares = now (shares .exit) }) r ⌝ }
-{
+    let count = site.jobs;
+    let top = site.top;
     let found = earliest_overfull(releases, deadlines, cycles, count, top);
     match found {
         Overfull::Window { start, end } => {
@@ -134,11 +102,11 @@ fn plan_tables<'a>(
             }
         }
         Overfull::Fits => plan_fitting(
-            working,
+            site,
             releases,
             deadlines,
             cycles,
-            count,
+            times,
             plan,
             prices,
             shares,
@@ -147,27 +115,22 @@ fn plan_tables<'a>(
 }
 
 // Planning where no window is overfull: each buffer is compared with the length wanted, and then the plan is made.
-fn plan_fitting<'a>(
-    working: PointTable,
-    releases: &'a [u64; MAX_JOBS],
-    deadlines: &'a [u64; MAX_JOBS],
-    cycles: &'a [u64; MAX_JOBS],
-    count: usize,
+fn plan_fitting(
+    site: SiteTable,
+    releases: &[u64; MAX_JOBS],
+    deadlines: &[u64; MAX_JOBS],
+    cycles: &[u64; MAX_JOBS],
+    times: &[u64; MAX_BOUNDS],
     plan: &mut [u8],
     prices: &mut [u8],
     shares: &mut [u32],
 ) -> PlanAnswer
-    requires { ⌜ ValidJobs (jobsIn count (now releases) (now deadlines) (now cycles)) ⌝ }
-    requires { ⌜ WorkingTable working ⌝ }
-    requires { ⌜ earliestOverfull (frequencyOf (pointsOf working) (bandCount (pointsOf working))) (jobsIn count (now releases) (now deadlines) (now cycles)) ≡ none ⌝ }
-    requires { ⌜ PaddedCycles count (now cycles) ⌝ }
-    ensures { λ r. ⌜ TableStage (pointsOf working) (frequencyOf (pointsOf working) (bandCount (pointsOf working))) (jobsIn count (now (releases .entry)) (now (deadlines .entry)) (now (cycles .entry)))
+    requires { ⌜ ((s : Site) × FitsIn s site (now releases) (now deadlines) (now cycles) (now times)) ⌝ }
+    ensures { λ r. ⌜ ((s : Site) → FitsIn s site (now (releases .entry)) (now (deadlines .entry)) (now (cycles .entry)) (now (times .entry)) → SitePlanned s
         (record { plan = now (plan .entry); prices = now (prices .entry); shares = now (shares .entry) })
-        (record { plan = now (plan .exit); prices = now (prices .exit); shares = now (shares .exit) }) r ⌝ }
+        (record { plan = now (plan .exit); prices = now (prices .exit); shares = now (shares .exit) }) r) ⌝ }
 {
-    let mut times = [0u64; MAX_BOUNDS];
-    let bounds = bounds_of(releases, deadlines, count, &mut times);
-    let rooms = rooms_of(releases, deadlines, count, &times, bounds);
+    let rooms = rooms_of(site, releases, deadlines, cycles, times);
     if plan.len() < rooms.plan {
         return PlanAnswer::Refused {
             number: 12,
@@ -187,13 +150,11 @@ fn plan_fitting<'a>(
         };
     }
     let figures = make_plan(
+        site,
         releases,
         deadlines,
         cycles,
-        count,
-        &times,
-        bounds,
-        working,
+        times,
         plan,
         prices,
         shares,

@@ -1,15 +1,12 @@
 // How long the buffers must be: refusals 12 to 14.
-ghost use mathlib.Core.List.{List};
-ghost use Prim.Native.Nat.{ℕ, _≤_};
-ghost use Rattle.model.specs.Limits.{maxJobs};
-ghost use Rattle.model.specs.Intervals.{boundsOf};
-ghost use Rattle.tables.specs.Tables.{jobsIn};
-ghost use Rattle.windows.specs.Answers.{HoldsTimes};
+ghost use Rattle.model.specs.Sites.{Site, ValidSite};
+ghost use Rattle.site.specs.SiteTables.{HoldsSite, HoldsSome};
 ghost use Rattle.planning.specs.WantedRooms.{WantedRooms};
+use intervals::interval_count;
+use intervals::open_pairs;
 use model::MAX_BOUNDS;
 use model::MAX_JOBS;
-use windows::interval_count;
-use windows::open_pairs;
+use site::SiteTable;
 
 // The lengths wanted: bytes of the plan and of the prices, and shares.
 pub struct Rooms {
@@ -20,21 +17,20 @@ pub struct Rooms {
 
 // 4 + 6K bytes, 2 + 5N bytes and n × N shares.
 pub(crate) fn rooms_of(
+    site: SiteTable,
     releases: &[u64; MAX_JOBS],
     deadlines: &[u64; MAX_JOBS],
-    count: usize,
+    cycles: &[u64; MAX_JOBS],
     times: &[u64; MAX_BOUNDS],
-    bounds: usize,
 ) -> Rooms
-    requires { ⌜ count ≤ maxJobs ⌝ }
-    requires { ⌜ ((cycles : List ℕ) → HoldsTimes (now times) bounds (boundsOf (jobsIn count (now releases) (now deadlines) cycles))) ⌝ }
-    ensures { λ r. ⌜ ((cycles : List ℕ) → WantedRooms (jobsIn count (now (releases .entry)) (now (deadlines .entry)) cycles) (r .plan) (r .prices) (r .shares)) ⌝ }
+    requires { ⌜ HoldsSome site (now releases) (now deadlines) (now cycles) (now times) ⌝ }
+    ensures { λ r. ⌜ ((s : Site) → ValidSite s → HoldsSite s site (now (releases .entry)) (now (deadlines .entry)) (now (cycles .entry)) (now (times .entry)) → WantedRooms s (r .plan) (r .prices) (r .shares)) ⌝ }
 {
-    let intervals = interval_count(bounds);
-    let pairs = open_pairs(times, bounds, releases, deadlines, count);
+    let intervals = interval_count(site.bounds);
+    let pairs = open_pairs(times, site.bounds, releases, deadlines, site.jobs);
     Rooms {
         plan: 4 + 6 * pairs,
         prices: 2 + 5 * intervals,
-        shares: count * intervals,
+        shares: site.jobs * intervals,
     }
 }

@@ -1,40 +1,36 @@
-// What is to be placed for decoded jobs, between their bounds and at the working levels.
+// What is to be placed for a site that was read.
 ghost use mathlib.Core.Path.{_≡_};
 ghost use Prim.Native.Nat.{ℕ, _+_, _-_, _<_, _≤_};
 ghost use lib.ListN.{getD, replicate};
 ghost use Rattle.model.specs.Limits.{maxJobs, maxIntervals};
-ghost use Rattle.model.specs.Jobs.{ValidJobs};
-ghost use Rattle.model.specs.Intervals.{boundsOf};
+ghost use Rattle.model.specs.Sites.{Site, ValidSite};
 ghost use Rattle.tables.specs.Column.{columnOf};
-ghost use Rattle.tables.specs.Tables.{jobsIn};
-ghost use Rattle.levels.specs.PointTables.{pointsOf};
-ghost use Rattle.windows.specs.Answers.{HoldsTimes, RisingTimes};
-ghost use Rattle.planning.specs.Workloads.{numberOf, PaddedCycles, WorkingTable, SiteWorkload};
-use levels::PointTable;
+ghost use Rattle.intervals.specs.Times.{RisingTimes};
+ghost use Rattle.site.specs.SiteTables.{HoldsSite, HoldsSome};
+ghost use Rattle.planning.specs.Workloads.{numberOf, SiteWorkload};
+use intervals::bound_number;
+use intervals::interval_count;
 use model::MAX_BOUNDS;
 use model::MAX_INTERVALS;
 use model::MAX_JOBS;
-use planner::Workload;
-use windows::bound_number;
-use windows::interval_count;
+use site::SiteTable;
+use workloads::Workload;
 
 // The jobs in the intervals between their bounds, at the working points.
 pub(crate) fn workload_of(
+    site: SiteTable,
     releases: &[u64; MAX_JOBS],
     deadlines: &[u64; MAX_JOBS],
     cycles: &[u64; MAX_JOBS],
-    count: usize,
     times: &[u64; MAX_BOUNDS],
-    bounds: usize,
-    working: PointTable,
 ) -> Workload
-    requires { ⌜ ValidJobs (jobsIn count (now releases) (now deadlines) (now cycles)) ⌝ }
-    requires { ⌜ HoldsTimes (now times) bounds (boundsOf (jobsIn count (now releases) (now deadlines) (now cycles))) ⌝ }
-    requires { ⌜ WorkingTable working ⌝ }
-    requires { ⌜ PaddedCycles count (now cycles) ⌝ }
-    ensures { λ r. ⌜ SiteWorkload (pointsOf working) (jobsIn count (now (releases .entry)) (now (deadlines .entry)) (now (cycles .entry))) (boundsOf (jobsIn count (now (releases .entry)) (now (deadlines .entry)) (now (cycles .entry)))) r ⌝ }
+    requires { ⌜ HoldsSome site (now releases) (now deadlines) (now cycles) (now times) ⌝ }
+    ensures { λ r. ⌜ ((s : Site) → ValidSite s → HoldsSite s site (now (releases .entry)) (now (deadlines .entry)) (now (cycles .entry)) (now (times .entry)) → SiteWorkload s r) ⌝ }
 {
+    let count = site.jobs;
+    let bounds = site.bounds;
     let intervals = interval_count(bounds);
+    let working = site.working;
     let frequency = working.frequencies;
     let mut work = Workload {
         jobs: count,

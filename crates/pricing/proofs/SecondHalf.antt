@@ -3,25 +3,28 @@
 -- Assumes nothing.
 use mathlib.Core.Path.{_≡_, sym, _∙_, ap}
 use mathlib.Core.Bool.{true, false, not, _&&_}
-use mathlib.Core.List.{List}
+use mathlib.Core.List.{List, []}
 use Prim.Native.Nat.{ℕ, _+_, _-_, _*_, _<_, _≤_}
 use native.Mathlib.Omega.{arith}
 use lib.ListN.{length, getD}
-use lib.Dec.{ltb, leb}
+use lib.Dec.{ltb, leb, eqb}
 use Rattle.model.specs.declared.Job.{Job}
-use Rattle.model.specs.Limits.{maxIntervals, maxJobs}
+use Rattle.model.specs.Limits.{maxIntervals, maxJobs, maxBounds}
 use Rattle.model.specs.Outcome.{Outcome, byEntry}
 use Rattle.model.specs.Points.{Point}
 use Rattle.model.specs.Jobs.{jobOf}
 use Rattle.model.specs.Intervals.{intervalCount, isOpen}
 use Rattle.model.specs.Plans.{load}
+use Rattle.model.specs.Processors.{Processor, workingOf, processorOf}
+use Rattle.model.specs.Sites.{Site}
 use Rattle.model.specs.Steps.{stepCount, stepAt, sharesOf}
-use Rattle.model.specs.PriceBytes.{priceIntervals, pricesOf}
+use Rattle.model.specs.PriceBytes.{priceIntervals, endAt, pricesOf}
 use Rattle.model.specs.Checking.{entryFault, priceFault, cheaperFault, pricing}
 use Rattle.model.proofs.Outcome.{byEntry-answered}
 use Rattle.model.proofs.Steps.{load-of-steps}
-use Rattle.model.proofs.Faults.{price-length, entry-fault}
-use Rattle.model.proofs.Tests.{in-range}
+use Rattle.model.proofs.Numbers.{both-true}
+use Rattle.model.proofs.Faults.{price-length}
+use Rattle.model.proofs.Tests.{in-range, fault-unless}
 use Rattle.tables.specs.Column.{columnOf}
 use Rattle.tables.proofs.Column.{column-at}
 use Rattle.levels.specs.declared.points.PointTable.{PointTable}
@@ -30,12 +33,12 @@ use Rattle.levels.proofs.PointTables.{length-pointsOf}
 use Rattle.fitting.specs.declared.Verdict.{Verdict}
 use Rattle.fitting.specs.declared.Verdict.the-variants.{Passed, Refused}
 use Rattle.fitting.specs.Verdicts.{verdictOf, passed}
-use Rattle.energy.specs.Figures.{SmallBounds}
+use Rattle.intervals.specs.Times.{SmallBounds}
 use Rattle.job_sets.specs.JobSets.{isMember}
 use Rattle.job_sets.specs.IntervalSets.{setIn}
 use Rattle.fitting.specs.SetsHave.{SetsHave}
 use Rattle.fitting.specs.TestedJobs.{openBelow}
-use Rattle.fitting.specs.FirstHalf.{boundsIn}
+use Rattle.fitting.specs.FirstHalf.{boundsIn, siteIn}
 use Rattle.pricing.specs.SecondHalf.{Planned, BandNumbers, wrongLengthIn, entryFaultIn, priceFaultIn, cheaperFaultIn}
 use Rattle.fitting.proofs.Verdicts.{byEntry-cong, entries-refused, entries-passed}
 use Rattle.fitting.proofs.Tallies.{tally-at}
@@ -43,25 +46,63 @@ use Rattle.fitting.proofs.BoundsIn.{intervals-in, end-in, length-in, open-in}
 use Rattle.fitting.proofs.TestedJobs.{open-has}
 use Rattle.pricing.proofs.PricedSets.{someBelow-cong}
 
+-- over the arrays alone: past the refusals 21 and 22 the price list has its length and its prices are numbers of bands
+module _ (bounds : ℕ) (times prices : List ℕ) (few : bounds ≤ maxBounds) (intervals : ℕ) (counted : intervals ≡ bounds - 1)
+    (right : wrongLengthIn intervals prices ≡ false) where
+  lengths : (priceIntervals prices ≡ intervals) × (length prices ≡ 2 + 5 * intervals)
+  lengths =
+      let site : Site = siteIn (processorOf []) [] times bounds in
+      let all : intervalCount (site .bounds) ≡ intervals = intervals-in bounds times ∙ sym counted in
+      rw all at (price-length site [] prices .0 (rw all right))
+
+  pub price-size : length prices ≡ 2 + 5 * intervals
+  price-size = lengths .1
+
+  module _ (numbers : List ℕ) (filled : numbers ≡ columnOf maxIntervals intervals (λ i. getD prices (2 + 4 * intervals + i) 0)) where
+    price-at : (i : ℕ) → i < intervals → pricesOf prices i ≡ getD numbers i 0
+    unfolding pricesOf
+    price-at i below =
+        rw (filled, lengths .0) (sym (column-at maxIntervals _ intervals i (omega arith) below))
+
+    module _ (bands : ℕ) (entries : Verdict) (went : entries ≡ verdictOf (byEntry intervals (entryFaultIn bands times prices numbers) passed))
+        (sound : entries ≡ Passed) where
+      in-bands : (i : ℕ) → i < intervals → not (leb 1 (getD numbers i 0) && leb (getD numbers i 0) bands) ≡ false
+      in-bands i below =
+          let faultless = byEntry-answered _ passed intervals (entries-passed passed intervals _ entries went sound) .0 i below in
+          let test = fault-unless (eqb (endAt prices i) (getD times (i + 1) 0) && (leb 1 (getD numbers i 0) && leb (getD numbers i 0) bands)) 21 (λ e. e, λ e. e) in
+          let inside : (leb 1 (getD numbers i 0) && leb (getD numbers i 0) bands) ≡ true =
+          both-true (eqb (endAt prices i) (getD times (i + 1) 0)) _ (test .sound .0 faultless) .1 in
+          rw inside
+
+      pub band-numbers : BandNumbers bands (bounds - 1) numbers
+      band-numbers =
+          record {
+            low = λ i below. in-range (getD numbers i 0) bands (in-bands i (omega arith)) .0;
+            high = λ i below. in-range (getD numbers i 0) bands (in-bands i (omega arith)) .1;
+          }
+
 module _ (working : PointTable) (sets : List ℕ) (count bounds : ℕ) (times plan loads prices : List ℕ)
     (small : SmallBounds bounds times) (few : count ≤ maxJobs) (planned : Planned count bounds plan loads)
     (intervals : ℕ) (counted : intervals ≡ bounds - 1)
-    (jobs : List Job) where
+    (processor : Processor) (is-working : workingOf processor ≡ pointsOf working) (jobs : List Job) where
   abbrev ws : List Point
   ws = pointsOf working
 
   abbrev bs : List ℕ
   bs = boundsIn bounds times
 
+  abbrev site : Site
+  site = siteIn processor jobs times bounds
+
   abbrev outcome : Outcome (Unit {0})
-  outcome = pricing ws jobs bs plan prices passed
+  outcome = pricing site plan prices passed
 
   -- what is left to go through after the entries, and after the loads
   abbrev afterFits : Outcome (Unit {0})
-  afterFits = byEntry (stepCount plan) (cheaperFault ws jobs bs plan prices) passed
+  afterFits = byEntry (stepCount plan) (cheaperFault site plan prices) passed
 
   abbrev afterEntries : Outcome (Unit {0})
-  afterEntries = byEntry (intervalCount bs) (priceFault ws jobs bs plan prices) afterFits
+  afterEntries = byEntry (intervalCount bs) (priceFault site plan prices) afterFits
 
   all-intervals : intervalCount bs ≡ intervals
   all-intervals = intervals-in bounds times ∙ sym counted
@@ -71,27 +112,19 @@ module _ (working : PointTable) (sets : List ℕ) (count bounds : ℕ) (times pl
   wrong-length-refused wrong = rw (all-intervals, wrong)
 
   module _ (right : wrongLengthIn intervals prices ≡ false) where
-    lengths : (priceIntervals prices ≡ intervals) × (length prices ≡ 2 + 5 * intervals)
-    lengths = rw all-intervals at (price-length ws jobs bs plan prices .0 (rw all-intervals right))
-
-    pub price-size : length prices ≡ 2 + 5 * intervals
-    price-size = lengths .1
-
-    past-lengths : outcome ≡ byEntry (intervalCount bs) (entryFault ws jobs bs plan prices) afterEntries
+    past-lengths : outcome ≡ byEntry (intervalCount bs) (entryFault site plan prices) afterEntries
     unfolding pricing
-    past-lengths = rw (price-length ws jobs bs plan prices .1 (rw all-intervals lengths))
+    past-lengths = rw (price-length site plan prices .1 (rw all-intervals (lengths bounds times prices (small .rising .few) intervals counted right)))
 
     module _ (numbers : List ℕ) (filled : numbers ≡ columnOf maxIntervals intervals (λ i. getD prices (2 + 4 * intervals + i) 0)) where
-      price-at : (i : ℕ) → i < intervals → pricesOf prices i ≡ getD numbers i 0
-      unfolding pricesOf
-      price-at i below =
-          rw (filled, lengths .0) (sym (column-at maxIntervals _ intervals i (omega (arith, small .few)) below))
+      price-here : (i : ℕ) → i < intervals → pricesOf prices i ≡ getD numbers i 0
+      price-here = price-at bounds times prices (small .rising .few) intervals counted right numbers filled
 
       module _ (entries : Verdict)
           (went : entries ≡ verdictOf (byEntry intervals (entryFaultIn (working .count - 1) times prices numbers) passed)) where
-        same-entry : (i : ℕ) → i < intervals → entryFault ws jobs bs plan prices i ≡ entryFaultIn (working .count - 1) times prices numbers i
+        same-entry : (i : ℕ) → i < intervals → entryFault site plan prices i ≡ entryFaultIn (working .count - 1) times prices numbers i
         unfolding entryFault
-        same-entry i below = rw (end-in bounds times i (omega arith), price-at i below, length-pointsOf working)
+        same-entry i below = rw (is-working, end-in bounds times i (omega arith), price-here i below, length-pointsOf working)
 
         entered : outcome ≡ byEntry intervals (entryFaultIn (working .count - 1) times prices numbers) afterEntries
         entered = past-lengths ∙ rw all-intervals (byEntry-cong intervals _ _ _ same-entry)
@@ -100,19 +133,6 @@ module _ (working : PointTable) (sets : List ℕ) (count bounds : ℕ) (times pl
         entries-refuse number place e = rw (entered ∙ entries-refused afterEntries intervals _ entries went number place e)
 
         module _ (sound : entries ≡ Passed) where
-          in-bands : (i : ℕ) → i < intervals → not (leb 1 (getD numbers i 0) && leb (getD numbers i 0) (working .count - 1)) ≡ false
-          in-bands i below =
-              rw (rw (price-at i below, length-pointsOf working) at
-              (entry-fault ws jobs bs plan prices i .sound .0
-              (same-entry i below ∙ byEntry-answered _ passed intervals (entries-passed passed intervals _ entries went sound) .0 i below) .1))
-
-          pub band-numbers : BandNumbers (working .count - 1) (bounds - 1) numbers
-          band-numbers =
-              record {
-                low = λ i below. in-range (getD numbers i 0) (working .count - 1) (in-bands i (omega arith)) .0;
-                high = λ i below. in-range (getD numbers i 0) (working .count - 1) (in-bands i (omega arith)) .1;
-              }
-
           module _
               (jobs-counted : length jobs ≡ count) (opened : SetsHave sets (openBelow jobs count times bounds))
               (fits : Verdict) (tested : fits ≡ verdictOf (byEntry (bounds - 1) (priceFaultIn ws times loads numbers) passed)) where
@@ -120,11 +140,11 @@ module _ (working : PointTable) (sets : List ℕ) (count bounds : ℕ) (times pl
             loaded i below =
                 load-of-steps plan jobs (λ s inside. rw jobs-counted (planned .step-job s inside)) i
                 ∙ rw (planned .loaded)
-                (sym (tally-at maxIntervals _ _ (stepCount plan) i (omega (arith, small .few))))
+                (sym (tally-at maxIntervals _ _ (stepCount plan) i (omega (arith, small .rising .few))))
 
-            same-price : (i : ℕ) → i < intervals → priceFault ws jobs bs plan prices i ≡ priceFaultIn ws times loads numbers i
+            same-price : (i : ℕ) → i < intervals → priceFault site plan prices i ≡ priceFaultIn ws times loads numbers i
             unfolding priceFault
-            same-price i below = rw (length-in bounds times i (omega arith), loaded i below, price-at i below)
+            same-price i below = rw (is-working, length-in bounds times i (omega arith), loaded i below, price-here i below)
 
             past-entries : outcome ≡ byEntry (bounds - 1) (priceFaultIn ws times loads numbers) afterFits
             past-entries =
@@ -136,7 +156,7 @@ module _ (working : PointTable) (sets : List ℕ) (count bounds : ℕ) (times pl
             fits-refuse number place e = rw (past-entries ∙ entries-refused afterFits (bounds - 1) _ fits tested number place e)
 
             -- the step's job is open in an interval exactly when the interval's set has it
-            same-step : (s : ℕ) → s < stepCount plan → cheaperFault ws jobs bs plan prices s ≡ cheaperFaultIn sets bounds numbers plan s
+            same-step : (s : ℕ) → s < stepCount plan → cheaperFault site plan prices s ≡ cheaperFaultIn sets bounds numbers plan s
             unfolding cheaperFault
             same-step s inside =
                 let j : ℕ = stepAt plan s .job in
@@ -148,9 +168,9 @@ module _ (working : PointTable) (sets : List ℕ) (count bounds : ℕ) (times pl
                       (λ i. isMember (setIn sets i) j && ltb (getD numbers i 0) (getD numbers (stepAt plan s .interval) 0))
                       (λ i below. rw (
                         open-in bounds times (jobOf jobs j) i (omega arith),
-                        open-has jobs times bounds count opened i j below (omega (arith, small .few)) (planned .step-job s inside) (omega (arith, planned .step-job s inside)),
-                        price-at i (omega arith),
-                        price-at (stepAt plan s .interval) (omega arith),
+                        open-has jobs times bounds count opened i j below (omega (arith, small .rising .few)) (planned .step-job s inside) (omega (arith, planned .step-job s inside)),
+                        price-here i (omega arith),
+                        price-here (stepAt plan s .interval) (omega arith),
                       )),
                 )
 

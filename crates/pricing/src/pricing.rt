@@ -9,24 +9,25 @@ ghost use Rattle.model.specs.declared.Job.{Job};
 ghost use Rattle.model.specs.Limits.{maxJobs, maxDeadline, maxFrequency, maxIntervals};
 ghost use Rattle.model.specs.Outcome.{byEntry};
 ghost use Rattle.model.specs.Bands.{Curve};
+ghost use Rattle.model.specs.Processors.{Processor, workingOf};
 ghost use Rattle.model.specs.Checking.{pricing};
 ghost use Rattle.tables.specs.Column.{columnOf};
 ghost use Rattle.levels.specs.PointTables.{pointsOf, SmallPoints};
-ghost use Rattle.energy.specs.Figures.{SmallBounds};
+ghost use Rattle.intervals.specs.Times.{SmallBounds};
 ghost use Rattle.fitting.specs.Verdicts.{verdictOf, passed};
 ghost use Rattle.fitting.specs.SetsHave.{SetsHave};
 ghost use Rattle.fitting.specs.TestedJobs.{openBelow};
-ghost use Rattle.fitting.specs.FirstHalf.{boundsIn};
+ghost use Rattle.fitting.specs.FirstHalf.{siteIn};
 ghost use Rattle.pricing.specs.SecondHalf.{Planned, BandNumbers, wrongLengthIn, entryFaultIn, priceFaultIn};
 use crate::cheapest::check_cheapest;
 use fitting::Verdict;
+use intervals::interval_count;
 use job_sets::SET_WORDS;
 use levels::PointTable;
 use model::MAX_BOUNDS;
 use model::MAX_INTERVALS;
 use tables::number16;
 use tables::number32;
-use windows::interval_count;
 
 // Checks a price list against a plan that fits, with the open sets and the loads of its intervals.
 pub fn price(
@@ -42,7 +43,7 @@ pub fn price(
     requires { ⌜ SmallPoints working × Curve (pointsOf working) ⌝ }
     requires { ⌜ SmallBounds bounds (now times) × (count ≤ maxJobs) ⌝ }
     requires { ⌜ Planned count bounds (now plan) (now loads) ⌝ }
-    ensures { λ r. ⌜ ((jobs : List Job) → length jobs ≡ count → SetsHave (now (sets .entry)) (openBelow jobs count (now (times .entry)) bounds) → r ≡ verdictOf (pricing (pointsOf working) jobs (boundsIn bounds (now (times .entry))) (now (plan .entry)) (now (prices .entry)) passed)) ⌝ }
+    ensures { λ r. ⌜ ((processor : Processor) (jobs : List Job) → workingOf processor ≡ pointsOf working → length jobs ≡ count → SetsHave (now (sets .entry)) (openBelow jobs count (now (times .entry)) bounds) → r ≡ verdictOf (pricing (siteIn processor jobs (now (times .entry)) bounds) (now (plan .entry)) (now (prices .entry)) passed)) ⌝ }
 {
     let intervals = interval_count(bounds);
     if wrong_price_length(prices, intervals) {

@@ -22,7 +22,7 @@ module _ {A : Type 0} (count : ℕ) (fault : ℕ → ℕ) (entries : List A) whe
       → Entries count ≡ readingOf (byEntry count fault (answer entries))
   reading-passes sound all = rw (byEntry-passes fault (answer entries) count sound, all)
 
-entries≢refused : {n number place : ℕ} → Entries n ≡ Refused number place → ⊥
+pub entries≢refused : {n number place : ℕ} → Entries n ≡ Refused number place → ⊥
 entries≢refused e = let z : _≡_ {A = ℕ} 0 1 = cc e in omega arith
 
 -- what the enum's case says of the outcome

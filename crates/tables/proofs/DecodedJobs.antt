@@ -1,7 +1,7 @@
--- Reading jobs, one law for each way out: the refusals without a place; the refusal at an entry; and the answer, where
--- the arrays that reading fills hold the entries of the bytes.
+-- Decoding jobs, one law for each way out: the refusals without a place; and going through the entries, which stand in the
+-- arrays that decoding fills.
 -- Assumes nothing.
-use mathlib.Core.Path.{_≡_, refl, sym, _∙_}
+use mathlib.Core.Path.{_≡_, refl, sym, _∙_, ap}
 use mathlib.Core.List.{List}
 use Prim.Native.Nat.{ℕ, _+_, _*_, _<_, _≤_}
 use native.Mathlib.Omega.{arith}
@@ -15,10 +15,23 @@ use Rattle.model.specs.Jobs.{noJob, jobCount, jobAt, jobEntries, jobFault, read
 use Rattle.model.proofs.Entries.{length-listOf, listOf-cong}
 use Rattle.tables.specs.declared.Reading.{Reading}
 use Rattle.tables.specs.declared.Reading.the-variants.{Entries, Refused}
+use Rattle.tables.specs.declared.jobs.JobTable.{JobTable}
 use Rattle.tables.specs.Column.{columnOf}
-use Rattle.tables.specs.Tables.{jobsIn, jobTable, readingOf, checkedJobs}
+use Rattle.tables.specs.Tables.{jobsIn, jobTable, readingOf, checkedJobs, DecodedJobs}
 use Rattle.tables.proofs.Column.{column-at, column-of-entries}
-use Rattle.tables.proofs.ByEntry.{reading-refused, reading-answered}
+use Rattle.tables.proofs.ByEntry.{entries≢refused, reading-refused, reading-answered}
+
+-- a refusal, whatever the arrays hold
+pub decoded-refused : {outcome : Outcome (List Job)} {releases deadlines cycles : List ℕ} (number place : ℕ)
+    → refused number place ≡ outcome → DecodedJobs outcome (Refused number place) releases deadlines cycles
+decoded-refused number place e = record { told = ap readingOf e; held = λ n told. absurd (entries≢refused (sym told)) }
+
+-- a table that is refused is the whole answer, whatever the arrays hold
+pub decoded-table : {outcome : Outcome (List Job)} {reading : Reading} {releases deadlines cycles : List ℕ}
+    → DecodedJobs outcome reading releases deadlines cycles → (number place : ℕ) → reading ≡ Refused number place
+    → (table : JobTable) → table ≡ jobTable (refused number place) → table ≡ jobTable outcome
+decoded-table {outcome} decoded number place e table is =
+    is ∙ ap jobTable (sym (reading-refused outcome number place (sym (decoded .told) ∙ e)))
 
 module _ (bytes : List ℕ) where
   abbrev releaseColumn : List ℕ
@@ -47,7 +60,7 @@ module _ (bytes : List ℕ) where
 
   -- where the entries are answered, the arrays stand beside their number as they were filled
   jobs-answered : (n : ℕ) → readingOf checked ≡ Entries n
-      → record { reading = Entries (jobCount bytes); releases = releaseColumn; deadlines = deadlineColumn; cycles = cyclesColumn } ≡ jobTable checked
+      → record { reading = readingOf checked; releases = releaseColumn; deadlines = deadlineColumn; cycles = cyclesColumn } ≡ jobTable checked
   unfolding jobAt
   jobs-answered n e =
       let whole : checked ≡ answer (jobEntries bytes) = reading-answered _ _ _ n e in
@@ -74,7 +87,7 @@ module _ (bytes : List ℕ) where
       unfolding readJobs
       jobs-cut cut = rw (le-ltb _ _ long, le-ltb _ _ few, ne-eqb _ _ cut)
 
-      pub jobs-whole : length bytes ≡ 2 + 12 * jobCount bytes → checked ≡ readJobs bytes
+      jobs-whole : length bytes ≡ 2 + 12 * jobCount bytes → checked ≡ readJobs bytes
       unfolding readJobs
       jobs-whole whole = rw (le-ltb _ _ long, le-ltb _ _ few, eq-eqb _ _ whole)
 
@@ -89,9 +102,10 @@ module _ (bytes : List ℕ) where
     found-checked : reading ≡ readingOf checked
     found-checked = found ∙ rw (first, second, third, counted, jobs-decoded (rw counted at few))
 
-    pub jobs-refused : (number place : ℕ) → reading ≡ Refused number place → refused number place ≡ checked
-    jobs-refused number place e = sym (reading-refused checked number place (sym found-checked ∙ e))
-
-    pub jobs-filled : (n : ℕ) → reading ≡ Entries n
-        → record { reading = Entries count; releases = releases; deadlines = deadlines; cycles = cycles } ≡ jobTable checked
-    jobs-filled n e = rw (first, second, third, counted) (jobs-answered n (sym found-checked ∙ e))
+    pub jobs-decoded-whole : 2 ≤ length bytes → length bytes ≡ 2 + 12 * count → DecodedJobs (readJobs bytes) reading releases deadlines cycles
+    jobs-decoded-whole long whole =
+        rw (← jobs-whole long (rw counted at few) (rw counted at whole))
+        (record {
+          told = found-checked;
+          held = λ n e. rw (found-checked, first, second, third, counted) (jobs-answered n (sym found-checked ∙ e));
+        })

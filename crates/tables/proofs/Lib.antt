@@ -4,3 +4,4 @@ pub mod ByEntry
 pub mod DecodedLevels
 pub mod DecodedJobs
 pub mod Read
+pub mod ReadingBack

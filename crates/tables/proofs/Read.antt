@@ -17,11 +17,12 @@ use Rattle.model.specs.Points.{topFrequency}
 use Rattle.model.proofs.Entries.{length-listOf, getD-listOf, listOf-getD, listOf-cong}
 use Rattle.model.proofs.Levels.{levels-valid}
 use Rattle.model.proofs.Jobs.{SoundJob, job-sound, jobs-faultless, jobs-valid}
+use Rattle.tables.specs.declared.Reading.{Reading}
 use Rattle.tables.specs.declared.Reading.the-variants.{Entries, Refused}
 use Rattle.tables.specs.declared.levels.LevelTable.{LevelTable}
 use Rattle.tables.specs.declared.jobs.JobTable.{JobTable}
 use Rattle.tables.specs.Column.{columnOf}
-use Rattle.tables.specs.Tables.{levelsIn, jobsIn, levelTable, jobTable}
+use Rattle.tables.specs.Tables.{levelsIn, jobsIn, levelTable, jobTable, DecodedJobs}
 use Rattle.tables.proofs.Column.{column-at, column-cong}
 use Rattle.tables.proofs.ByEntry.{reading-refused, reading-held}
 
@@ -113,9 +114,6 @@ module _ (bytes : List ℕ) (table : LevelTable) (read : table ≡ levelTable (r
       (λ levels answered counted. rw (read, answered, ← counted) (levels-held levels (levels-valid bytes levels answered .few)))
 
 module _ (bytes : List ℕ) (table : JobTable) (read : table ≡ jobTable (readJobs bytes)) where
-  pub jobs-read-refused : (number place : ℕ) → table .reading ≡ Refused number place → readJobs bytes ≡ refused number place
-  jobs-read-refused number place e = reading-refused _ number place (sym (ap (λ (t : JobTable). t .reading) read) ∙ e)
-
   -- the jobs of the bytes stand in the arrays
   pub jobs-read : (count : ℕ) → table .reading ≡ Entries count
       → readJobs bytes ≡ answer (jobsIn count (table .releases) (table .deadlines) (table .cycles))
@@ -133,3 +131,14 @@ module _ (bytes : List ℕ) (table : JobTable) (read : table ≡ jobTable (readJ
       ∙ ap (λ (n : ℕ). columnOf maxJobs n (λ j. jobOf jobs j .cycles)) (length-jobsIn count (table .releases) (table .deadlines) (table .cycles))
       ∙ column-cong maxJobs count _ _
       (λ j below. ap (λ (job : Job). job .cycles) (job-in count (table .releases) (table .deadlines) (table .cycles) j below))
+
+-- the same where the jobs were decoded into lent arrays
+module _ (bytes : List ℕ) (reading : Reading) (releases deadlines cycles : List ℕ) (decoded : DecodedJobs (readJobs bytes) reading releases deadlines cycles) where
+  pub jobs-decoded-refused : (number place : ℕ) → reading ≡ Refused number place → readJobs bytes ≡ refused number place
+  jobs-decoded-refused number place e = reading-refused _ number place (sym (decoded .told) ∙ e)
+
+  pub jobs-decoded : (count : ℕ) → reading ≡ Entries count → readJobs bytes ≡ answer (jobsIn count releases deadlines cycles)
+  jobs-decoded count e = jobs-read bytes _ (decoded .held count e) count e
+
+  pub decoded-padded : (count : ℕ) → reading ≡ Entries count → cycles ≡ columnOf maxJobs count (λ j. getD cycles j 0)
+  decoded-padded count e = cycles-padded bytes _ (decoded .held count e) count e

@@ -1,5 +1,6 @@
 -- What reading a table answers, for each outcome: the enum's case, and the entries in plain arrays beside it.
 use Prim.Native.Nat.{ℕ}
+use mathlib.Core.Path.{_≡_}
 use mathlib.Core.List.{List, []}
 use lib.ListN.{length, getD}
 use Rattle.model.specs.declared.Level.{Level}
@@ -45,6 +46,12 @@ jobTable outcome =
       deadlines = columnOf maxJobs (length jobs) (λ j. jobOf jobs j .deadline);
       cycles = columnOf maxJobs (length jobs) (λ j. jobOf jobs j .cycles);
     }
+
+-- Jobs decoded into three arrays: the enum's case and, where the table is read, the entries' columns.
+pub record DecodedJobs (outcome : Outcome (List Job)) (reading : Reading) (releases deadlines cycles : List ℕ) : Type 0 where
+  pub told : reading ≡ readingOf outcome
+  pub held : (count : ℕ) → reading ≡ Entries count
+      → record { reading = reading; releases = releases; deadlines = deadlines; cycles = cycles } ≡ jobTable outcome
 
 -- The levels that stand in two arrays, the first `count` of them.
 unfoldable pub levelsIn : (count : ℕ) → (frequencies voltages : List ℕ) → List Level

@@ -1,10 +1,11 @@
 // Reading jobs: refusals 6 to 10.
 ghost use mathlib.Core.Path.{_≡_};
 ghost use Prim.Native.Nat.{_≤_};
+ghost use lib.ListN.{replicate};
 ghost use Rattle.model.specs.Limits.{maxJobs};
 ghost use Rattle.model.specs.Outcome.{refused};
 ghost use Rattle.model.specs.Jobs.{faultOfJob, readJobs};
-ghost use Rattle.tables.specs.Tables.{readingOf, jobTable, checkedJobs};
+ghost use Rattle.tables.specs.Tables.{readingOf, jobTable, checkedJobs, DecodedJobs};
 use crate::Reading;
 use crate::numbers::column32;
 use crate::numbers::number16;
@@ -26,30 +27,55 @@ pub struct JobTable {
 pub fn read_jobs(bytes: &[u8]) -> JobTable
     ensures { λ r. ⌜ r ≡ jobTable (readJobs (now (bytes .entry))) ⌝ }
 {
+    let mut releases = [0u64; MAX_JOBS];
+    let mut deadlines = [0u64; MAX_JOBS];
+    let mut cycles = [0u64; MAX_JOBS];
+    let reading = decode_jobs(bytes, &mut releases, &mut deadlines, &mut cycles);
+    match reading {
+        Reading::Entries(_) => JobTable {
+            reading,
+            releases,
+            deadlines,
+            cycles,
+        },
+        Reading::Refused { number, place } => refused_jobs(number, place),
+    }
+}
+
+// Decodes a job table into three arrays of zeros, which are lent so that nothing is copied. Where it is refused they may
+// hold anything.
+pub fn decode_jobs(
+    bytes: &[u8],
+    releases: &mut [u64; MAX_JOBS],
+    deadlines: &mut [u64; MAX_JOBS],
+    cycles: &mut [u64; MAX_JOBS],
+) -> Reading
+    requires { ⌜ (now releases ≡ replicate maxJobs 0) × (now deadlines ≡ replicate maxJobs 0) × (now cycles ≡ replicate maxJobs 0) ⌝ }
+    ensures { λ r. ⌜ DecodedJobs (readJobs (now (bytes .entry))) r (now (releases .exit)) (now (deadlines .exit)) (now (cycles .exit)) ⌝ }
+{
     if bytes.len() < 2 {
-        return refused_jobs(6, 0);
+        return Reading::Refused {
+            number: 6,
+            place: 0,
+        };
     }
     let count = number16(bytes, 0) as usize;
     if count > MAX_JOBS {
-        return refused_jobs(7, 0);
+        return Reading::Refused {
+            number: 7,
+            place: 0,
+        };
     }
     if bytes.len() != 2 + 12 * count {
-        return refused_jobs(8, 0);
+        return Reading::Refused {
+            number: 8,
+            place: 0,
+        };
     }
-    let mut table = JobTable {
-        reading: Reading::Entries(count),
-        releases: [0; MAX_JOBS],
-        deadlines: [0; MAX_JOBS],
-        cycles: [0; MAX_JOBS],
-    };
-    column32(bytes, 2, 8, count, &mut table.releases);
-    column32(bytes, 6, 8, count, &mut table.deadlines);
-    column32(bytes, 2 + 8 * count, 4, count, &mut table.cycles);
-    let checked = check_jobs(&table.releases, &table.deadlines, &table.cycles, count);
-    match checked {
-        Reading::Entries(_) => table,
-        Reading::Refused { number, place } => refused_jobs(number, place),
-    }
+    column32(bytes, 2, 8, count, releases);
+    column32(bytes, 6, 8, count, deadlines);
+    column32(bytes, 2 + 8 * count, 4, count, cycles);
+    check_jobs(releases, deadlines, cycles, count)
 }
 
 fn refused_jobs(number: u32, place: u32) -> JobTable
@@ -64,10 +90,10 @@ fn refused_jobs(number: u32, place: u32) -> JobTable
 }
 
 // Goes through the entries one after another.
-fn check_jobs<'a>(
-    releases: &'a [u64; MAX_JOBS],
-    deadlines: &'a [u64; MAX_JOBS],
-    cycles: &'a [u64; MAX_JOBS],
+fn check_jobs(
+    releases: &[u64; MAX_JOBS],
+    deadlines: &[u64; MAX_JOBS],
+    cycles: &[u64; MAX_JOBS],
     count: usize,
 ) -> Reading
     requires { ⌜ count ≤ maxJobs ⌝ }

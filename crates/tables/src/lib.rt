@@ -8,6 +8,7 @@ mod numbers;
 pub use built_in::first_built_in;
 pub use built_in::second_built_in;
 pub use jobs::JobTable;
+pub use jobs::decode_jobs;
 pub use jobs::read_jobs;
 pub use levels::LevelTable;
 pub use levels::read_levels;

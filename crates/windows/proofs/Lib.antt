@@ -2,6 +2,3 @@
 pub mod Loops
 pub mod Repeats
 pub mod Capacity
-pub mod Inserted
-pub mod Padded
-pub mod Halving

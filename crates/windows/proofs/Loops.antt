@@ -1,5 +1,5 @@
--- Laws of a loop's turns: what a sum and a search for the least value are before the first, after one more and after
--- the last, and whether a search found something.
+-- Laws of a loop's turns: what a search for the least value has found before the first, after one more and after the last,
+-- and whether it found something.
 -- Assumes nothing.
 use mathlib.Core.Path.{_≡_, refl, sym, _∙_, ap}
 use mathlib.Core.Bool.{Bool, true, false, _||_}
@@ -7,24 +7,10 @@ use mathlib.Core.Option.{Option, none, some}
 use Prim.Native.Nat.{ℕ, zero, suc, _+_, _≤_}
 use native.Mathlib.Omega.{arith}
 use native.Mathlib.Numerals.{add-one}
-use Rattle.model.specs.Sum.{sum}
 use Rattle.model.specs.Search.{someBelow, smaller, leastBelow}
-use Rattle.model.proofs.Sum.{sum-next}
 use Rattle.windows.specs.declared.overfull.Found.{Found}
 use Rattle.windows.specs.declared.overfull.Found.the-variants.{At, Nothing}
 use Rattle.windows.specs.Answers.{foundOf, smallerFound}
-
-module _ (f : ℕ → ℕ) where
-  pub sum-none : 0 ≡ sum 0 f
-  unfolding sum
-  sum-none = refl
-
-  pub sum-more : (i total value : ℕ) → total ≡ sum i f → value ≡ f i → total + value ≡ sum (i + 1) f
-  sum-more i total value before is-next = omega (arith, sum-next i f)
-
-  -- after the last turn
-  pub sum-whole : (i count n : ℕ) → i ≤ count → count ≤ i → n ≡ count → (total : ℕ) → total ≡ sum i f → total ≡ sum n f
-  sum-whole i count n low high counted total e = let all : n ≡ i = omega arith in rw all e
 
 smaller-found : (found : Option ℕ) (value : ℕ) → smallerFound (foundOf found) value ≡ foundOf (smaller true value found)
 smaller-found none value = refl

@@ -5,17 +5,19 @@ use mathlib.Core.Path.{_≡_, refl, sym, _∙_, ap}
 use mathlib.Core.Bool.{Bool, true, false, not, _&&_}
 use mathlib.Core.Logic.{_⊎_, inl, inr}
 use mathlib.Core.List.{List}
-use Prim.Native.Nat.{ℕ, zero, suc, _/_, _%_, _^_, _<_, _≤_, min}
+use Prim.Native.Nat.{ℕ, zero, suc, _<_, _≤_, min}
 use native.Mathlib.Omega.{arith}
 use lib.ListN.{getD}
-use borrow.Author.Tests.{eqb-true}
+use borrow.Author.Tests.{eqb-true, not-true, not-false}
 use Rattle.model.specs.declared.Job.{Job}
+use Rattle.model.specs.Limits.{maxJobs}
 use Rattle.model.specs.Jobs.{jobOf}
-use Rattle.model.specs.Sum.{onlyIf}
 use Rattle.model.specs.Search.{smaller, leastBelow}
 use Rattle.model.proofs.Numbers.{true-or-false}
-use Rattle.model.proofs.OpenSets.{bits-at}
 use Rattle.model.proofs.Search.{someBelow-found, leastBelow-exists, leastBelow-found}
+use Rattle.job_sets.specs.declared.JobSet.{JobSet}
+use Rattle.job_sets.specs.JobSets.{isMember}
+use Rattle.job_sets.proofs.JobSets.{below-has}
 use Rattle.tables.specs.Tables.{jobsIn}
 use Rattle.tables.proofs.Read.{job-in}
 use Rattle.windows.specs.Answers.{isRepeated, unlessRepeated, unrepeatedSet}
@@ -43,24 +45,17 @@ module _ (numbers : List ℕ) (j : ℕ) (test : Bool) where
   pub tested-anew : isRepeated numbers j ≡ false → (answer : Bool) → answer ≡ test → answer ≡ (not (isRepeated numbers j) && test)
   tested-anew new answer e = rw new e
 
--- the bit of job j in the set of those whose number no earlier job has
-module _ (count : ℕ) (numbers : List ℕ) (set : ℕ) (is-set : set ≡ unrepeatedSet count numbers) (j : ℕ) (below : j < count) where
-  bit-at : set / 2 ^ j % 2 ≡ onlyIf (not (isRepeated numbers j)) 1
-  bit-at = rw is-set (bits-at (λ i. not (isRepeated numbers i)) count j below)
+-- a job of the set of those whose number no earlier job has
+module _ (count : ℕ) (numbers : List ℕ) (set : JobSet) (is-set : set ≡ unrepeatedSet count numbers) (j : ℕ) (below : j < count) (small : j < maxJobs)
+    (has : Bool) (is-member : has ≡ isMember set j) where
+  has-new : not (isRepeated numbers j) ≡ has
+  has-new = sym (is-member ∙ rw is-set (below-has (λ i. not (isRepeated numbers i)) count j below small))
 
-  pub bit-clear : set / 2 ^ j % 2 ≡ 0 → isRepeated numbers j ≡ true
-  bit-clear clear = go (isRepeated numbers j) bit-at
-    where
-      go : (repeated : Bool) → set / 2 ^ j % 2 ≡ onlyIf (not repeated) 1 → repeated ≡ true
-      go true e = refl
-      go false e = absurd (omega arith)
+  pub not-in-set : not has ≡ true → isRepeated numbers j ≡ true
+  not-in-set lacks = not-false (isRepeated numbers j) (has-new ∙ not-true has lacks)
 
-  pub bit-set : (set / 2 ^ j % 2 ≡ 0 → ⊥) → isRepeated numbers j ≡ false
-  bit-set clear = go (isRepeated numbers j) bit-at
-    where
-      go : (repeated : Bool) → set / 2 ^ j % 2 ≡ onlyIf (not repeated) 1 → repeated ≡ false
-      go true e = absurd (clear e)
-      go false e = refl
+  pub in-set : not has ≡ false → isRepeated numbers j ≡ false
+  in-set holds = not-true (isRepeated numbers j) (has-new ∙ not-false has holds)
 
 -- A search whose test depends on the value alone.
 module _ (value : ℕ → ℕ) (test : ℕ → Bool) where

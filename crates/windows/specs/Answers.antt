@@ -1,20 +1,18 @@
 -- The answers of this crate: the paper's number and values for each case of an enum, and lists in plain arrays.
-use Prim.Native.Nat.{ℕ, suc, _^_, _<_, _≤_, min}
-use mathlib.Core.Path.{_≡_}
-use mathlib.Core.Bool.{Bool, not, _&&_, _||_}
-use mathlib.Core.List.{List, _∷_, _++_}
+use Prim.Native.Nat.{ℕ, min}
+use mathlib.Core.Bool.{Bool, not, _&&_}
+use mathlib.Core.List.{List}
 use mathlib.Core.Option.{Option, none, some}
-use lib.ListN.{length, getD, take, drop}
+use lib.ListN.{length, getD}
 use lib.IntN.{ℤ}
-use lib.Dec.{ltb, leb, eqb}
+use lib.Dec.{eqb}
 use Rattle.model.specs.declared.Job.{Job}
-use Rattle.model.specs.Limits.{maxDeadline, maxBounds}
-use Rattle.model.specs.Outcome.{Outcome, refused, answer, refuseWhen, andThen}
-use Rattle.model.specs.Sum.{sum, onlyIf}
+use Rattle.model.specs.Outcome.{Outcome, refused, answer}
 use Rattle.model.specs.Search.{someBelow}
-use Rattle.model.specs.Jobs.{jobOf, readJobs}
-use Rattle.model.specs.Windows.{Window, spareOf, overfullTo}
-use Rattle.tables.specs.Column.{columnOf}
+use Rattle.model.specs.Jobs.{jobOf}
+use Rattle.model.specs.Windows.{Window, overfullTo}
+use Rattle.job_sets.specs.declared.JobSet.{JobSet}
+use Rattle.job_sets.specs.JobSets.{setBelow}
 use Rattle.windows.specs.declared.window.SpareAnswer.{SpareAnswer}
 use Rattle.windows.specs.declared.window.SpareAnswer.the-variants.{Spare, Refused}
 use Rattle.windows.specs.declared.overfull.Overfull.{Overfull}
@@ -26,13 +24,6 @@ use Rattle.windows.specs.declared.overfull.Found.the-variants.{At, Nothi
 abbrev pub spareAnswer : Outcome ℤ → SpareAnswer
 spareAnswer (refused number place) = Refused number place
 spareAnswer (answer z) = Spare z
-
--- The spare once the levels were read: what `spare` of the crate model says after that.
-abbrev pub spareIn : (top : ℕ) → (jobBytes : List ℕ) → (start end : ℕ) → Outcome ℤ
-spareIn top jobBytes start end =
-    andThen (readJobs jobBytes) λ jobs.
-    refuseWhen (leb end start || ltb maxDeadline end) 27
-    (answer (spareOf top jobs start end))
 
 -- The earliest overfull window, or that the jobs fit.
 abbrev pub overfullAnswer : Option Window → Overfull
@@ -55,33 +46,10 @@ isRepeated numbers j = someBelow j (λ i. eqb (getD numbers i 0) (getD numbers j
 abbrev pub unlessRepeated : (numbers : List ℕ) → (test : ℕ → Bool) → (j : ℕ) → Bool
 unlessRepeated numbers test j = not (isRepeated numbers j) && test j
 
--- The jobs whose number no earlier job has, bit number equal to job number.
-abbrev pub unrepeatedSet : (count : ℕ) → (numbers : List ℕ) → ℕ
-unrepeatedSet count numbers = sum count (λ j. onlyIf (not (isRepeated numbers j)) (2 ^ j))
+-- The jobs whose number no earlier job has.
+abbrev pub unrepeatedSet : (count : ℕ) → (numbers : List ℕ) → JobSet
+unrepeatedSet count numbers = setBelow count (λ j. not (isRepeated numbers j))
 
 -- Some window from the release of job j is overfull.
 abbrev pub startsOverfull : (top : ℕ) → List Job → (j : ℕ) → Bool
 startsOverfull top jobs j = someBelow (length jobs) (overfullTo top jobs (jobOf jobs j .release))
-
--- The times of at most as many bounds as there can be, in an array, zeros past the last.
-abbrev pub padded : List ℕ → List ℕ
-padded times = columnOf maxBounds (length times) (λ i. getD times i 0)
-
--- An array that holds a list of times, zeros past the last, and their number.
-pub record HoldsTimes (times : List ℕ) (count : ℕ) (l : List ℕ) : Type 0 where
-  pub array : times ≡ padded l
-  pub counted : count ≡ length l
-
--- The first `count` times of an array, as many as bounds at most, rise.
-pub record RisingTimes (count : ℕ) (times : List ℕ) : Type 0 where
-  pub few : count ≤ maxBounds
-  pub rises : (i : ℕ) → suc i < count → getD times i 0 < getD times (suc i) 0
-
--- A list with a time put in at a place, and what stood from there on after it.
-abbrev pub insertedAt : (at time : ℕ) → List ℕ → List ℕ
-insertedAt at time times = take at times ++ (time ∷ drop at times)
-
--- The set of the jobs that are open from start to end.
-abbrev pub setBetween : (start end : ℕ) → List Job → ℕ
-setBetween start end jobs =
-    sum (length jobs) (λ j. onlyIf (leb (jobOf jobs j .release) start && leb end (jobOf jobs j .deadline)) (2 ^ j))

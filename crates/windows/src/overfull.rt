@@ -7,6 +7,7 @@ ghost use Rattle.model.specs.Windows.{earliestOverfull, earliestStart, earliest
 ghost use Rattle.tables.specs.Tables.{jobsIn};
 ghost use Rattle.windows.specs.Answers.{overfullAnswer, foundOf, smallerFound, isRepeated, unlessRepeated, unrepeatedSet, startsOverfull};
 use crate::window::cycles_inside;
+use job_sets::JobSet;
 use model::MAX_JOBS;
 
 // The earliest overfull window, if there is one.
@@ -72,14 +73,14 @@ fn earliest_start(
 }
 
 // Whether some window from the release of job j is overfull. A release that an earlier job has was tested there and is
-// passed over. The word ends has the jobs whose deadline no earlier job has: it is made once for all releases.
+// passed over. The set ends has the jobs whose deadline no earlier job has: it is made once for all releases.
 fn starts_overfull(
     releases: &[u64; MAX_JOBS],
     deadlines: &[u64; MAX_JOBS],
     cycles: &[u64; MAX_JOBS],
     count: usize,
     top: u64,
-    ends: u64,
+    ends: JobSet,
     j: usize,
 ) -> bool
     requires { ⌜ ValidJobs (jobsIn count (now releases) (now deadlines) (now cycles)) ⌝ }
@@ -97,16 +98,16 @@ fn starts_overfull(
     }
 }
 
-// The jobs whose number no earlier job has, bit number equal to job number.
-fn unrepeated(numbers: &[u64; MAX_JOBS], count: usize) -> u64
+// The jobs whose number no earlier job has.
+fn unrepeated(numbers: &[u64; MAX_JOBS], count: usize) -> JobSet
     requires { ⌜ count ≤ maxJobs ⌝ }
     ensures { λ r. ⌜ r ≡ unrepeatedSet count (now (numbers .entry)) ⌝ }
 {
-    let mut set = 0;
+    let mut set = job_sets::none();
     let mut j = 0;
     while j < count {
         if !is_repeated(numbers, j) {
-            set += 1u64 << j;
+            set = job_sets::with(set, j);
         }
         j += 1;
     }
@@ -136,7 +137,7 @@ fn earliest_end(
     cycles: &[u64; MAX_JOBS],
     count: usize,
     top: u64,
-    ends: u64,
+    ends: JobSet,
     start: u64,
 ) -> Found
     requires { ⌜ ValidJobs (jobsIn count (now releases) (now deadlines) (now cycles)) ⌝ }
@@ -164,7 +165,7 @@ fn overfull_to(
     cycles: &[u64; MAX_JOBS],
     count: usize,
     top: u64,
-    ends: u64,
+    ends: JobSet,
     start: u64,
     k: usize,
 ) -> bool
@@ -173,7 +174,7 @@ fn overfull_to(
     requires { ⌜ ends ≡ unrepeatedSet count (now deadlines) ⌝ }
     ensures { λ r. ⌜ r ≡ unlessRepeated (now (deadlines .entry)) (overfullTo top (jobsIn count (now (releases .entry)) (now (deadlines .entry)) (now (cycles .entry))) start) k ⌝ }
 {
-    if (ends >> k) % 2 == 0 {
+    if !job_sets::has(ends, k) {
         return false;
     }
     let end = deadlines[k];

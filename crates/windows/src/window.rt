@@ -4,14 +4,17 @@ ghost use Prim.Native.Nat.{_*_, _≤_};
 ghost use Rattle.model.specs.Limits.{maxFrequency, maxDeadline, maxJobs, maxCycles};
 ghost use Rattle.model.specs.Jobs.{ValidJobs};
 ghost use Rattle.model.specs.Sum.{onlyIf};
-ghost use Rattle.model.specs.Windows.{isInside, cyclesInside, spareOf, spare as spareFor};
+ghost use Rattle.model.specs.Processors.{topOf};
+ghost use Rattle.model.specs.Sites.{Site};
+ghost use Rattle.model.specs.Windows.{isInside, cyclesInside, spareOf, spareFor, spare as spareOfBytes};
 ghost use Rattle.tables.specs.Tables.{jobsIn};
-ghost use Rattle.windows.specs.Answers.{spareAnswer, spareIn};
+ghost use Rattle.windows.specs.Answers.{spareAnswer};
+use model::MAX_BOUNDS;
 use model::MAX_DEADLINE;
 use model::MAX_JOBS;
-use tables::Reading;
-use tables::read_jobs;
-use tables::read_levels;
+use site::SiteReading;
+use site::SiteTable;
+use site::read_site;
 
 // The spare may be negative.
 pub enum SpareAnswer {
@@ -21,59 +24,67 @@ pub enum SpareAnswer {
 
 // What the top frequency gives in a window less the cycles of the jobs inside. Any bytes and any numbers are answered.
 pub fn spare(levels: &[u8], jobs: &[u8], start: u32, end: u32) -> SpareAnswer
-    ensures { λ r. ⌜ r ≡ spareAnswer (spareFor (now (levels .entry)) (now (jobs .entry)) start end) ⌝ }
+    ensures { λ r. ⌜ r ≡ spareAnswer (spareOfBytes (now (levels .entry)) (now (jobs .entry)) start end) ⌝ }
 {
-    let level_table = read_levels(levels);
-    let level_reading = level_table.reading;
-    match level_reading {
-        Reading::Refused { number, place } => SpareAnswer::Refused { number, place },
-        Reading::Entries(level_count) => {
-            let frequencies = level_table.frequencies;
-            spare_of_jobs(frequencies[level_count - 1], jobs, start as u64, end as u64)
-        }
+    let mut releases = [0u64; MAX_JOBS];
+    let mut deadlines = [0u64; MAX_JOBS];
+    let mut cycles = [0u64; MAX_JOBS];
+    let mut times = [0u64; MAX_BOUNDS];
+    let site = read_site(
+        levels,
+        jobs,
+        &mut releases,
+        &mut deadlines,
+        &mut cycles,
+        &mut times,
+    );
+    let reading = site.reading;
+    match reading {
+        SiteReading::Refused { number, place } => SpareAnswer::Refused { number, place },
+        SiteReading::Read => spare_of_site(
+            site,
+            &releases,
+            &deadlines,
+            &cycles,
+            start as u64,
+            end as u64,
+        ),
     }
 }
 
-// The spare where the top frequency is known.
-fn spare_of_jobs(top: u64, jobs: &[u8], start: u64, end: u64) -> SpareAnswer
-    requires { ⌜ top ≤ maxFrequency ⌝ }
-    ensures { λ r. ⌜ r ≡ spareAnswer (spareIn top (now (jobs .entry)) start end) ⌝ }
+// The spare of a window for a site that was read.
+fn spare_of_site(
+    site: SiteTable,
+    releases: &[u64; MAX_JOBS],
+    deadlines: &[u64; MAX_JOBS],
+    cycles: &[u64; MAX_JOBS],
+    start: u64,
+    end: u64,
+) -> SpareAnswer
+    requires { ⌜ ValidJobs (jobsIn (site .jobs) (now releases) (now deadlines) (now cycles)) × (site .top ≤ maxFrequency) ⌝ }
+    ensures { λ r. ⌜ ((s : Site) → topOf (s .processor) ≡ site .top → s .jobs ≡ jobsIn (site .jobs) (now (releases .entry)) (now (deadlines .entry)) (now (cycles .entry)) → r ≡ spareAnswer (spareFor s start end)) ⌝ }
 {
-    let table = read_jobs(jobs);
-    let reading = table.reading;
-    match reading {
-        Reading::Refused { number, place } => SpareAnswer::Refused { number, place },
-        Reading::Entries(count) => {
-            if end <= start {
-                return SpareAnswer::Refused {
-                    number: 27,
-                    place: 0,
-                };
-            }
-            if end > MAX_DEADLINE {
-                return SpareAnswer::Refused {
-                    number: 27,
-                    place: 0,
-                };
-            }
-            SpareAnswer::Spare(window_spare(
-                &table.releases,
-                &table.deadlines,
-                &table.cycles,
-                count,
-                top,
-                start,
-                end,
-            ))
-        }
+    if end <= start {
+        return SpareAnswer::Refused {
+            number: 27,
+            place: 0,
+        };
     }
+    if end > MAX_DEADLINE {
+        return SpareAnswer::Refused {
+            number: 27,
+            place: 0,
+        };
+    }
+    let count = site.jobs;
+    SpareAnswer::Spare(window_spare(releases, deadlines, cycles, count, site.top, start, end))
 }
 
 // The spare of a window for jobs that were read.
-pub fn window_spare<'a>(
-    releases: &'a [u64; MAX_JOBS],
-    deadlines: &'a [u64; MAX_JOBS],
-    cycles: &'a [u64; MAX_JOBS],
+pub fn window_spare(
+    releases: &[u64; MAX_JOBS],
+    deadlines: &[u64; MAX_JOBS],
+    cycles: &[u64; MAX_JOBS],
     count: usize,
     top: u64,
     start: u64,

@@ -1,5 +1,5 @@
 -- The steps of all shares that are not 0, in cell order: interval by interval, within it by job number.
-use Prim.Native.Nat.{ℕ, zero, suc, _+_}
+use Prim.Native.Nat.{ℕ, zero, suc}
 use mathlib.Core.List.{List, [], _∷_, _++_}
 use lib.Dec.{ltb}
 use lib.ListN.{getD}

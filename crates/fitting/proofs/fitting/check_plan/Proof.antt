@@ -19,9 +19,9 @@ wrong-length-requires c κs = search needs
 returns : tie.Need-returns
 returns c =
     let start = c .before .before .before in
-    λ jobs counted tested held.
+    λ processor jobs is-top counted tested held.
     wrong-length-refused
-    _ _ _ _ _ _ _ _ (start .pre .1) (start .pre .2 .few) jobs counted tested held
+    _ processor is-top _ _ _ _ _ _ _ (start .pre .1) (start .pre .2 .rising .few) jobs counted tested held
     (sym (c .before .wrong-length .ensures) ∙ c .if1 .taken)
 
 -- past the refusal 15 the plan has the right length, and past 16 the right number of intervals
@@ -46,14 +46,14 @@ returns-2 : tie.Need-returns-2
 returns-2 c =
     let numbered = c .before .before in
     let start = numbered .before .before .before .before in
-    λ jobs counted tested held.
+    λ processor jobs is-top counted tested held.
     wrong-intervals-refused
-    _ _ _ _ _ _ _ _ (start .pre .1) (start .pre .2 .few) jobs counted tested held (right (numbered .before))
+    _ processor is-top _ _ _ _ _ _ _ (start .pre .1) (start .pre .2 .rising .few) jobs counted tested held (right (numbered .before))
     (λ e. c .if2 .taken (numbered .number16 .ensures .0 ∙ e ∙ sym (c .before .interval-count .ensures)))
 
 check-steps-requires : tie.Need-check-steps-requires
 check-steps-requires c κs =
-    let sized = c .before .before .before in (omega arith, sized .before .before .before .pre .2 .few, size sized)
+    let sized = c .before .before .before in (omega arith, sized .before .before .before .pre .2 .rising .few, size sized)
 
 enum-known-steps : tie.Need-enum-known-steps
 enum-known-steps c = search needs
@@ -63,9 +63,9 @@ returns-3 c =
     let steps = c .before .before .before in
     let counted = steps .before in
     let start = counted .before .before .before .before .before .before in
-    λ jobs jobs-counted tested held.
+    λ processor jobs is-top jobs-counted tested held.
     steps-refused
-    _ _ _ _ _ _ _ _ (start .pre .1) (start .pre .2 .few) jobs jobs-counted tested held
+    _ processor is-top _ _ _ _ _ _ _ (start .pre .1) (start .pre .2 .rising .few) jobs jobs-counted tested held
     (right (counted .before .before .before)) (intervals counted) _ (steps .check-steps .ensures) _ _ (c .before .steps .given .1)
 
 enum-told : tie.Need-enum-told
@@ -80,9 +80,9 @@ returns-4 c =
     let steps = sound .before .before in
     let counted = steps .before in
     let start = counted .before .before .before .before .before .before in
-    λ jobs jobs-counted tested held.
+    λ processor jobs is-top jobs-counted tested held.
     sums-refused
-    _ _ _ _ _ _ _ _ (start .pre .1) (start .pre .2 .few) jobs jobs-counted tested held
+    _ processor is-top _ _ _ _ _ _ _ (start .pre .1) (start .pre .2 .rising .few) jobs jobs-counted tested held
     (right (counted .before .before .before)) (intervals counted) _ (steps .check-steps .ensures) (sound .enum-told .given .1) (c .if3 .taken)
 
 check-loads-requires : tie.Need-check-loads-requires
@@ -94,9 +94,9 @@ returns-5 c =
     let steps = sound .before .before in
     let counted = steps .before in
     let start = counted .before .before .before .before .before .before in
-    λ jobs jobs-counted tested held.
+    λ processor jobs is-top jobs-counted tested held.
     loads-decide
-    _ _ _ _ _ _ _ _ (start .pre .1) (start .pre .2 .few) jobs jobs-counted tested held
+    _ processor is-top _ _ _ _ _ _ _ (start .pre .1) (start .pre .2 .rising .few) jobs jobs-counted tested held
     (right (counted .before .before .before)) (intervals counted) _ (steps .check-steps .ensures) (sound .enum-told .given .1) (c .before .if3 .left)
     _ (start .pre .3) _ (c .check-loads .ensures)
 

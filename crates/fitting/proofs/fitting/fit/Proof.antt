@@ -41,7 +41,7 @@ returns c =
     let counted : length jobs ≡ a .count = length-jobsIn (a .count) (now (a .releases)) (now (a .deadlines)) (now (a .cycles)) in
     let tested = rw (made .job-records .ensures, made .before .add-plan .ensures .0) at (lent .lend-jobs .ensures) in
     record {
-      judged = c .check-plan .ensures jobs counted tested (held (a .count) (now (a .releases)) (now (a .deadlines)) (now (a .cycles)));
+      judged = λ processor is-top. c .check-plan .ensures processor jobs is-top counted tested (held (a .count) (now (a .releases)) (now (a .deadlines)) (now (a .cycles)));
       opened = rw counted (tested .opened);
       added = made .before .add-plan .ensures .1;
     }

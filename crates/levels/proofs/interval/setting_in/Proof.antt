@@ -3,7 +3,7 @@
 use native.Mathlib.Omega.{arith}
 use denote.Ref.{now}
 use borrow.Author.Needs.{needs}
-use Rattle.levels.proofs.Filling.{valid-count}
+use Rattle.tables.proofs.Read.{levels-count}
 use Rattle.levels.proofs.Answers.{too-short, too-long, top-load, overloaded, working-fits, settled}
 use Rattle.levels.proofs.interval.setting_in.Statement.{statement}
 use Rattle.levels.proofs.interval.setting_in.Tie as tie
@@ -15,13 +15,13 @@ returns-2 : tie.Need-returns-2
 returns-2 c = too-long _ _ _ _ _ (omega arith) (c .if2 .taken)
 
 sub-if3 : tie.Need-sub-if3
-sub-if3 c = valid-count _ _ _ (c .before .before .pre) .0
+sub-if3 c = levels-count _ _ _ (c .before .before .pre) .0
 
 mul-if3 : tie.Need-mul-if3
-mul-if3 c = omega (arith, valid-count _ _ _ (c .before .before .pre) .1)
+mul-if3 c = omega (arith, levels-count _ _ _ (c .before .before .pre) .1)
 
 element-copy-out-if3 : tie.Need-element-copy-out-if3
-element-copy-out-if3 c = omega (arith, valid-count _ _ _ (c .before .before .pre) .1)
+element-copy-out-if3 c = omega (arith, levels-count _ _ _ (c .before .before .pre) .1)
 
 mul-if3-2 : tie.Need-mul-if3-2
 mul-if3-2 c =

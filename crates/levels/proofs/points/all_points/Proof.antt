@@ -7,7 +7,8 @@ use lib.ListN.{take}
 use Rattle.model.specs.Points.{points}
 use Rattle.tables.specs.Tables.{levelsIn}
 use Rattle.levels.specs.PointTables.{pointTable}
-use Rattle.levels.proofs.Filling.{idling-table, valid-count, level-high, level-next, levels-all}
+use Rattle.tables.proofs.Read.{levels-count}
+use Rattle.levels.proofs.Filling.{idling-table, level-high, level-next, levels-all}
 use Rattle.levels.proofs.points.all_points.Statement.{statement}
 use Rattle.levels.proofs.points.all_points.Tie as tie
 
@@ -19,7 +20,7 @@ abbrev μ-loop : tie.MeasureT-loop
 μ-loop frequencies voltages count table₀ i₀ table i = count - i
 
 loop-holds : tie.Need-loop-holds Inv-loop μ-loop
-loop-holds c = (omega arith, valid-count _ _ _ (c .pre) .1, idling-table _)
+loop-holds c = (omega arith, levels-count _ _ _ (c .pre) .1, idling-table _)
 
 add-at : tie.Need-add-at Inv-loop μ-loop
 add-at c = omega arith

@@ -2,6 +2,8 @@
 -- table (proofs/SmallPoints.antt). Assumes nothing.
 use mathlib.Core.Path.{_∙_}
 use borrow.Author.Needs.{needs}
+use Rattle.model.specs.Processors.{processorOf}
+use Rattle.model.proofs.Sites.{valid-processor}
 use Rattle.levels.proofs.SmallPoints.{points-small, points-held}
 use Rattle.levels.proofs.working.working_levels.Statement.{statement}
 use Rattle.levels.proofs.working.working_levels.Tie as tie
@@ -12,12 +14,12 @@ all-points-requires c κs = search needs
 working-points-requires : tie.Need-working-points-requires
 working-points-requires c κs =
     let made = c .before .before .before .before in
-    rw (made .all-points .ensures) (points-small _ (made .before .pre))
+    rw (made .all-points .ensures) (points-small (processorOf _) (valid-processor _ (made .before .pre)))
 
 returns : tie.Need-returns
 returns c =
     let made = c .before .before .before .before .before in
-    c .working-points .ensures ∙ rw (made .all-points .ensures, points-held _ (made .before .pre))
+    c .working-points .ensures ∙ rw (made .all-points .ensures, points-held (processorOf _) (valid-processor _ (made .before .pre)))
 
 pub working-levels-spec : {M : Type 1} → statement M
 working-levels-spec = tie.close (tie.spec all-points-requires working-points-requires returns)

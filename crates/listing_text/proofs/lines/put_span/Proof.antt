@@ -7,14 +7,11 @@ use Rattle.listing_text.proofs.LineTexts.{never-refused, span-text}
 use Rattle.listing_text.proofs.lines.put_span.Statement.{statement}
 use Rattle.listing_text.proofs.lines.put_span.Tie as tie
 
-sub-setting : tie.Need-sub-setting
-sub-setting c = search needs
+sub-setting-of : tie.Need-sub-setting-of
+sub-setting-of c = search needs
 
-cast-setting : tie.Need-cast-setting
-cast-setting c = search needs
-
-setting-requires : tie.Need-setting-requires
-setting-requires c κs = search needs
+setting-of-requires : tie.Need-setting-of-requires
+setting-of-requires c κs = search needs
 
 enum-known-set : tie.Need-enum-known-set
 enum-known-set c = search needs
@@ -22,8 +19,8 @@ enum-known-set c = search needs
 slice-aggregate-put-line : tie.Need-slice-aggregate-put-line
 slice-aggregate-put-line c = search needs
 
-cast-t21 : tie.Need-cast-t21
-cast-t21 c = search needs
+cast-t20 : tie.Need-cast-t20
+cast-t20 c = search needs
 
 slice-aggregate-put-line-2 : tie.Need-slice-aggregate-put-line-2
 slice-aggregate-put-line-2 c = search needs
@@ -40,21 +37,20 @@ same-length c = search needs
 returns : tie.Need-returns
 returns c =
     appended-as _ _ (c .before .before .put-line .ensures) _ _
-    (span-text _ _ _ _ _ (c .before .before .before .before .before .before .before .before .before .before .before .before .pre .1) _ (c .before .before .before .before .before .before .before .before .before .setting .ensures) _ _ _ (c .before .before .before .before .before .before .before .set .given .1)) (omega arith)
+    (span-text _ _ _ _ _ _ (c .before .before .before .before .before .before .before .before .before .setting-of .ensures) _ _ _ (c .before .before .before .before .before .before .before .set .given .1)) (omega arith)
 
 returns-2 : tie.Need-returns-2
-returns-2 c = absurd (never-refused _ _ _ (c .before .before .before .before .before .pre .1) _ (c .before .before .setting .ensures) _ _ (c .enum-told .given .1))
+returns-2 c = absurd (never-refused _ _ (c .before .before .setting-of .ensures) _ _ (c .enum-told .given .1))
 
 pub put-span-spec : {M : Type 1} → statement M
 put-span-spec =
     tie.close
     (tie.spec
-    sub-setting
-    cast-setting
-    setting-requires
+    sub-setting-of
+    setting-of-requires
     enum-known-set
     slice-aggregate-put-line
-    cast-t21
+    cast-t20
     slice-aggregate-put-line-2
     put-line-requires
     enum-told

@@ -6,8 +6,8 @@ use mir.Facts.{toZ-ofZ}
 use denote.Ref.{now}
 use borrow.Author.Needs.{needs}
 use Rattle.planning.specs.PlanAnswers.{PlanContract}
-use Rattle.listing_text.specs.Listings.{zeroBuffers, listingText}
-use Rattle.listing_text.proofs.ListingText.{lent-zeros, plan-written, listing-written}
+use Rattle.listing_text.specs.Listings.{zeroBuffers}
+use Rattle.listing_text.proofs.ListingText.{lent-zeros, plan-listed, plan-put, overfull-put, refused-put}
 use Rattle.listing_text.proofs.listing.write_listing.Statement.{statement}
 use Rattle.listing_text.proofs.listing.write_listing.Tie as tie
 
@@ -52,7 +52,7 @@ planned : (c : tie.After-plan)
 planned c = lent-zeros (c .before .before .before .before .before .before .plan-buffer .ensures) (c .before .before .before .before .before .price-buffer .ensures) (c .before .before .before .before .share-buffer .ensures) (c .plan .ensures)
 
 put-plan-requires : tie.Need-put-plan-requires
-put-plan-requires c κs = plan-written (planned (c .before .before .before .before .before .before .before .before .before)) _ _ _ (c .before .before .before .before .answer .given .1)
+put-plan-requires c κs = plan-listed (planned (c .before .before .before .before .before .before .before .before .before)) _ _ _ (c .before .before .before .before .answer .given .1)
 
 enum-known-answer-2 : tie.Need-enum-known-answer-2
 enum-known-answer-2 c = search needs
@@ -70,27 +70,24 @@ same-length : tie.Need-same-length
 same-length c = search needs
 
 returns : tie.Need-returns
-unfolding listingText
 returns c =
-    listing-written (planned (c .before .before .before .before .before .before .before .before .before .before .before .before)) _ (c .before .before .before .before .before .before .before .answer .given .1) _ _ _ (c .before .before .put-plan .ensures)
+    plan-put (planned (c .before .before .before .before .before .before .before .before .before .before .before .before)) _ _ _ _ _ _ (c .before .before .before .before .before .before .before .answer .given .1) (c .before .before .put-plan .ensures)
 
 same-length-2 : tie.Need-same-length-2
 same-length-2 c = search needs
 
 returns-2 : tie.Need-returns-2
-unfolding listingText
 returns-2 c =
     let told = c .before .before .before .before .before .answer2 .given in
     let fits : SFits w64 (told .0 .1 .1 .0) = search needs in
-    listing-written (planned (c .before .before .before .before .before .before .before .before .before .before)) _ (told .1) _ _ _ (rw (toZ-ofZ fits) at (c .before .before .put-overfull .ensures))
+    overfull-put (planned (c .before .before .before .before .before .before .before .before .before .before)) _ _ _ _ _ _ (told .1) (rw (toZ-ofZ fits) at (c .before .before .put-overfull .ensures))
 
 same-length-3 : tie.Need-same-length-3
 same-length-3 c = search needs
 
 returns-3 : tie.Need-returns-3
-unfolding listingText
 returns-3 c =
-    listing-written (planned (c .before .before .before .before .before .before .before .before .before .before)) _ (c .before .before .before .before .before .answer3 .given .1) _ _ _ (c .before .before .put-refused .ensures)
+    refused-put (planned (c .before .before .before .before .before .before .before .before .before .before)) _ _ _ _ _ (c .before .before .before .before .before .answer3 .given .1) (c .before .before .put-refused .ensures)
 
 pub write-listing-spec : {M : Type 1} → statement M
 write-listing-spec =

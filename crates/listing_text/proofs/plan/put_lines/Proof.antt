@@ -23,13 +23,13 @@ put-spans-requires c κs = search needs
 
 put-steps-requires : tie.Need-put-steps-requires
 put-steps-requires c κs =
-    let shown = c .before .before .before .before .before .before .before .before .before .before .before .before .before .pre in
+    let shown = c .before .before .before .before .before .before .before .before .before .before .before .before .pre in
     let most = steps-most _ _ (shown .few-jobs) (shown .few-intervals) in
     (shown .share-room, omega (arith, next-most _ _ (c .before .before .before .put-spans .ensures), next-most _ _ (c .before .before .before .before .before .before .before .put-sizes .ensures), most, shown .few-intervals))
 
 put-energy-requires : tie.Need-put-energy-requires
 put-energy-requires c κs =
-    let shown = c .before .before .before .before .before .before .before .before .before .before .before .before .before .before .before .before .before .pre in
+    let shown = c .before .before .before .before .before .before .before .before .before .before .before .before .before .before .before .before .pre in
     let most = steps-most _ _ (shown .few-jobs) (shown .few-intervals) in
     let steps = next-most _ _ (c .before .before .before .put-steps .ensures) in
     let spans = next-most _ _ (c .before .before .before .before .before .before .before .put-spans .ensures) in
@@ -41,7 +41,7 @@ same-length c = search needs
 returns : tie.Need-returns
 unfolding planText
 returns c =
-    let shown = c .before .before .before .before .before .before .before .before .before .before .before .before .before .before .before .before .before .before .before .before .pre in
+    let shown = c .before .before .before .before .before .before .before .before .before .before .before .before .before .before .before .before .before .before .before .pre in
     let most = steps-most _ _ (shown .few-jobs) (shown .few-intervals) in
     let steps = appended-then _ _ (c .before .before .before .before .before .before .put-steps .ensures) (c .before .before .put-energy .ensures) in
     let put = appended-then _ _ (c .before .before .before .before .before .before .before .before .before .before .before .before .before .before .put-sizes .ensures) (appended-then _ _ (c .before .before .before .before .before .before .before .before .before .before .put-spans .ensures) steps) in

@@ -6,9 +6,8 @@ use native.Mathlib.Nat.{mul-le-mul-right}
 use native.Mathlib.Omega.{arith}
 use denote.Ref.{now}
 use Rattle.model.specs.Sum.{sum}
-use Rattle.model.specs.Levels.{readLevels}
 use Rattle.model.specs.Plans.{sharesIn}
-use Rattle.levels.specs.PointTables.{workingRead}
+use Rattle.levels.specs.PointTables.{pointsOf}
 use Rattle.writing.specs.StepList.{joined}
 use Rattle.listing_text.specs.PlanText.{spanLine, spanLines}
 use Rattle.listing_text.specs.Appending.{spanRoom, Appended}
@@ -19,22 +18,22 @@ use Rattle.listing_text.proofs.plan.put_spans.Statement.{statement}
 use Rattle.listing_text.proofs.plan.put_spans.Tie as tie
 
 abbrev Inv-loop : tie.InvT-loop
-Inv-loop levels times jobs intervals prices shares text₀ place next₀ i₀ text next i =
+Inv-loop working times jobs intervals prices shares text₀ place next₀ i₀ text next i =
     (i ≤ intervals)
     × Appended text₀ place
-    (joined i (λ k. spanLine (workingRead (readLevels levels)) (boundsIn times k) (boundsIn times (suc k)) (sum jobs (sharesIn jobs shares k)) (pricesIn intervals prices k)))
+    (joined i (λ k. spanLine (pointsOf working) (boundsIn times k) (boundsIn times (suc k)) (sum jobs (sharesIn jobs shares k)) (pricesIn intervals prices k)))
     (spanRoom * i) text next
 
 abbrev μ-loop : tie.MeasureT-loop
-μ-loop levels times jobs intervals prices shares text₀ place next₀ i₀ text next i = intervals - i
+μ-loop working times jobs intervals prices shares text₀ place next₀ i₀ text next i = intervals - i
 
 loop-holds : tie.Need-loop-holds Inv-loop μ-loop
 loop-holds c = (omega arith, pieces-none _ _ _ spanRoom)
 
 load-of-requires : tie.Need-load-of-requires Inv-loop μ-loop
 load-of-requires c κs =
-    let shown = c .before .before .before .before .before .before .pre .0 in
-    (shown .few-jobs, omega (arith, shown .share-room, mul-le-mul-right (c .before .before .before .before .before .before .args .jobs) (c .loop-test .taken)))
+    let shown = c .before .before .before .before .before .pre .0 in
+    (shown .few-jobs, omega (arith, shown .share-room, mul-le-mul-right (c .before .before .before .before .before .args .jobs) (c .loop-test .taken)))
 
 mul-price : tie.Need-mul-price Inv-loop μ-loop
 mul-price c = omega arith
@@ -65,8 +64,9 @@ element-copy-out-put-span-2 c = omega arith
 
 put-span-requires : tie.Need-put-span-requires Inv-loop μ-loop
 put-span-requires c κs =
-    let ready = span-ready (c .before .before .before .before .before .before .before .before .before .before .before .pre .0) _ (c .before .before .before .before .before .loop-test .taken) _ (c .before .before .before .before .load-of .ensures) in
-    ((ready .0, ready .1, omega (arith, next-most _ _ (c .before .before .before .before .before .before .loop .inv .1))), ready .2)
+    let shown = c .before .before .before .before .before .before .before .before .before .before .pre .0 in
+    let ready = span-ready shown _ (c .before .before .before .before .before .loop-test .taken) _ (c .before .before .before .before .load-of .ensures) in
+    ((ready .0, ready .1, omega (arith, next-most _ _ (c .before .before .before .before .before .before .loop .inv .1))), (shown .small, shown .curve, ready .2))
 
 add-i : tie.Need-add-i Inv-loop μ-loop
 add-i c = omega arith
@@ -76,10 +76,10 @@ loop-less c = omega arith
 
 loop-again : tie.Need-loop-again Inv-loop μ-loop
 loop-again c =
-    let a = c .before .before .before .before .before .before .before .before .before .before .before .before .before .before .args in
+    let a = c .before .before .before .before .before .before .before .before .before .before .before .before .before .args in
     let i = c .before .before .before .before .before .before .before .before .before .loop .i in
     let shown =
-    span-shown (workingRead (readLevels (now (a .levels)))) (now (a .times)) i _ _ (pricesIn (a .intervals) (now (a .prices)) i) (c .before .before .before .before .before .before .before .load-of .ensures) in (
+    span-shown (pointsOf (a .working)) (now (a .times)) i _ _ (pricesIn (a .intervals) (now (a .prices)) i) (c .before .before .before .before .before .before .before .load-of .ensures) in (
       omega arith,
       pieces-next _ _ _ _ _ (c .before .before .before .before .before .before .before .before .before .loop .inv .1) (appended-as _ _ (c .before .before .put-span .ensures) _ _ shown (omega arith)),
     )
@@ -90,7 +90,7 @@ same-length c = same-room _ _ (c .before .loop .inv .1)
 returns : tie.Need-returns Inv-loop μ-loop
 unfolding spanLines
 returns c =
-    let a = c .before .before .before .before .before .before .args in
+    let a = c .before .before .before .before .before .args in
     pieces-whole _ _ _ _ _ (c .before .loop .inv .1) (a .intervals) (omega arith) (omega arith) _ _ refl (omega arith)
 
 pub put-spans-spec : {M : Type 1} → statement M

@@ -1,152 +1,105 @@
--- `filling::fill_interval` meets its contract (proofs/PlaceSteps.antt). Assumes nothing.
-use mathlib.Core.Path.{_≡_, sym, subst}
-use Prim.Native.Nat.{ℕ, _+_, _*_, _<_, _≤_}
+-- `filling::fill_interval` meets its contract (proofs/OwnIntervals.antt). Assumes nothing.
+use mathlib.Core.Logic.{⊎-elim}
+use Prim.Native.Nat.{ℕ, _+_, _<_, _≤_}
 use native.Mathlib.Omega.{arith}
 use borrow.Author.Needs.{needs}
 use denote.Ref.{now}
-use Rattle.model.specs.Limits.{maxDeadline, maxFrequency, maxIntervals}
-use Rattle.model.specs.Plans.{sharesIn}
-use Rattle.planner.specs.declared.workload.Workload.{Workload}
-use Rattle.planner.specs.Arrays.{numbersIn, problemIn, lentSizes}
-use Rattle.planner.specs.Reaching.{SearchState, stateOf, Reaching, HasRoom}
-use Rattle.planner.specs.PlacedTables.{PlacingTables, CanFill, Filled}
-use Rattle.planner.proofs.SearchSteps.{withTarget}
-use Rattle.planner.proofs.PlaceSteps.{place-capacity, place-fill, place-filled, own-target}
+use Rattle.model.specs.Limits.{maxIntervals}
+use Rattle.workloads.specs.declared.Workload.{Workload}
+use Rattle.workloads.specs.Placement.{Open}
+use Rattle.workloads.specs.Arrays.{numbersIn, problemIn, lentJobs}
+use Rattle.workloads.proofs.SharesTable.{kept-refl}
+use Rattle.planner.specs.OwnWindows.{CanFillRange}
+use Rattle.planner.proofs.OwnIntervals.{own-small, own-job, own-place, own-room, own-share, own-joins, own-kept, own-filled}
 use Rattle.planner.proofs.filling.fill_interval.Statement.{statement}
 use Rattle.planner.proofs.filling.fill_interval.Tie as tie
-
--- a workload with what is lent
-abbrev lent : tie.Start → Workload → Workload
-lent c work = let a = c .args in lentSizes work (a .jobs) (now (a .first)) (now (a .last)) (now (a .size))
 
 -- the job is being placed
 abbrev Places : tie.Start → (work : Workload) → (band : ℕ) → (prices lefts : ℕ → ℕ) → Type 0
 Places c work band prices lefts =
     let a = c .args in
-    PlacingTables (lent c work) (now (a .shares)) (now (a .loads)) (now (a .holders)) prices lefts (a .job) (a .left) band
+    CanFillRange (lentJobs work (a .turn .jobs)) (now (a .shares)) (now (a .room)) (now (a .holders)) prices lefts band (a .turn) (a .interval) (a .interval + 1)
 
-inside : (c : tie.Start) → c .args .interval < c .pre .0 .0 .intervals
-inside c =
-    let tables = c .pre .0 .5 in
-    omega (arith, c .pre .1 .0 .2, tables .sound .sound .inside (c .args .job) (tables .placing .job-below))
+is-open : (c : tie.Start) (work : Workload) {band : ℕ} {prices lefts : ℕ → ℕ} → Places c work band prices lefts
+    → Open (problemIn (lentJobs work (c .args .turn .jobs))) (c .args .interval) (c .args .turn .job)
+is-open c work can = can .is-open (c .args .interval) (omega arith) (omega arith)
 
 small : (c : tie.Start) → c .args .interval < maxIntervals
-small c = omega (arith, inside c, c .pre .0 .5 .sound .intervals-most)
+small c = own-small (c .pre .0 .4 .tables) (is-open c (c .pre .0 .0) (c .pre .0 .4))
 
--- what the interval holds at the frequency fits
-capacity : (c : tie.Start) → let a = c .args in numbersIn (now (a .size)) (a .interval) * a .frequency ≤ maxDeadline * maxFrequency
-capacity c = rw (← (c .pre .0 .4)) (place-capacity (c .pre .0 .5) (c .args .interval) (inside c))
+mul-free : tie.Need-mul-free
+mul-free c = omega (arith, small (c .before))
 
-mul-if1 : tie.Need-mul-if1
-mul-if1 c = omega (arith, small (c .before))
-
-element-copy-out-if1 : tie.Need-element-copy-out-if1
-element-copy-out-if1 c = small (c .before)
-
-mul-if1-2 : tie.Need-mul-if1-2
-mul-if1-2 c = omega (arith, capacity (c .before .before))
-
-mul-if1-3 : tie.Need-mul-if1-3
-mul-if1-3 c = omega (arith, small (c .before .before))
-
-element-copy-out-if1-2 : tie.Need-element-copy-out-if1-2
-element-copy-out-if1-2 c = small (c .before .before)
+element-copy-out-free : tie.Need-element-copy-out-free
+element-copy-out-free c = small (c .before)
 
 returns : tie.Need-returns
-returns c = search needs
+returns c = λ work band prices lefts can. (kept-refl _ _, can .tables)
 
-mul-only : tie.Need-mul-only
-mul-only c = search needs
+-- the amount is at most what is left, and at most the room
+within : (c : tie.Joined2) → c .if2 .amount ≤ c .before .before .before .before .before .args .turn .left
+within c = ⊎-elim (λ w. omega (arith, w .0 .taken, w .1)) (λ w. omega (arith, w .1)) (c .if2 .came)
 
-element-copy-out-only : tie.Need-element-copy-out-only
-element-copy-out-only c = search needs
+most : (c : tie.Joined2)
+    → let a = c .before .before .before .before .before .args in
+    c .if2 .amount ≤ numbersIn (now (a .room)) (a .interval)
+most c = ⊎-elim (λ w. omega (arith, w .1)) (λ w. omega (arith, w .0 .left, w .1)) (c .if2 .came)
 
-mul-only-2 : tie.Need-mul-only-2
-mul-only-2 c = search needs
+cast-put : tie.Need-cast-put
+cast-put c =
+    let joined = c .before .before .before in
+    let start = joined .before .before .before .before .before in
+    omega (arith, most joined, own-room (start .pre .0 .4 .tables) (is-open start (start .pre .0 .0) (start .pre .0 .4)))
 
-element-copy-out-only-2 : tie.Need-element-copy-out-only-2
-element-copy-out-only-2 c = search needs
+put-requires : tie.Need-put-requires
+put-requires c κs =
+    let joined = c .before .before .before in
+    let start = joined .before .before .before .before .before in
+    let tables = start .pre .0 .4 .tables in
+    let here = is-open start (start .pre .0 .0) (start .pre .0 .4) in (
+      (own-place tables here, omega (arith, own-share tables here, most joined, own-room tables here)),
+      ((own-small tables here, own-job tables here, tables .stored .holding .holders-length), own-joins tables here),
+    )
 
-only-requires : tie.Need-only-requires
-only-requires c κs = search needs
+sub-room : tie.Need-sub-room
+sub-room c = most (c .before .before .before .before .before .before)
 
--- the interval as the target
-abbrev found : tie.After-only → SearchState
-found c =
-    let a = c .before .before .before .before .before .before .before .args in
-    withTarget (stateOf (c .only .result) (now (a .reached)) (now (a .source))) (a .interval)
+mul-room : tie.Need-mul-room
+mul-room c = omega (arith, small (c .before .before .before .before .before .before .before .before .before .before .before))
 
-target : (c : tie.After-only)
-    → let start = c .before .before .before .before .before .before .before in
-    (work : Workload) (band : ℕ) (prices lefts : ℕ → ℕ) → numbersIn (work .frequency) (band + 1) ≡ start .args .frequency → Places start work band prices lefts
-    → Reaching (problemIn (lent start work)) (sharesIn (start .args .jobs) (now (start .args .shares))) (start .args .job) (found c)
-    × HasRoom (problemIn (lent start work)) (sharesIn (start .args .jobs) (now (start .args .shares))) band (found c)
-target c work band prices lefts is-frequency tables =
-    let start = c .before .before .before .before .before .before .before in
-    let a = start .args in
-    let shares = sharesIn (a .jobs) (now (a .shares)) in
-    subst (λ (state : SearchState). Reaching (problemIn (lent start work)) shares (a .job) (withTarget state (a .interval))
-    × HasRoom (problemIn (lent start work)) shares band (withTarget state (a .interval)))
-    (sym (c .only .ensures (now (a .reached)) (now (a .source))))
-    (own-target tables (now (a .reached)) (now (a .source)) (start .pre .1 .1 .0) (start .pre .1 .1 .1) (start .pre .1 .1 .2) (start .pre .1 .0 .1) (start .pre .1 .0 .2)
-    (rw is-frequency (c .before .before .before .if1 .left)))
-
-can-fill : (c : tie.After-only)
-    → let start = c .before .before .before .before .before .before .before in
-    let a = start .args in
-    (work : Workload) (band : ℕ) (prices lefts : ℕ → ℕ) → numbersIn (work .frequency) (band + 1) ≡ a .frequency → Places start work band prices lefts
-    → CanFill (lent start work) (now (a .shares)) (now (a .loads)) (now (a .holders)) (found c) band (a .left)
-can-fill c work band prices lefts is-frequency tables =
-    let reached = target c work band prices lefts is-frequency tables in
-    place-fill tables (reached .0) (c .before .before .before .before .before .before .before .pre .1 .0 .0) (reached .1)
-
-fill-requires : tie.Need-fill-requires
-fill-requires c κs =
-    let start = c .before .before .before .before .before .before .before .before .before .before in
-    let known = start .pre .0 in
-    (known .0, known .1, known .4, can-fill (c .before .before .before) (known .0) (known .1) (known .2) (known .3) (known .4) (known .5))
-
--- the interval is filled
-filled : (c : tie.After-fill)
-    → let start = c .before .before .before .before .before .before .before .before .before .before .before in
-    (work : Workload) (band : ℕ) (prices lefts : ℕ → ℕ) → numbersIn (work .frequency) (band + 1) ≡ start .args .frequency → Places start work band prices lefts
-    → Filled (lent start work) (now (start .args .shares)) (c .fill .last .1 .1 .1 .1 .1 .0) (c .fill .last .1 .1 .1 .1 .1 .1 .0) (c .fill .last .1 .1 .1 .1 .1 .1 .1 .0)
-    (found (c .before .before .before .before)) band (start .args .left) (c .fill .result)
-filled c work band prices lefts is-frequency tables =
-    c .fill .ensures work band is-frequency (can-fill (c .before .before .before .before) work band prices lefts is-frequency tables)
+element-write-room : tie.Need-element-write-room
+element-write-room c = small (c .before .before .before .before .before .before .before .before .before .before .before)
 
 sub-result : tie.Need-sub-result
-sub-result c =
-    let known = c .before .before .before .before .before .before .before .before .before .before .before .before .before .pre .0 in
-    filled (c .before .before) (known .0) (known .1) (known .2) (known .3) (known .4) (known .5) .most
+sub-result c = within (c .before .before .before .before .before .before .before)
 
 same-length : tie.Need-same-length
-same-length c =
-    let known = c .before .before .before .before .before .before .before .before .before .before .before .before .before .pre .0 in
-    filled (c .before .before) (known .0) (known .1) (known .2) (known .3) (known .4) (known .5) .kept .same-length
+same-length c = search needs
 
 returns-2 : tie.Need-returns-2
-returns-2 c = λ work band prices lefts is-frequency tables.
-    let reached = target (c .before .before .before .before .before .before) work band prices lefts is-frequency tables in
-    let done = filled (c .before .before) work band prices lefts is-frequency tables in
-    (done .kept, place-filled tables (reached .0) done)
+returns-2 c = λ work band prices lefts can.
+    let joined = c .before .before .before .before .before .before .before in
+    let start = joined .before .before .before .before .before in
+    let here = is-open start work can in
+    let put = c .before .before .before .put .ensures in
+    let some : 0 < joined .if2 .amount =
+    ⊎-elim (λ w. omega (arith, w .1, joined .before .before .if1 .left)) (λ w. omega (arith, w .1, start .pre .1)) (joined .if2 .came) in (
+      own-kept (can .tables) here some (within joined) (most joined) (put .0) (put .1),
+      own-filled (can .tables) here some (within joined) (most joined) (put .0) (put .1),
+    )
 
 pub fill-interval-spec : {M : Type 1} → statement M
 fill-interval-spec =
     tie.close
     (tie.spec
-    mul-if1
-    element-copy-out-if1
-    mul-if1-2
-    mul-if1-3
-    element-copy-out-if1-2
+    mul-free
+    element-copy-out-free
     returns
-    mul-only
-    element-copy-out-only
-    mul-only-2
-    element-copy-out-only-2
-    only-requires
-    fill-requires
+    cast-put
+    put-requires
+    sub-room
+    mul-room
+    element-write-room
     sub-result
     same-length
     returns-2)

@@ -1,55 +1,78 @@
 -- `filling::fill_job` meets its contract (proofs/PlaceSteps.antt). Assumes nothing.
-use Prim.Native.Nat.{_<_}
+use mathlib.Core.Path.{_∙_}
+use Prim.Native.Nat.{ℕ, _<_}
+use mathlib.Core.List.{List}
 use native.Mathlib.Omega.{arith}
-use denote.Ref.{now}
-use Rattle.planner.specs.Arrays.{numbersIn}
-use Rattle.planner.proofs.PlaceSteps.{turn-start, turn-end}
 use borrow.Author.Needs.{needs}
+use denote.Ref.{now}
+use Rattle.workloads.specs.declared.Workload.{Workload}
+use Rattle.workloads.specs.Arrays.{numbersIn, lentWindows}
+use Rattle.workloads.proofs.SharesTable.{kept-refl}
+use Rattle.planner.specs.OwnWindows.{CanFillRange, CanFillJob}
+use Rattle.planner.proofs.PlaceSteps.{turn-start, turn-end, left-same}
 use Rattle.planner.proofs.filling.fill_job.Statement.{statement}
 use Rattle.planner.proofs.filling.fill_job.Tie as tie
 
-mul-most : tie.Need-mul-most
-mul-most c = search needs
-
-element-copy-out-most : tie.Need-element-copy-out-most
-element-copy-out-most c = search needs
+-- a workload with what is lent
+abbrev lent : tie.Start → Workload → Workload
+lent c work = let a = c .args in lentWindows work (a .turn .jobs) (now (a .first)) (now (a .last))
 
 returns : tie.Need-returns
-returns c = search needs
+returns c = λ work band prices left can. (kept-refl _ _, rw (left-same left _ (can .left-is ∙ c .if1 .taken)) (can .tables))
 
-fill-window-requires : tie.Need-fill-window-requires
-fill-window-requires c κs =
-    let start = c .before .before .before .before .before .before in
-    let known = start .pre .0 in
-    let has : 0 < numbersIn (now (start .args .left)) (start .args .job) = omega (arith, c .before .before .before .if1 .left) in
-    (known .0, known .1, known .2, numbersIn (now (start .args .left)), known .3, turn-start (known .5) (start .pre .1) (known .4) has)
+mul-fill-range : tie.Need-mul-fill-range
+mul-fill-range c = search needs
 
-mul-left : tie.Need-mul-left
-mul-left c = search needs
+element-copy-out-fill-range : tie.Need-element-copy-out-fill-range
+element-copy-out-fill-range c = search needs
 
-element-write-left : tie.Need-element-write-left
-element-write-left c = search needs
+mul-fill-range-2 : tie.Need-mul-fill-range-2
+mul-fill-range-2 c = search needs
+
+element-copy-out-fill-range-2 : tie.Need-element-copy-out-fill-range-2
+element-copy-out-fill-range-2 c = search needs
+
+-- the window can be filled
+can-fill : (c : tie.Else1)
+    → let start = c .before .before .before in
+    let a = start .args in
+    (work : Workload) (band : ℕ) (prices : ℕ → ℕ) (left : List ℕ)
+    → CanFillJob (lent start work) (now (a .shares)) (now (a .room)) (now (a .holders)) left prices band (a .turn)
+    → CanFillRange (lent start work) (now (a .shares)) (now (a .room)) (now (a .holders)) prices (numbersIn left) band (a .turn)
+    (numbersIn (now (a .first)) (a .turn .job)) (numbersIn (now (a .last)) (a .turn .job))
+can-fill c work band prices left can =
+    let has : 0 < numbersIn left (c .before .before .before .args .turn .job) = omega (arith, can .left-is, c .if1 .left) in
+    record {
+      tables = rw (can .left-is) at (turn-start (can .tables) (can .job-below) has);
+      is-open = λ i from to. record { from = from; to = to };
+    }
+
+fill-range-requires : tie.Need-fill-range-requires
+fill-range-requires c κs =
+    let more = c .before .before .before .before .before in
+    let start = more .before .before .before in
+    let known = start .pre in
+    (lent start (known .0), known .1, known .2, numbersIn (known .3), can-fill more (known .0) (known .1) (known .2) (known .3) (known .4))
 
 same-length : tie.Need-same-length
 same-length c = search needs
 
 returns-2 : tie.Need-returns-2
-returns-2 c = λ work band prices is-frequency more tables.
-    let start = c .before .before .before .before .before .before .before .before .before in
-    let left = now (start .args .left) in
-    let has : 0 < numbersIn left (start .args .job) = omega (arith, c .before .before .before .before .before .before .if1 .left) in
-    let (kept, placing) = c .before .before .fill-window .ensures work band prices (numbersIn left) is-frequency (turn-start tables (start .pre .1) more has) in
-    (kept, turn-end tables (omega arith) (start .pre .1) (λ i. omega arith) placing)
+returns-2 c = λ work band prices left can.
+    let more = c .before .before .before .before .before .before .before .before in
+    let start = more .before .before .before in
+    let (kept, placing) = c .before .before .fill-range .ensures (lent start work) band prices (numbersIn left) (can-fill more work band prices left can) in
+    (kept, turn-end (can .tables) (can .job-below) (omega arith) (λ i. omega arith) placing)
 
 pub fill-job-spec : {M : Type 1} → statement M
 fill-job-spec =
     tie.close
     (tie.spec
-    mul-most
-    element-copy-out-most
     returns
-    fill-window-requires
-    mul-left
-    element-write-left
+    mul-fill-range
+    element-copy-out-fill-range
+    mul-fill-range-2
+    element-copy-out-fill-range-2
+    fill-range-requires
     same-length
     returns-2)

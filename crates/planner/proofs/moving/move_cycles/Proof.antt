@@ -1,32 +1,32 @@
 -- `moving::move_cycles` meets its contract. The loop's invariant: the job is being placed, with `left` of its cycles left
--- (proofs/PlaceSteps.antt). A turn places some of them, or raises prices and ends the loop. Assumes nothing.
+-- (proofs/PlaceSteps.antt). Assumes nothing.
 use mathlib.Core.Path.{_≡_}
-use Prim.Native.Nat.{ℕ, _+_, _<_, _≤_}
+use Prim.Native.Nat.{ℕ, _*_, _<_, _≤_}
 use native.Mathlib.Omega.{arith}
 use lib.ListN.{length, length-replicate}
 use denote.Ref.{now}
 use Rattle.model.specs.Limits.{maxJobs}
 use Rattle.model.specs.Plans.{sharesIn}
-use Rattle.planner.specs.declared.workload.Workload.{Workload}
-use Rattle.planner.specs.Arrays.{numbersIn, problemIn, lentSizes}
-use Rattle.planner.specs.Reaching.{stateOf, Searched}
-use Rattle.planner.specs.PlacedTables.{CanFill, Filled}
-use Rattle.planner.specs.BandPasses.{CanMoveJob}
-use Rattle.planner.proofs.PlaceSteps.{MovingJob, moving-job-start, place-search, place-fill, moved-whole, moved-filled, closed-range, moved-closed}
+use Rattle.workloads.specs.declared.Workload.{Workload}
+use Rattle.workloads.specs.Arrays.{problemIn, lentWindows, KeptPast}
+use Rattle.workloads.proofs.SharesTable.{kept-refl, kept-trans}
+use Rattle.searching.specs.Reaching.{stateOf, Searched}
+use Rattle.paths.specs.FilledTargets.{PlacingTables, CanFill, Filled}
+use Rattle.planner.proofs.PlaceSteps.{place-search, place-fill, place-filled, search-closed}
 use Rattle.planner.proofs.moving.move_cycles.Statement.{statement}
 use Rattle.planner.proofs.moving.move_cycles.Tie as tie
 
 abbrev Inv-loop : tie.InvT-loop
-Inv-loop first last size frequency jobs shares₀ loads₀ holders₀ prices₀ band job most reached₀ source₀ left₀ shares loads holders prices reached source left =
+Inv-loop first last shares₀ room₀ holders₀ turn reached₀ source₀ left₀ shares room holders reached source left =
     (length reached ≡ maxJobs)
     × (length source ≡ maxJobs)
-    × ((work : Workload) (lefts : ℕ → ℕ) → numbersIn (work .frequency) (band + 1) ≡ frequency
-    → CanMoveJob (lentSizes work jobs first last size) shares₀ loads₀ holders₀ prices₀ lefts job most band
-    → MovingJob (lentSizes work jobs first last size) shares₀ prices₀ shares loads holders prices lefts job left band)
+    × ((work : Workload) (band : ℕ) (prices lefts : ℕ → ℕ)
+    → PlacingTables (lentWindows work (turn .jobs) first last) shares₀ room₀ holders₀ prices lefts (turn .job) (turn .left) band
+    → KeptPast (work .intervals * turn .jobs) shares₀ shares
+    × PlacingTables (lentWindows work (turn .jobs) first last) shares room holders prices lefts (turn .job) left band)
 
 abbrev μ-loop : tie.MeasureT-loop
-μ-loop first last size frequency jobs shares₀ loads₀ holders₀ prices₀ band job most reached₀ source₀ left₀ shares loads holders prices reached source left =
-    left
+μ-loop first last shares₀ room₀ holders₀ turn reached₀ source₀ left₀ shares room holders reached source left = left
 
 -- the function's entry
 abbrev entry : tie.At-loop Inv-loop μ-loop → tie.Start Inv-loop μ-loop
@@ -34,33 +34,29 @@ entry c = c .before .before
 
 -- a workload with what is lent
 abbrev lent : tie.Start Inv-loop μ-loop → Workload → Workload
-lent c work = let a = c .args in lentSizes work (a .jobs) (now (a .first)) (now (a .last)) (now (a .size))
+lent c work = let a = c .args in lentWindows work (a .turn .jobs) (now (a .first)) (now (a .last))
 
 -- the job can be placed
-abbrev Placeable : tie.Start Inv-loop μ-loop → Workload → (ℕ → ℕ) → Type 0
-Placeable c work lefts =
+abbrev Placeable : tie.Start Inv-loop μ-loop → Workload → (band : ℕ) → (prices lefts : ℕ → ℕ) → Type 0
+Placeable c work band prices lefts =
     let a = c .args in
-    (numbersIn (work .frequency) (a .band + 1) ≡ a .frequency)
-    × CanMoveJob (lent c work) (now (a .shares)) (now (a .loads)) (now (a .holders)) (now (a .prices)) lefts (a .job) (a .most) (a .band)
-
-known : (c : tie.Start Inv-loop μ-loop) → Placeable c (c .pre .0) (c .pre .1)
-known c = (c .pre .2, c .pre .3)
+    PlacingTables (lent c work) (now (a .shares)) (now (a .room)) (now (a .holders)) prices lefts (a .turn .job) (a .turn .left) band
 
 loop-holds : tie.Need-loop-holds Inv-loop μ-loop
-loop-holds c = (length-replicate {A = ℕ} maxJobs 0, length-replicate {A = ℕ} maxJobs 0, λ work lefts is-frequency can. moving-job-start can)
+loop-holds c = (
+  length-replicate {A = ℕ} maxJobs 0,
+  length-replicate {A = ℕ} maxJobs 0,
+  λ work band prices lefts tables. (kept-refl _ _, tables),
+)
 
--- the job is being placed
-at : (c : tie.At-loop Inv-loop μ-loop) (work : Workload) (lefts : ℕ → ℕ) → Placeable (entry c) work lefts
-    → let a = entry c .args in
-    MovingJob (lent (entry c) work) (now (a .shares)) (now (a .prices)) (c .loop .shares) (c .loop .loads) (c .loop .holders) (c .loop .prices)
-    lefts (a .job) (c .loop .left) (a .band)
-at c work lefts (is-frequency, can) = c .loop .inv .2 work lefts is-frequency can
-
+-- where the loop is, of the workload that is known
 own : (c : tie.At-loop Inv-loop μ-loop)
-    → let a = entry c .args in
-    MovingJob (lent (entry c) (entry c .pre .0)) (now (a .shares)) (now (a .prices)) (c .loop .shares) (c .loop .loads) (c .loop .holders) (c .loop .prices)
-    (entry c .pre .1) (a .job) (c .loop .left) (a .band)
-own c = at c (entry c .pre .0) (entry c .pre .1) (known (entry c))
+    → let start = entry c in
+    let a = start .args in
+    KeptPast (start .pre .0 .intervals * a .turn .jobs) (now (a .shares)) (c .loop .shares)
+    × PlacingTables (lent start (start .pre .0)) (c .loop .shares) (c .loop .room) (c .loop .holders) (start .pre .2) (start .pre .3) (a .turn .job)
+    (c .loop .left) (start .pre .1)
+own c = let known = entry c .pre in c .loop .inv .2 (known .0) (known .1) (known .2) (known .3) (known .4)
 
 search-requires : tie.Need-search-requires Inv-loop μ-loop
 search-requires c κs =
@@ -68,9 +64,9 @@ search-requires c κs =
     let start = entry head in (
       record {
         problem = problemIn (lent start (start .pre .0));
-        shares = sharesIn (start .args .jobs) (head .loop .shares);
-        band = start .args .band;
-        to-search = rw (start .pre .2) at (place-search (own head .can .tables));
+        shares = sharesIn (start .args .turn .jobs) (head .loop .shares);
+        band = start .pre .1;
+        to-search = place-search (own head .1);
       },
       (head .loop .inv .0, head .loop .inv .1),
     )
@@ -78,71 +74,62 @@ search-requires c κs =
 -- what the search has found
 searched : (c : tie.After-search Inv-loop μ-loop)
     → let head = c .before .before .before .before .before .before in
-    (work : Workload) (lefts : ℕ → ℕ) → Placeable (entry head) work lefts
-    → Searched (problemIn (lent (entry head) work)) (sharesIn (entry head .args .jobs) (head .loop .shares)) (entry head .args .job) (entry head .args .band)
-    (stateOf (c .search .result) (c .search .last .1 .1 .1 .1 .1 .1 .1 .0) (c .search .last .1 .1 .1 .1 .1 .1 .1 .1 .0))
-searched c work lefts can =
+    let a = entry head .args in
+    (work : Workload) (band : ℕ) (prices lefts : ℕ → ℕ) → Placeable (entry head) work band prices lefts
+    → Searched (problemIn (lent (entry head) work)) (sharesIn (a .turn .jobs) (head .loop .shares)) (a .turn .job) band
+    (stateOf (c .search .result) (c .search .last .1 .1 .1 .1 .1 .0) (c .search .last .1 .1 .1 .1 .1 .1 .0))
+searched c work band prices lefts tables =
     let head = c .before .before .before .before .before .before in
-    c .search .ensures .2 (problemIn (lent (entry head) work)) (sharesIn (entry head .args .jobs) (head .loop .shares)) (entry head .args .band)
-    (rw (can .0) at (place-search (at head work lefts can .can .tables)))
-
-add-raise : tie.Need-add-raise Inv-loop μ-loop
-add-raise c =
-    let tables = own (c .before .before .before .before .before .before .before .before .before) .can .tables in
-    omega (arith, tables .placing .band-below, tables .sound .bands-most)
-
-raise-requires : tie.Need-raise-requires Inv-loop μ-loop
-raise-requires c κs =
-    let head = c .before .before .before .before .before .before .before .before .before in
-    let start = entry head in
-    let found = searched (c .before .before .before) (start .pre .0) (start .pre .1) (known start) in
-    let range = closed-range (own head) found (c .before .if1 .taken) in
-    (own head .can .prices-length, omega (arith, range), omega (arith, range))
+    c .search .ensures .2 (problemIn (lent (entry head) work)) (sharesIn (entry head .args .turn .jobs) (head .loop .shares)) band
+    (place-search (head .loop .inv .2 work band prices lefts tables .1))
 
 same-length : tie.Need-same-length Inv-loop μ-loop
-same-length c = own (c .before .before .before .before .before .before .before .before .before .before) .kept .same-length
+same-length c = own (c .before .before .before .before .before .before .before .before) .0 .same-length
 
 returns : tie.Need-returns Inv-loop μ-loop
-returns c = λ work lefts is-frequency can.
-    let turn = c .before .before .before .before .before .before .before .before .before in
-    moved-closed (at (turn .before) work lefts (is-frequency, can)) (searched (c .before .before .before .before) work lefts (is-frequency, can))
-    (c .before .before .if1 .taken) (turn .loop-test .taken) (c .raise .ensures .0) (c .raise .ensures .1)
+returns c = λ work band prices lefts tables.
+    let head = c .before .before .before .before .before .before .before .before in
+    let at = head .loop .inv .2 work band prices lefts tables in
+    record {
+      kept = at .0;
+      tables = at .1;
+      closed = λ some. search-closed (at .1) (searched (c .before .before) work band prices lefts tables) (c .if1 .taken);
+    }
 
 -- a target is found
 can-fill : (c : tie.Else1 Inv-loop μ-loop)
     → let head = c .before .before .before .before .before .before .before .before in
     let found = c .before .before in
-    (work : Workload) (lefts : ℕ → ℕ) → Placeable (entry head) work lefts
-    → CanFill (lent (entry head) work) (head .loop .shares) (head .loop .loads) (head .loop .holders)
-    (stateOf (found .search .result) (found .search .last .1 .1 .1 .1 .1 .1 .1 .0) (found .search .last .1 .1 .1 .1 .1 .1 .1 .1 .0)) (entry head .args .band) (head .loop .left)
-can-fill c work lefts can =
+    (work : Workload) (band : ℕ) (prices lefts : ℕ → ℕ) → Placeable (entry head) work band prices lefts
+    → CanFill (lent (entry head) work) (head .loop .shares) (head .loop .room) (head .loop .holders)
+    (stateOf (found .search .result) (found .search .last .1 .1 .1 .1 .1 .0) (found .search .last .1 .1 .1 .1 .1 .1 .0)) band (head .loop .left)
+can-fill c work band prices lefts tables =
     let turn = c .before .before .before .before .before .before .before in
-    let found = searched (c .before .before) work lefts can in
-    place-fill (at (turn .before) work lefts can .can .tables) (found .reaching) (turn .loop-test .taken) (found .target (c .if1 .left))
+    place-fill (turn .before .loop .inv .2 work band prices lefts tables .1) (searched (c .before .before) work band prices lefts tables) (turn .loop-test .taken)
+    (c .if1 .left)
 
 fill-requires : tie.Need-fill-requires Inv-loop μ-loop
 fill-requires c κs =
-    let start = entry (c .before .before .before .before .before .before .before .before .before .before .before .before .before) in
-    (start .pre .0, start .args .band, start .pre .2, can-fill (c .before .before .before .before .before) (start .pre .0) (start .pre .1) (known start))
+    let known = entry (c .before .before .before .before .before .before .before .before .before .before .before .before .before) .pre in
+    (known .0, known .1, can-fill (c .before .before .before .before .before) (known .0) (known .1) (known .2) (known .3) (known .4))
 
 -- the target is filled
 filled : (c : tie.After-fill Inv-loop μ-loop)
     → let head = c .before .before .before .before .before .before .before .before .before .before .before .before .before .before in
     let found = c .before .before .before .before .before .before .before .before in
-    (work : Workload) (lefts : ℕ → ℕ) → Placeable (entry head) work lefts
-    → Filled (lent (entry head) work) (head .loop .shares) (c .fill .last .1 .1 .1 .1 .1 .0) (c .fill .last .1 .1 .1 .1 .1 .1 .0) (c .fill .last .1 .1 .1 .1 .1 .1 .1 .0)
-    (stateOf (found .search .result) (found .search .last .1 .1 .1 .1 .1 .1 .1 .0) (found .search .last .1 .1 .1 .1 .1 .1 .1 .1 .0)) (entry head .args .band) (head .loop .left) (c .fill .result)
-filled c work lefts can =
-    let head = c .before .before .before .before .before .before .before .before .before .before .before .before .before .before in
-    c .fill .ensures work (entry head .args .band) (can .0) (can-fill (c .before .before .before .before .before .before) work lefts can)
+    (work : Workload) (band : ℕ) (prices lefts : ℕ → ℕ) → Placeable (entry head) work band prices lefts
+    → Filled (lent (entry head) work) (head .loop .shares) (c .fill .last .1 .1 .0) (c .fill .last .1 .1 .1 .0) (c .fill .last .1 .1 .1 .1 .0)
+    (stateOf (found .search .result) (found .search .last .1 .1 .1 .1 .1 .0) (found .search .last .1 .1 .1 .1 .1 .1 .0)) band (head .loop .left) (c .fill .result)
+filled c work band prices lefts tables =
+    c .fill .ensures work band (can-fill (c .before .before .before .before .before .before) work band prices lefts tables)
 
 -- of the workload that is known
 own-filled : (c : tie.After-slice-known2 Inv-loop μ-loop)
     → let head = c .before .before .before .before .before .before .before .before .before .before .before .before .before .before .before .before in
     (0 < c .before .before .fill .result) × (c .before .before .fill .result ≤ head .loop .left)
 own-filled c =
-    let start = entry (c .before .before .before .before .before .before .before .before .before .before .before .before .before .before .before .before) in
-    let done = filled (c .before .before) (start .pre .0) (start .pre .1) (known start) in
+    let known = entry (c .before .before .before .before .before .before .before .before .before .before .before .before .before .before .before .before) .pre in
+    let done = filled (c .before .before) (known .0) (known .1) (known .2) (known .3) (known .4) in
     (done .some, done .most)
 
 sub-left : tie.Need-sub-left Inv-loop μ-loop
@@ -157,15 +144,19 @@ loop-again c =
     let found = c .before .before .before .before .before .before .before .before .before .before in (
       found .search .ensures .0,
       found .search .ensures .1,
-      λ work lefts is-frequency can.
-          moved-filled (at head work lefts (is-frequency, can)) (searched found work lefts (is-frequency, can)) (filled (c .before .before) work lefts (is-frequency, can)),
+      λ work band prices lefts tables.
+          let (kept, at) = head .loop .inv .2 work band prices lefts tables in
+          let done = filled (c .before .before) work band prices lefts tables in
+          (kept-trans kept (done .kept), place-filled at (searched found work band prices lefts tables) done),
     )
 
 same-length-2 : tie.Need-same-length-2 Inv-loop μ-loop
-same-length-2 c = own (c .before) .kept .same-length
+same-length-2 c = own (c .before) .0 .same-length
 
 returns-2 : tie.Need-returns-2 Inv-loop μ-loop
-returns-2 c = λ work lefts is-frequency can. moved-whole (at (c .before) work lefts (is-frequency, can)) (c .loop-test .left)
+returns-2 c = λ work band prices lefts tables.
+    let (kept, at) = c .before .loop .inv .2 work band prices lefts tables in
+    record { kept = kept; tables = at; closed = λ some. absurd (omega (arith, c .loop-test .left)) }
 
 pub move-cycles-spec : {M : Type 1} → statement M
 move-cycles-spec =
@@ -175,8 +166,6 @@ move-cycles-spec =
     μ-loop
     loop-holds
     search-requires
-    add-raise
-    raise-requires
     same-length
     returns
     fill-requires

@@ -1,24 +1,34 @@
 -- `moving::move_job` meets its contract (proofs/PlaceSteps.antt). Assumes nothing.
-use Prim.Native.Nat.{_<_}
+use mathlib.Core.Path.{_∙_}
+use mathlib.Core.List.{List}
+use Prim.Native.Nat.{ℕ, _<_}
 use native.Mathlib.Omega.{arith}
-use denote.Ref.{now}
-use Rattle.planner.specs.Arrays.{numbersIn}
-use Rattle.planner.proofs.SharesTable.{kept-refl}
-use Rattle.planner.proofs.PlaceSteps.{raise-start, raise-passed, raise-moved}
 use borrow.Author.Needs.{needs}
+use denote.Ref.{now}
+use Rattle.workloads.specs.declared.Workload.{Workload}
+use Rattle.workloads.specs.Arrays.{numbersIn, lentWindows}
+use Rattle.workloads.proofs.SharesTable.{kept-refl}
+use Rattle.paths.specs.FilledTargets.{PlacingTables}
+use Rattle.prices.proofs.RaisedPrices.{raised-up}
+use Rattle.planner.specs.BandPasses.{JobMoved, CanRaiseJob}
+use Rattle.planner.proofs.PlaceSteps.{turn-start, closed-range, raised-tables, raised-past, raise-passed, raise-moved}
 use Rattle.planner.proofs.moving.move_job.Statement.{statement}
 use Rattle.planner.proofs.moving.move_job.Tie as tie
 
-mul-most : tie.Need-mul-most
-mul-most c = search needs
+-- a workload with what is lent
+abbrev lent : tie.Start → Workload → Workload
+lent c work = let a = c .args in lentWindows work (a .turn .jobs) (now (a .first)) (now (a .last))
 
-element-copy-out-most : tie.Need-element-copy-out-most
-element-copy-out-most c = search needs
+-- it is the job's turn
+abbrev Turns : tie.Start → Workload → (left : List ℕ) → Type 0
+Turns c work left =
+    let a = c .args in
+    CanRaiseJob (lent c work) (now (a .shares)) (now (a .room)) (now (a .holders)) (now (a .prices)) left (a .band) (a .turn)
 
 returns : tie.Need-returns
-returns c = λ work is-frequency can. (
+returns c = λ work left can. (
   kept-refl _ _,
-  raise-passed can (λ i inside has is-open. absurd (omega (arith, c .if1 .taken))),
+  raise-passed (can .can) (can .left-is ∙ c .if1 .taken) (λ i inside has is-open. absurd (omega (arith, can .left-is, c .if1 .taken))),
 )
 
 mul-is-below : tie.Need-mul-is-below
@@ -38,47 +48,89 @@ add-is-below c = search needs
 
 is-below-requires : tie.Need-is-below-requires
 is-below-requires c κs =
-    let start = c .before .before .before .before .before .before in
-    let sound = start .pre .0 .2 .tables .sound in
-    omega (arith, sound .sound .inside (start .args .job) (start .pre .1), sound .intervals-most)
+    let known = c .before .before .before .before .before .before .pre .2 in
+    let sound = known .can .tables .stored .sound in
+    omega (arith, sound .sound .inside _ (known .job-below), sound .intervals-most)
+
+-- the job is placed
+placing : (c : tie.Else1)
+    → let start = c .before .before .before in
+    let a = start .args in
+    (work : Workload) (left : List ℕ) → Turns start work left
+    → PlacingTables (lent start work) (now (a .shares)) (now (a .room)) (now (a .holders)) (numbersIn (now (a .prices))) (numbersIn left) (a .turn .job) (a .turn .left) (a .band)
+placing c work left can =
+    let has : 0 < numbersIn left (c .before .before .before .args .turn .job) = omega (arith, can .left-is, c .if1 .left) in
+    rw (can .left-is) at (turn-start (can .can .tables) (can .job-below) has)
 
 move-cycles-requires : tie.Need-move-cycles-requires
 move-cycles-requires c κs =
-    let start = c .before .before .before .before .before .before .before .before .before .before .before .before in
-    let left = now (start .args .left) in
-    let has : 0 < numbersIn left (start .args .job) = omega (arith, c .before .before .before .before .before .before .before .before .before .if1 .left) in
-    let known = start .pre .0 in
-    (known .0, numbersIn left, known .1, raise-start (known .2) (start .pre .1) has)
+    let more = c .before .before .before .before .before .before .before .before in
+    let start = more .before .before .before in
+    let known = start .pre in
+    (known .0, start .args .band, numbersIn (now (start .args .prices)), numbersIn (known .1), placing more (known .0) (known .1) (known .2))
 
-mul-left : tie.Need-mul-left
-mul-left c = search needs
-
-element-write-left : tie.Need-element-write-left
-element-write-left c = search needs
+-- it was moved
+moved : (c : tie.After-move-cycles)
+    → let start = c .before .before .before .before .before .before .before .before .before .before .before .before in
+    let a = start .args in
+    (work : Workload) (left : List ℕ) → Turns start work left
+    → JobMoved (lent start work) (now (a .shares)) (c .move-cycles .last .1 .1 .0) (c .move-cycles .last .1 .1 .1 .0) (c .move-cycles .last .1 .1 .1 .1 .0)
+    (numbersIn (now (a .prices))) (numbersIn left) (a .turn .job) (a .band) (c .move-cycles .result)
+moved c work left can =
+    let more = c .before .before .before .before .before .before .before .before .before in
+    let a = more .before .before .before .args in
+    c .move-cycles .ensures work (a .band) (numbersIn (now (a .prices))) (numbersIn left) (placing more work left can)
 
 same-length : tie.Need-same-length
 same-length c = search needs
 
 returns-2 : tie.Need-returns-2
-returns-2 c = λ work is-frequency can.
-    let start = c .before .before .before .before .before .before .before .before .before .before .before .before .before .before .before in
-    let left = now (start .args .left) in
-    let has : 0 < numbersIn left (start .args .job) = omega (arith, c .before .before .before .before .before .before .before .before .before .before .before .before .if1 .left) in
-    let moved = c .before .before .move-cycles .ensures work (numbersIn left) is-frequency (raise-start can (start .pre .1) has) in
-    (moved .kept, raise-moved can (start .pre .1) moved)
+returns-2 c = λ work left can.
+    let done = moved (c .before .before .before .before) work left can in (
+      done .kept,
+      raise-moved (can .can) (can .job-below) (can .can .prices-length) (λ i. omega arith) (rw (c .if3 .taken) at (done .tables)) (λ some. absurd (omega arith)),
+    )
+
+add-raise : tie.Need-add-raise
+add-raise c = search needs
+
+-- some cycles are left
+lacks : (c : tie.Else3) → 0 < c .before .before .before .before .move-cycles .result .left
+lacks c = omega (arith, c .if3 .left)
+
+raise-requires : tie.Need-raise-requires
+raise-requires c κs =
+    let after = c .before .before .before .before .before in
+    let known = after .before .before .before .before .before .before .before .before .before .before .before .before .pre in
+    let done = moved after (known .0) (known .1) (known .2) in
+    let range = closed-range (done .tables) (done .closed (lacks (c .before))) in
+    (known .2 .can .prices-length, omega (arith, range), omega (arith, range))
+
+same-length-2 : tie.Need-same-length-2
+same-length-2 c = search needs
 
 returns-3 : tie.Need-returns-3
-returns-3 c = λ work is-frequency can. (
+returns-3 c = λ work left can.
+    let done = moved (c .before .before .before .before .before .before) work left can in
+    let some = lacks (c .before .before) in
+    let raised = c .raise .ensures .0 in (
+      done .kept,
+      raise-moved (can .can) (can .job-below) (c .raise .ensures .1) (raised-up raised)
+          (raised-tables (done .tables) (done .closed some) (can .can .fit) some raised)
+          (λ has. raised-past (done .tables) (done .closed some) (can .can .fit) some raised),
+    )
+
+returns-4 : tie.Need-returns-4
+returns-4 c = λ work left can. (
   kept-refl _ _,
-  raise-passed can (λ i inside has is-open. omega (arith, c .before .is-below .ensures .none (c .if2 .left) i (is-open .from) (is-open .to))),
+  raise-passed (can .can) (can .left-is)
+      (λ i inside has is-open. omega (arith, c .before .is-below .ensures .none (c .if2 .left) i (is-open .from) (is-open .to))),
 )
 
 pub move-job-spec : {M : Type 1} → statement M
 move-job-spec =
     tie.close
     (tie.spec
-    mul-most
-    element-copy-out-most
     returns
     mul-is-below
     element-copy-out-is-below
@@ -87,8 +139,10 @@ move-job-spec =
     add-is-below
     is-below-requires
     move-cycles-requires
-    mul-left
-    element-write-left
     same-length
     returns-2
-    returns-3)
+    add-raise
+    raise-requires
+    same-length-2
+    returns-3
+    returns-4)

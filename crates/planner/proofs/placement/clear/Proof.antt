@@ -4,8 +4,9 @@ use Prim.Native.Nat.{ℕ, _-_, _<_, _≤_}
 use native.Mathlib.Omega.{arith}
 use lib.ListN.{length}
 use borrow.Author.Count.{below-none}
-use Rattle.planner.specs.Arrays.{numbersIn, KeptPast}
-use Rattle.planner.proofs.SharesTable.{kept-refl, kept-set, stored-more}
+use Rattle.workloads.specs.Arrays.{numbersIn, KeptPast}
+use Rattle.workloads.proofs.SharesTable.{kept-refl, kept-set}
+use Rattle.workloads.proofs.StoredNumbers.{stored-more}
 use Rattle.planner.proofs.placement.clear.Statement.{statement}
 use Rattle.planner.proofs.placement.clear.Tie as tie
 

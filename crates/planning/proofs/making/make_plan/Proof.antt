@@ -1,22 +1,27 @@
 -- `making::make_plan` meets its contract: the jobs are placed, the smallest prices found, and what is written is the plan
 -- (proofs/MadePlans.antt).
 -- Assumes nothing.
-use mathlib.Core.Path.{_≡_, refl}
+use mathlib.Core.Path.{_≡_}
 use native.Mathlib.Omega.{arith}
 use lib.ListN.{length}
 use borrow.Author.Needs.{needs}
 use Rattle.model.specs.Limits.{maxJobs}
 use Rattle.model.specs.Plans.{sharesIn}
-use Rattle.planner.specs.declared.workload.Workload.{Workload}
-use Rattle.planner.specs.Arrays.{numbersIn, problemIn}
-use Rattle.planner.specs.RisingPrices.{SmallestPriced, CanPrice}
+use Rattle.workloads.specs.declared.Workload.{Workload}
+use Rattle.workloads.specs.Arrays.{numbersIn, problemIn}
+use Rattle.workloads.specs.Placement.{SmallestPriced}
+use Rattle.planning.specs.Workloads.{SiteWorkload}
+use Rattle.prices.specs.RisingPrices.{CanPrice}
+use Rattle.site.proofs.HeldSites.{held-small, held-bounds-small}
 use Rattle.planning.proofs.Placeable.{workload-fits, workload-can-price}
-use Rattle.planning.proofs.MadePlans.{bounds-small, rooms, steps-few, made-plan}
+use Rattle.planning.proofs.MadePlans.{rooms, steps-few, made-plan}
 use Rattle.planning.proofs.making.make_plan.Statement.{statement}
 use Rattle.planning.proofs.making.make_plan.Tie as tie
 
 workload-of-requires : tie.Need-workload-of-requires
-workload-of-requires c κs = search needs
+workload-of-requires c κs =
+    let (site, can) = c .before .before .before .pre in
+    (site, can .in-arrays .valid, can .in-arrays .holds)
 
 -- the array of cycles has a number for each job
 cycles-length : (c : tie.After-workload-of) → length (c .workload-of .result .cycles) ≡ maxJobs
@@ -25,14 +30,11 @@ cycles-length c = search needs
 place-requires : tie.Need-place-requires
 place-requires c κs =
     let working = c .before .before .before .before .before .before .before .before .before in
-    let start = working .before .before .before .before in
-    let curve = start .pre .1 .1 .0 .curve in
-    let site = working .workload-of .ensures in (
-      site .sound,
-      (
-        workload-fits curve (start .pre .0) site refl (start .pre .1 .1 .1 .0),
-        (rooms curve (start .pre .0) site (start .pre .1 .1 .1 .1 .0) .0, cycles-length working),
-      ),
+    let (site, can) = working .before .before .before .before .pre in
+    let valid = can .in-arrays .valid in
+    let made = working .workload-of .ensures site valid (can .in-arrays .holds) in (
+      made .sound,
+      (workload-fits valid made (can .in-arrays .fits), (rooms valid made (can .long) .0, cycles-length working)),
     )
 
 -- the placing follows on the making of the workload
@@ -43,11 +45,18 @@ making c = c .before .before .before .before .before .before .before .before .be
 abbrev workload : tie.After-place → Workload
 workload c = making c .workload-of .result
 
+-- it is what is to be placed for a site
+made-of : (c : tie.After-workload-of) → SiteWorkload (c .before .before .before .before .pre .0) (c .workload-of .result)
+made-of c =
+    let (site, can) = c .before .before .before .before .pre in
+    c .workload-of .ensures site (can .in-arrays .valid) (can .in-arrays .holds)
+
 can-price : (c : tie.After-place) → CanPrice (workload c) (c .place .last .1 .1 .1 .1 .1 .1 .1 .1 .0) (c .place .last .1 .1 .1 .1 .1 .1 .1 .1 .1 .0)
 can-price c =
     let working = making c in
-    let start = working .before .before .before .before in
-    workload-can-price (start .pre .1 .1 .0 .curve) (start .pre .0) (working .workload-of .ensures) (c .place .ensures .0)
+    let (site, can) = working .before .before .before .before .pre in
+    let valid = can .in-arrays .valid in
+    workload-can-price valid (working .workload-of .ensures site valid (can .in-arrays .holds)) (c .place .ensures .0)
 
 smallest-prices-requires : tie.Need-smallest-prices-requires
 smallest-prices-requires c κs =
@@ -67,9 +76,9 @@ smallest c = let placed = placing c in c .smallest-prices .ensures .0 (workload 
 from-one-requires : tie.Need-from-one-requires
 from-one-requires c κs =
     let priced = c .before in
-    let site = making (placing priced) .workload-of .ensures in (
-      site .sound .intervals-most,
-      λ i below. omega (arith, site .sound .bands-most, smallest priced .priced .band i below),
+    let made = made-of (making (placing priced)) in (
+      made .sound .intervals-most,
+      λ i below. omega (arith, made .sound .bands-most, smallest priced .priced .band i below),
     )
 
 write-plan-requires : tie.Need-write-plan-requires
@@ -77,11 +86,11 @@ write-plan-requires c κs =
     let priced = c .before .before .before .before in
     let placed = placing priced in
     let working = making placed in
-    let start = working .before .before .before .before in
-    let site = working .workload-of .ensures in
+    let (site, can) = working .before .before .before .before .pre in
+    let made = made-of working in
     let tables = placed .place .ensures .0 in (
-      (site .sound .jobs-most, site .sound .intervals-most, tables .stored .table-length),
-      omega (arith, start .pre .1 .1 .1 .1 .0 .plan-room, steps-few _ _ _ (start .pre .1 .1 .0 .curve) (start .pre .0) site _ _ _ tables),
+      (made .sound .jobs-most, made .sound .intervals-most, tables .stored .table-length),
+      omega (arith, can .long .plan-room, steps-few (can .in-arrays .valid) made _ _ _ tables),
     )
 
 write-prices-requires : tie.Need-write-prices-requires
@@ -90,9 +99,9 @@ write-prices-requires c κs =
     let priced = written .before .before .before .before .before in
     let placed = placing priced in
     let working = making placed in
-    let start = working .before .before .before .before in
-    let site = working .workload-of .ensures in
-    (site .sound .intervals-most, rooms (start .pre .1 .1 .0 .curve) (start .pre .0) site (start .pre .1 .1 .1 .1 .0) .1)
+    let (site, can) = working .before .before .before .before .pre in
+    let made = made-of working in
+    (made .sound .intervals-most, rooms (can .in-arrays .valid) made (can .long) .1)
 
 energy-figure-requires : tie.Need-energy-figure-requires
 energy-figure-requires c κs =
@@ -100,9 +109,10 @@ energy-figure-requires c κs =
     let written = listed .before .before .before .before .before in
     let priced = written .before .before .before .before .before in
     let placed = placing priced in
-    let working = making placed in
-    let start = working .before .before .before .before in
-    (start .pre .1 .1 .0 .small, bounds-small (start .pre .0) (start .pre .1 .0))
+    let (site, can) = making placed .before .before .before .before .pre in
+    let valid = can .in-arrays .valid in
+    let holds = can .in-arrays .holds in
+    (held-small valid holds, held-bounds-small valid holds)
 
 same-length : tie.Need-same-length
 same-length c = search needs
@@ -118,17 +128,16 @@ same-length-3 c =
     placing priced .place .ensures .1 .same-length
 
 returns : tie.Need-returns
-returns c =
+returns c = λ site can.
     let listed = c .before .before .before .before in
     let written = listed .before .before .before .before .before in
     let counted = written .before .before .before in
     let priced = counted .before .before in
     let placed = placing priced in
-    let working = making placed in
-    let start = working .before .before .before .before in
-    made-plan _ _ _ (start .pre .1 .1 .0 .curve) (start .pre .0) (working .workload-of .ensures) _ _ _ (placed .place .ensures .0)
-    (priced .smallest-prices .last .1 .1 .1 .1 .1 .1 .1 .1 .1 .0) (smallest priced) _ (counted .from-one .ensures)
-    _ (start .pre .1 .0 .array) _ (start .pre .1 .0 .counted) _ _
+    let valid = can .in-arrays .valid in
+    let holds = can .in-arrays .holds in
+    made-plan valid (making placed .workload-of .ensures site valid holds) _ _ _ (placed .place .ensures .0)
+    (priced .smallest-prices .last .1 .1 .1 .1 .1 .1 .1 .1 .1 .0) (smallest priced) _ (counted .from-one .ensures) holds _ _
     _ _ _ _ _ (placed .place .ensures .1) (written .write-plan .ensures .0) (written .write-plan .ensures .1)
     (listed .write-prices .ensures) (c .energy-figure .ensures)
 

@@ -1,88 +1,82 @@
--- `operation::plan_fitting` meets its contract: each way out is a stage of planning (proofs/PlanStages.antt).
+-- `operation::plan_fitting` meets its contract: each way out is one of planning a site (proofs/PlanStages.antt).
 -- Assumes nothing.
-use mathlib.Core.Path.{refl}
-use Prim.Native.Nat.{_≤_}
 use lib.ListN.{length}
 use denote.Ref.{now}
 use borrow.Author.Needs.{needs}
-use Rattle.model.specs.Limits.{maxJobs}
+use Rattle.model.specs.Sites.{Site}
 use Rattle.model.specs.Demands.{LongEnough}
-use Rattle.tables.specs.Tables.{jobsIn}
-use Rattle.tables.proofs.Read.{jobs-count}
 use Rattle.planning.specs.WantedRooms.{WantedRooms}
-use Rattle.planning.proofs.PlanStages.{plan-short, prices-short, shares-short, made-stage}
+use Rattle.planning.specs.MadePlans.{FitsIn}
+use Rattle.planning.proofs.PlanStages.{plan-short, prices-short, shares-short, plan-made}
 use Rattle.planning.proofs.operation.plan_fitting.Statement.{statement}
 use Rattle.planning.proofs.operation.plan_fitting.Tie as tie
 
-few : (c : tie.Start) → c .args .count ≤ maxJobs
-few c = jobs-count (c .args .count) (now (c .args .releases)) (now (c .args .deadlines)) (now (c .args .cycles)) (c .pre .0)
+-- a site that stands in what the function is lent
+abbrev Lent : tie.Start → Site → Type 0
+Lent c site =
+    FitsIn site (c .args .site) (now (c .args .releases)) (now (c .args .deadlines)) (now (c .args .cycles)) (now (c .args .times))
 
 -- the lengths wanted are those of refusals 12 to 14
-wanted : (c : tie.After-rooms-of)
-    → let a = c .before .before .before .before .before .before .before .args in
-    let rooms = c .rooms-of .result in
-    WantedRooms (jobsIn (a .count) (now (a .releases)) (now (a .deadlines)) (now (a .cycles))) (rooms .plan) (rooms .prices) (rooms .shares)
-wanted c = c .rooms-of .ensures _
+wanted : (c : tie.After-rooms-of) (site : Site) → Lent (c .before .before .before .before) site
+    → WantedRooms site (c .rooms-of .result .plan) (c .rooms-of .result .prices) (c .rooms-of .result .shares)
+wanted c site lent = c .rooms-of .ensures site (lent .valid) (lent .holds)
+
+-- those of the site that is asked for
+own : (c : tie.After-rooms-of) → WantedRooms (c .before .before .before .before .pre .0) (c .rooms-of .result .plan) (c .rooms-of .result .prices) (c .rooms-of .result .shares)
+own c = let (site, lent) = c .before .before .before .before .pre in wanted c site lent
 
 -- past the three comparisons the buffers are long enough
-enough : (c : tie.After-make-plan-arg3)
-    → let a = c .before .before .before .before .before .before .before .before .before .before .before .before .before .before .before .before .before .args in
-    LongEnough (jobsIn (a .count) (now (a .releases)) (now (a .deadlines)) (now (a .cycles)))
-    (length (now (a .plan))) (length (now (a .prices))) (length (now (a .shares)))
-enough c =
-    let compared = c .before .before .before .before in
-    let rooms = wanted (compared .before .before .before .before .before .before) in
+enough : (c : tie.After-make-plan-arg3) (site : Site) → Lent (c .before .before .before .before .before .before .before .before .before .before .before .before .before) site
+    → let a = c .before .before .before .before .before .before .before .before .before .before .before .before .before .args in
+    LongEnough site (length (now (a .plan))) (length (now (a .prices))) (length (now (a .shares)))
+enough c site lent =
+    let rooms = wanted (c .before .before .before .before .before .before .before .before .before) site lent in
     record {
-      plan-room = rw (← rooms .plan-is) (compared .before .before .before .before .if1 .left);
-      price-room = rw (← rooms .prices-are) (compared .before .before .if2 .left);
-      share-room = rw (← rooms .shares-are) (compared .if3 .left);
+      plan-room = rw (← rooms .plan-is) (c .before .before .before .before .before .before .before .if1 .left);
+      price-room = rw (← rooms .prices-are) (c .before .before .before .before .before .if2 .left);
+      share-room = rw (← rooms .shares-are) (c .before .before .before .if3 .left);
     }
 
-bounds-of-requires : tie.Need-bounds-of-requires
-bounds-of-requires c κs = (few (c .before .before .before .before), refl)
-
 rooms-of-requires : tie.Need-rooms-of-requires
-rooms-of-requires c κs = (few (c .before .before .before .before .before .before), c .before .bounds-of .ensures)
+rooms-of-requires c κs = let (site, lent) = c .before .before .before .pre in (site, lent .valid, lent .holds)
 
-cast-t17 : tie.Need-cast-t17
-cast-t17 c = record { fits = wanted (c .before .before .before) .plan-fits }
+cast-t13 : tie.Need-cast-t13
+cast-t13 c = record { fits = own (c .before .before .before) .plan-fits }
 
 returns : tie.Need-returns
-returns c =
-    let roomy = c .before .before .before in
-    let start = roomy .before .before .before .before .before .before .before in
-    plan-short _ _ _ (start .pre .1 .1 .0) _ _ (wanted roomy .plan-is) (c .before .if1 .taken)
+returns c = λ site lent. plan-short site _ (lent .fits) _ (wanted (c .before .before .before) site lent .plan-is) (c .before .if1 .taken)
 
-cast-t18 : tie.Need-cast-t18
-cast-t18 c = record { fits = wanted (c .before .before .before .before .before) .prices-fit }
+cast-t14 : tie.Need-cast-t14
+cast-t14 c = record { fits = own (c .before .before .before .before .before) .prices-fit }
 
 returns-2 : tie.Need-returns-2
-returns-2 c =
-    let roomy = c .before .before .before .before .before in
-    let start = roomy .before .before .before .before .before .before .before in
-    prices-short _ _ _ (start .pre .1 .1 .0) _ (rw (← wanted roomy .plan-is) (c .before .before .before .if1 .left))
-    _ (wanted roomy .prices-are) (c .before .if2 .taken)
+returns-2 c = λ site lent.
+    let rooms = wanted (c .before .before .before .before .before) site lent in
+    prices-short site _ (lent .fits) (rw (← rooms .plan-is) (c .before .before .before .if1 .left)) _ (rooms .prices-are) (c .before .if2 .taken)
 
-cast-t19 : tie.Need-cast-t19
-cast-t19 c = record { fits = wanted (c .before .before .before .before .before .before .before) .shares-fit }
+cast-t15 : tie.Need-cast-t15
+cast-t15 c = record { fits = own (c .before .before .before .before .before .before .before) .shares-fit }
 
 returns-3 : tie.Need-returns-3
-returns-3 c =
-    let roomy = c .before .before .before .before .before .before .before in
-    let start = roomy .before .before .before .before .before .before .before in
-    shares-short _ _ _ (start .pre .1 .1 .0) _ (rw (← wanted roomy .plan-is) (c .before .before .before .before .before .if1 .left))
-    (rw (← wanted roomy .prices-are) (c .before .before .before .if2 .left)) _ (wanted roomy .shares-are) (c .before .if3 .taken)
+returns-3 c = λ site lent.
+    let rooms = wanted (c .before .before .before .before .before .before .before) site lent in
+    shares-short site _ (lent .fits) (rw (← rooms .plan-is) (c .before .before .before .before .before .if1 .left)) (rw (← rooms .prices-are) (c .before .before .before .if2 .left))
+    _ (rooms .shares-are) (c .before .if3 .taken)
 
 make-plan-requires : tie.Need-make-plan-requires
 make-plan-requires c κs =
-    let start = c .before .before .before .before .before .before .before .before .before .before .before .before .before .before .before .before .before in
-    (start .pre .0, (c .before .before .before .before .before .before .before .before .before .before .before .before .bounds-of .ensures _, (start .pre .1 .0, (start .pre .1 .1 .0, (enough c, start .pre .1 .1 .1)))))
+    let (site, lent) = c .before .before .before .before .before .before .before .before .before .before .before .before .before .pre in
+    (site, record { in-arrays = lent; long = enough c site lent })
 
-cast-t27 : tie.Need-cast-t27
-cast-t27 c = search needs
+cast-t22 : tie.Need-cast-t22
+cast-t22 c =
+    let (site, lent) = c .before .before .before .before .before .before .before .before .before .before .before .before .before .before .before .before .before .before .before .before .before .pre in
+    record { fits = c .before .before .before .before .before .before .before .make-plan .ensures site (record { in-arrays = lent; long = enough (c .before .before .before .before .before .before .before .before) site lent }) .intervals-fit }
 
-cast-t28 : tie.Need-cast-t28
-cast-t28 c = search needs
+cast-t23 : tie.Need-cast-t23
+cast-t23 c =
+    let (site, lent) = c .before .before .before .before .before .before .before .before .before .before .before .before .before .before .before .before .before .before .before .before .before .before .pre in
+    record { fits = c .before .before .before .before .before .before .before .before .make-plan .ensures site (record { in-arrays = lent; long = enough (c .before .before .before .before .before .before .before .before .before) site lent }) .steps-fit }
 
 same-length : tie.Need-same-length
 same-length c = search needs
@@ -94,26 +88,24 @@ same-length-3 : tie.Need-same-length-3
 same-length-3 c = search needs
 
 returns-4 : tie.Need-returns-4
-returns-4 c =
-    let made = c .before .before .before .before .before .before .before .before in
-    let start = made .before .before .before .before .before .before .before .before .before .before .before .before .before .before .before .before .before .before in
-    made-stage _ _ _ (start .pre .1 .1 .0) _ (enough (made .before)) _ _ _ _ (made .make-plan .ensures)
+returns-4 c = λ site lent.
+    let planned = c .before .before .before .before .before .before .before .before in
+    plan-made site _ (lent .fits) (enough (planned .before) site lent) _ _ _ _ (planned .make-plan .ensures site (record { in-arrays = lent; long = enough (planned .before) site lent }))
 
 pub plan-fitting-spec : {M : Type 1} → statement M
 plan-fitting-spec =
     tie.close
     (tie.spec
-    bounds-of-requires
     rooms-of-requires
-    cast-t17
+    cast-t13
     returns
-    cast-t18
+    cast-t14
     returns-2
-    cast-t19
+    cast-t15
     returns-3
     make-plan-requires
-    cast-t27
-    cast-t28
+    cast-t22
+    cast-t23
     same-length
     same-length-2
     same-length-3

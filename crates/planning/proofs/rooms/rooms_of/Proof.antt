@@ -1,12 +1,11 @@
 -- `rooms::rooms_of` meets its contract: the pairs counted are the open pairs (proofs/RoomSizes.antt).
 -- Assumes nothing.
-use mathlib.Core.List.{[]}
 use Prim.Native.Nat.{_*_, _≤_}
 use native.Mathlib.Omega.{arith}
 use borrow.Author.Needs.{needs}
-use Rattle.tables.proofs.Read.{length-jobsIn}
-use Rattle.windows.proofs.Padded.{holds-length}
-use Rattle.planning.proofs.RoomSizes.{bounds-most, pairs-are, pairs-few, wanted-rooms}
+use Rattle.intervals.proofs.Padded.{holds-length}
+use Rattle.site.proofs.HeldSites.{held-count, held-few}
+use Rattle.planning.proofs.RoomSizes.{pairs-few, intervals-are, jobs-counted, pairs-are, wanted-rooms}
 use Rattle.planning.proofs.rooms.rooms_of.Statement.{statement}
 use Rattle.planning.proofs.rooms.rooms_of.Tie as tie
 
@@ -15,17 +14,15 @@ interval-count-requires c κs = search needs
 
 open-pairs-requires : tie.Need-open-pairs-requires
 open-pairs-requires c κs =
-    let start = c .before in
-    let held = start .pre .1 [] in
-    (bounds-most _ _ (length-jobsIn _ _ _ []) (start .pre .0) _ (held .counted), holds-length held, start .pre .0)
+    let (site, valid, holds) = c .before .pre in
+    (held-few valid holds, holds-length (holds .bounds-are), held-count valid holds)
 
 few : (c : tie.After-open-pairs) → (c .open-pairs .result ≤ 8128) × (c .before .interval-count .result ≤ 127)
-    × (c .before .before .args .count * c .before .interval-count .result ≤ 8128)
+    × (c .before .before .args .site .jobs * c .before .interval-count .result ≤ 8128)
 few c =
-    let start = c .before .before in
-    let held = start .pre .1 [] in
-    pairs-few _ _ (length-jobsIn _ _ _ []) (start .pre .0) _ (held .counted) _ _ (c .before .interval-count .ensures)
-    (pairs-are _ _ (length-jobsIn _ _ _ []) (start .pre .0) _ (held .counted) _ _ held (c .open-pairs .ensures []))
+    let (site, valid, holds) = c .before .before .pre in
+    rw (pairs-are valid holds _ (c .open-pairs .ensures _), intervals-are valid holds _ (c .before .interval-count .ensures), jobs-counted valid holds)
+    (pairs-few valid)
 
 mul-t8 : tie.Need-mul-t8
 mul-t8 c = omega (arith, few c .0)
@@ -40,15 +37,12 @@ add-t11 : tie.Need-add-t11
 add-t11 c = omega (arith, few c .1)
 
 mul-t12 : tie.Need-mul-t12
-mul-t12 c = omega (arith, few c .2)
+mul-t12 c = omega (arith, few (c .before) .2)
 
 returns : tie.Need-returns
-returns c =
-    let start = c .before .before in
-    λ cycles.
-    let held = start .pre .1 cycles in
-    wanted-rooms _ _ (length-jobsIn _ _ _ cycles) (start .pre .0) _ (held .counted) _ _ (c .before .interval-count .ensures)
-    (pairs-are _ _ (length-jobsIn _ _ _ cycles) (start .pre .0) _ (held .counted) _ _ held (c .open-pairs .ensures cycles))
+returns c = λ site valid holds.
+    let paired = c .before in
+    wanted-rooms valid holds _ _ (intervals-are valid holds _ (paired .before .interval-count .ensures)) (pairs-are valid holds _ (paired .open-pairs .ensures _))
 
 pub rooms-of-spec : {M : Type 1} → statement M
 rooms-of-spec =

@@ -2,7 +2,6 @@
 -- proofs/SecondHalf.antt. Assumes nothing.
 use mathlib.Core.Path.{_≡_, sym, _∙_}
 use mathlib.Core.Bool.{false}
-use mathlib.Core.List.{[]}
 use Prim.Native.Nat.{_+_, _-_, _*_, _≤_}
 use native.Mathlib.Omega.{arith}
 use lib.ListN.{length}
@@ -24,10 +23,10 @@ wrong-price-length-requires c κs = search needs
 returns : tie.Need-returns
 returns c =
     let start = c .before .before .before .before .before in
-    λ jobs jobs-counted opened.
+    λ processor jobs is-working jobs-counted opened.
     wrong-length-refused
     _ (now (start .args .sets)) _ _ _ _ _ _
-    (start .pre .1 .0 .0) (start .pre .1 .0 .1) (start .pre .1 .1) _ (c .before .before .interval-count .ensures) jobs
+    (start .pre .1 .0 .0) (start .pre .1 .0 .1) (start .pre .1 .1) _ (c .before .before .interval-count .ensures) processor is-working jobs
     (sym (c .before .wrong-price-length .ensures) ∙ c .if1 .taken)
 
 -- past the refusal 21 the price list has an entry for each interval
@@ -44,10 +43,8 @@ sized c =
     let start = c .before .before .before .before .before in
     let a = start .args in
     let small = start .pre .1 .0 .0 in (
-      omega (arith, small .few),
-      price-size
-          (a .working) (now (a .sets)) _ _ _ _ _ (now (a .prices))
-          small (start .pre .1 .0 .1) (start .pre .1 .1) _ (c .before .before .interval-count .ensures) [] (right c),
+      omega (arith, small .rising .few),
+      price-size _ (now (a .times)) (now (a .prices)) (small .rising .few) _ (c .before .before .interval-count .ensures) (right c),
     )
 
 price-numbers-requires : tie.Need-price-numbers-requires
@@ -70,10 +67,10 @@ returns-2 c =
     let filled = entered .before .before .before in
     let sound = filled .before in
     let start = sound .before .before .before .before .before in
-    λ jobs jobs-counted opened.
+    λ processor jobs is-working jobs-counted opened.
     entries-refuse
     _ (now (start .args .sets)) _ _ _ _ _ _
-    (start .pre .1 .0 .0) (start .pre .1 .0 .1) (start .pre .1 .1) _ (sound .before .before .interval-count .ensures) jobs (right sound)
+    (start .pre .1 .0 .0) (start .pre .1 .0 .1) (start .pre .1 .1) _ (sound .before .before .interval-count .ensures) processor is-working jobs (right sound)
     _ (filled .price-numbers .ensures) _ (entered .check-entries .ensures) _ _ (c .before .entries .given .1)
 
 enum-told : tie.Need-enum-told
@@ -91,9 +88,8 @@ banded c =
     let start = sound .before .before .before .before .before in
     let a = start .args in
     band-numbers
-    (a .working) (now (a .sets)) _ _ _ _ _ _
-    (start .pre .1 .0 .0) (start .pre .1 .0 .1) (start .pre .1 .1) _ (sound .before .before .interval-count .ensures) [] (right sound)
-    _ (filled .price-numbers .ensures) _ (entered .check-entries .ensures) (c .enum-told .given .1)
+    _ (now (a .times)) _ (start .pre .1 .0 .0 .rising .few) _ (sound .before .before .interval-count .ensures) (right sound)
+    _ (filled .price-numbers .ensures) _ _ (entered .check-entries .ensures) (c .enum-told .given .1)
 
 check-fits-requires : tie.Need-check-fits-requires
 check-fits-requires c κs =
@@ -111,10 +107,10 @@ returns-3 c =
     let filled = entered .before .before .before in
     let sound = filled .before in
     let start = sound .before .before .before .before .before in
-    λ jobs jobs-counted opened.
+    λ processor jobs is-working jobs-counted opened.
     fits-refuse
     _ _ _ _ _ _ _ _
-    (start .pre .1 .0 .0) (start .pre .1 .0 .1) (start .pre .1 .1) _ (sound .before .before .interval-count .ensures) jobs (right sound)
+    (start .pre .1 .0 .0) (start .pre .1 .0 .1) (start .pre .1 .1) _ (sound .before .before .interval-count .ensures) processor is-working jobs (right sound)
     _ (filled .price-numbers .ensures) _ (entered .check-entries .ensures) (numbered .enum-told .given .1)
     jobs-counted opened _ (fits .check-fits .ensures) _ _ (c .before .fits2 .given .1)
 
@@ -127,7 +123,7 @@ check-cheapest-requires c κs =
     let start = numbered .before .before .before .before .before .before .before .before .before .before .before in
     let planned = start .pre .1 .1 in
     let points = start .pre .0 .0 in (
-      (start .pre .1 .0 .0 .few, planned .size),
+      (start .pre .1 .0 .0 .rising .few, planned .size),
       (λ i below. omega (arith, banded numbered .high i below, points .few), planned .step-interval),
     )
 
@@ -140,10 +136,10 @@ returns-4 c =
     let filled = entered .before .before .before in
     let sound = filled .before in
     let start = sound .before .before .before .before .before in
-    λ jobs jobs-counted opened.
+    λ processor jobs is-working jobs-counted opened.
     cheapest-decides
     _ _ _ _ _ _ _ _
-    (start .pre .1 .0 .0) (start .pre .1 .0 .1) (start .pre .1 .1) _ (sound .before .before .interval-count .ensures) jobs (right sound)
+    (start .pre .1 .0 .0) (start .pre .1 .0 .1) (start .pre .1 .1) _ (sound .before .before .interval-count .ensures) processor is-working jobs (right sound)
     _ (filled .price-numbers .ensures) _ (entered .check-entries .ensures) (numbered .enum-told .given .1)
     jobs-counted opened _ (fits .check-fits .ensures) (passed .enum-told2 .given .1) _ (c .check-cheapest .ensures)
 

@@ -13,7 +13,7 @@ use Rattle.model.specs.Jobs.{jobOf}
 use Rattle.model.specs.Windows.{isInside, cyclesInside}
 use Rattle.tables.specs.Tables.{jobsIn}
 use Rattle.tables.proofs.Read.{length-jobsIn, job-in, jobs-count, sound-in}
-use Rattle.windows.proofs.Loops.{sum-none, sum-more, sum-whole}
+use Rattle.model.proofs.Sum.{sum-none, sum-more, sum-whole}
 use Rattle.windows.proofs.window.cycles_inside.Statement.{statement}
 use Rattle.windows.proofs.window.cycles_inside.Tie as tie
 

@@ -1,0 +1,101 @@
+-- Moving cycles along a path, in plain arrays.
+use Prim.Native.Nat.{ℕ, suc, _+_, _-_, _*_, _^_, _<_, _≤_}
+use mathlib.Core.Path.{_≡_}
+use mathlib.Core.Bool.{cond}
+use mathlib.Core.List.{List}
+use lib.ListN.{length, getD, set}
+use lib.Dec.{eqb}
+use Rattle.model.specs.Limits.{maxJobs}
+use Rattle.model.specs.Sum.{onlyIf}
+use Rattle.model.specs.Plans.{Shares, sharesIn}
+use Rattle.workloads.specs.declared.Workload.{Workload}
+use Rattle.workloads.specs.Placement.{Problem, loadOf}
+use Rattle.workloads.specs.Arrays.{numbersIn, problemIn, SoundWorkload, Holding, lentWindows, KeptPast}
+use Rattle.searching.specs.Reaching.{SearchState, Reaching}
+use Rattle.paths.specs.Paths.{Passes}
+use Rattle.paths.specs.Placing.{Placing}
+
+-- One number of a table grown by an amount, and one less by it.
+abbrev pub putAt : List ℕ → (place amount : ℕ) → List ℕ
+putAt table place amount = set table place (getD table place 0 + amount)
+
+abbrev pub takenAt : List ℕ → (place amount : ℕ) → List ℕ
+takenAt table place amount = set table place (getD table place 0 - amount)
+
+-- The jobs with a share in an interval, where one share grows from `share`, and where one falls from `share` by an amount.
+abbrev pub putHolder : (holders : List ℕ) → (interval job share : ℕ) → List ℕ
+putHolder holders interval job share = cond (eqb share 0) (set holders interval (getD holders interval 0 + 2 ^ job)) holders
+
+abbrev pub takenHolder : (holders : List ℕ) → (interval job share amount : ℕ) → List ℕ
+takenHolder holders interval job share amount = cond (eqb share amount) (set holders interval (getD holders interval 0 - 2 ^ job)) holders
+
+-- `amount` cycles can go along the path from the target back to the job being placed.
+abbrev pub PathPasses : Workload → (table : List ℕ) → SearchState → (amount : ℕ) → Type 0
+PathPasses work table found amount =
+    Passes (problemIn work) (sharesIn (work .jobs) table) (found .count) (numbersIn (found .reached)) (numbersIn (found .source)) amount (found .target)
+
+-- The path from a reached target can be walked.
+pub record CanWalk (work : Workload) (table : List ℕ) (found : SearchState) : Type 0 where
+  pub jobs-most : work .jobs ≤ maxJobs
+  pub table-length : work .intervals * work .jobs ≤ length table
+  pub job : ℕ
+  pub reaching : Reaching (problemIn work) (sharesIn (work .jobs) table) job found
+  pub from : found .start ≤ found .target
+  pub to : found .target < found .end
+
+-- While a job is placed at a band, a reached target has room for `amount` cycles.
+pub record ToMove (p : Problem) (shares : Shares) (prices lefts : ℕ → ℕ) (job left band : ℕ) (found : SearchState) (amount : ℕ) : Type 0 where
+  pub placing : Placing p shares prices lefts job left band
+  pub reaching : Reaching p shares job found
+  pub from : found .start ≤ found .target
+  pub to : found .target < found .end
+  pub some : 0 < amount
+  pub room : loadOf p shares (found .target) + amount ≤ p .size (found .target) * p .frequency (suc band)
+
+-- The amount is placed: only the load of the target has changed.
+pub record Moved (p : Problem) (before after : Shares) (prices lefts : ℕ → ℕ) (job left band : ℕ) (target amount : ℕ) : Type 0 where
+  pub placing : (rest : ℕ) → left ≡ rest + amount → Placing p after prices lefts job rest band
+  pub loads : (i : ℕ) → i < p .intervals → loadOf p after i ≡ loadOf p before i + onlyIf (eqb i target) amount
+
+-- To a function that is not lent the prices: with some prices, a job is placed and the path passes the amount.
+pub record CanMove (work : Workload) (table holders : List ℕ) (found : SearchState) (amount : ℕ) : Type 0 where
+  pub sound : SoundWorkload work
+  pub table-length : work .intervals * work .jobs ≤ length table
+  pub holding : Holding (problemIn work) (sharesIn (work .jobs) table) holders
+  pub passes : PathPasses work table found amount
+  pub prices : ℕ → ℕ
+  pub lefts : ℕ → ℕ
+  pub job : ℕ
+  pub left : ℕ
+  pub band : ℕ
+  pub to-move : ToMove (problemIn work) (sharesIn (work .jobs) table) prices lefts job left band found amount
+
+-- With any such prices the amount is placed.
+abbrev pub Moves : Workload → (before after : List ℕ) → SearchState → (amount : ℕ) → Type 0
+Moves work before after found amount =
+    (prices lefts : ℕ → ℕ) (job left band : ℕ) → ToMove (problemIn work) (sharesIn (work .jobs) before) prices lefts job left band found amount
+    → Moved (problemIn work) (sharesIn (work .jobs) before) (sharesIn (work .jobs) after) prices lefts job left band (found .target) amount
+
+-- To functions that are lent the windows of a workload alone: the path can be walked, of some such workload, and `amount`
+-- cycles can go along it, of each.
+abbrev pub WindowsWalk : (jobs : ℕ) → (first last table : List ℕ) → SearchState → Type 0
+WindowsWalk jobs first last table found = (work : Workload) × CanWalk (lentWindows work jobs first last) table found
+
+abbrev pub WindowsPass : (jobs : ℕ) → (first last table : List ℕ) → SearchState → (amount : ℕ) → Type 0
+WindowsPass jobs first last table found amount =
+    (work : Workload) → CanWalk (lentWindows work jobs first last) table found → PathPasses (lentWindows work jobs first last) table found amount
+
+-- Likewise: `amount` cycles can be moved, of some such workload, and they are, of each.
+abbrev pub WindowsMove : (jobs : ℕ) → (first last table holders : List ℕ) → SearchState → (amount : ℕ) → Type 0
+WindowsMove jobs first last table holders found amount = (work : Workload) × CanMove (lentWindows work jobs first last) table holders found amount
+
+-- What a move leaves.
+pub record MovedTables (work : Workload) (before after holders : List ℕ) (found : SearchState) (amount : ℕ) : Type 0 where
+  pub kept : KeptPast (work .intervals * work .jobs) before after
+  pub holding : Holding (problemIn work) (sharesIn (work .jobs) after) holders
+  pub moves : Moves work before after found amount
+
+abbrev pub WindowsMoved : (jobs : ℕ) → (first last before holders-before after holders : List ℕ) → SearchState → (amount : ℕ) → Type 0
+WindowsMoved jobs first last before holders-before after holders found amount =
+    (work : Workload) → CanMove (lentWindows work jobs first last) before holders-before found amount
+    → MovedTables (lentWindows work jobs first last) before after holders found amount

@@ -1,0 +1,59 @@
+// One share of the table, which has the share of job j in interval i at i × jobs + j, and the sets of the jobs with a share in
+// each interval.
+ghost use mathlib.Core.Path.{_≡_};
+ghost use Prim.Native.Nat.{_+_, _*_, _^_, _<_, _≤_};
+ghost use lib.ListN.{length, getD};
+ghost use Rattle.model.specs.Limits.{maxJobs, maxIntervals};
+ghost use Rattle.paths.specs.Moves.{putAt, takenAt, putHolder, takenHolder};
+use model::MAX_INTERVALS;
+
+pub(crate) fn share_of(shares: &[u32], jobs: usize, interval: usize, job: usize) -> u64
+    requires { ⌜ interval * jobs + job < length (now shares) ⌝ }
+    ensures { λ r. ⌜ r ≡ getD (now (shares .entry)) (interval * jobs + job) 0 ⌝ }
+{
+    shares[interval * jobs + job] as u64
+}
+
+// Adds an amount to the share of a job, and the job to the interval's set where it had no share.
+pub fn put(
+    shares: &mut [u32],
+    holders: &mut [u64; MAX_INTERVALS],
+    jobs: usize,
+    job: usize,
+    interval: usize,
+    amount: u32,
+)
+    requires { ⌜ (interval * jobs + job < length (now shares)) × (getD (now shares) (interval * jobs + job) 0 + amount < 2 ^ 32) ⌝ }
+    requires { ⌜ (interval < maxIntervals) × (job < maxJobs) × (length (now holders) ≡ maxIntervals) ⌝ }
+    requires { ⌜ (getD (now shares) (interval * jobs + job) 0 ≡ 0 → getD (now holders) interval 0 + 2 ^ job < 2 ^ 64) ⌝ }
+    ensures { λ _. ⌜ (now (shares .exit) ≡ putAt (now (shares .entry)) (interval * jobs + job) amount)
+        × (now (holders .exit) ≡ putHolder (now (holders .entry)) interval job (getD (now (shares .entry)) (interval * jobs + job) 0)) ⌝ }
+{
+    let place = interval * jobs + job;
+    if shares[place] == 0 {
+        holders[interval] += 1u64 << job;
+    }
+    shares[place] += amount;
+}
+
+// Takes an amount from the share of a job, and the job out of the interval's set where no share is left.
+pub(crate) fn take(
+    shares: &mut [u32],
+    holders: &mut [u64; MAX_INTERVALS],
+    jobs: usize,
+    job: usize,
+    interval: usize,
+    amount: u32,
+)
+    requires { ⌜ (interval * jobs + job < length (now shares)) × (amount ≤ getD (now shares) (interval * jobs + job) 0) ⌝ }
+    requires { ⌜ (interval < maxIntervals) × (job < maxJobs) × (length (now holders) ≡ maxIntervals) ⌝ }
+    requires { ⌜ (getD (now shares) (interval * jobs + job) 0 ≡ amount → 2 ^ job ≤ getD (now holders) interval 0) ⌝ }
+    ensures { λ _. ⌜ (now (shares .exit) ≡ takenAt (now (shares .entry)) (interval * jobs + job) amount)
+        × (now (holders .exit) ≡ takenHolder (now (holders .entry)) interval job (getD (now (shares .entry)) (interval * jobs + job) 0) amount) ⌝ }
+{
+    let place = interval * jobs + job;
+    if shares[place] == amount {
+        holders[interval] -= 1u64 << job;
+    }
+    shares[place] -= amount;
+}

@@ -1,0 +1,5 @@
+-- Laws for the proofs of the functions.
+pub mod RaisedPrices
+pub mod PriceRanges
+pub mod RisingPrices
+pub mod RisePasses

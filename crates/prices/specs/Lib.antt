@@ -1,0 +1,2 @@
+-- Prices of intervals.
+pub mod RisingPrices

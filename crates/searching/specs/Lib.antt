@@ -1,0 +1,3 @@
+-- What a search reaches.
+pub mod Reached
+pub mod Reaching

@@ -1,0 +1,7 @@
+// The search for an interval with room.
+mod reached;
+mod room;
+
+pub use reached::Found;
+pub use reached::only;
+pub use room::search;

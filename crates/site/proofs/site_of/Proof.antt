@@ -1,0 +1,52 @@
+-- `site_of` meets its contract, by the laws of proofs/ReadSites.antt. Assumes nothing.
+use mathlib.Core.Path.{refl}
+use borrow.Author.Needs.{needs}
+use Rattle.model.proofs.Jobs.{jobs-valid}
+use Rattle.tables.proofs.Read.{jobs-count, jobs-decoded-refused, jobs-decoded, decoded-padded}
+use Rattle.site.proofs.ReadSites.{jobs-refused, both-read}
+use Rattle.site.proofs.site_of.Statement.{statement}
+use Rattle.site.proofs.site_of.Tie as tie
+
+decode-jobs-requires : tie.Need-decode-jobs-requires
+decode-jobs-requires c κs = search needs
+
+enum-known-reading : tie.Need-enum-known-reading
+enum-known-reading c = search needs
+
+refused-site-requires : tie.Need-refused-site-requires
+refused-site-requires c κs = search needs
+
+enum-known-reading-2 : tie.Need-enum-known-reading-2
+enum-known-reading-2 c = search needs
+
+bounds-of-requires : tie.Need-bounds-of-requires
+bounds-of-requires c κs =
+    let known = c .before .before .before .before in
+    let decoded = known .before .before .decode-jobs .ensures in
+    (jobs-count _ _ _ _ (jobs-valid _ _ (jobs-decoded _ _ _ _ _ decoded _ (known .reading2 .given .1))), search needs)
+
+returns : tie.Need-returns
+returns c = λ levelBytes levels read working top.
+    let known = c .before .before in
+    let decoded = known .before .before .decode-jobs .ensures in
+    jobs-refused levelBytes _ levels read _ _ (jobs-decoded-refused _ _ _ _ _ decoded _ _ (known .reading .given .1)) (c .refused-site .ensures)
+
+returns-2 : tie.Need-returns-2
+returns-2 c = λ levelBytes levels read working top.
+    let known = c .before .before .before .before .before in
+    let decoded = known .before .before .decode-jobs .ensures in
+    let counted = known .reading2 .given .1 in
+    both-read levelBytes _ levels read _ (jobs-decoded _ _ _ _ _ decoded _ counted) (decoded-padded _ _ _ _ _ decoded _ counted)
+    refl refl working top (c .bounds-of .ensures _)
+
+pub site-of-spec : {M : Type 1} → statement M
+site-of-spec =
+    tie.close
+    (tie.spec
+    decode-jobs-requires
+    enum-known-reading
+    refused-site-requires
+    enum-known-reading-2
+    bounds-of-requires
+    returns
+    returns-2)

@@ -1,0 +1,2 @@
+-- A site in plain arrays.
+pub mod SiteTables

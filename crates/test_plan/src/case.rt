@@ -1,0 +1,109 @@
+// A case: the tables of its line in bytes, and what planning answers and writes for them.
+ghost use Prim.Native.Nat.{_≤_};
+ghost use lib.ListN.{length};
+use crate::buffers::Lengths;
+use crate::buffers::MARK;
+use crate::buffers::PLAN_ROOM;
+use crate::buffers::PRICE_ROOM;
+use crate::buffers::SHARE_MARK;
+use crate::buffers::SHARE_ROOM;
+use crate::buffers::within_bytes;
+use crate::buffers::within_numbers;
+use crate::print;
+use crate::written;
+use planning::PlanAnswer;
+use test_support::encode::ROOM;
+use test_support::encode::encode;
+use test_support::show;
+use test_support::text::next;
+use test_support::text::number;
+
+pub(crate) fn case(line: &[u8]) {
+    let word = next(line, 0);
+    if word < line.len() {
+        show::words_to(line, 0);
+        tables_in(
+            &mut [0; ROOM],
+            &mut [0; ROOM],
+            line,
+            next(line, word),
+            line[word],
+        );
+        show::end();
+    }
+}
+
+// The tables in bytes, and the buffers. The lengths of the parts that are lent stand before the tables.
+fn tables_in(level_bytes: &mut [u8], job_bytes: &mut [u8], line: &[u8], place: usize, word: u8)
+    requires { ⌜ place ≤ length (now line) ⌝ }
+{
+    let second = next(line, place);
+    let third = next(line, second);
+    let levels = encode(level_bytes, 2, line, next(line, third));
+    let jobs = encode(job_bytes, 4, line, levels.end);
+    let level_length = levels.length;
+    let job_length = jobs.length;
+    let lent = Lengths {
+        plan: number(line, place) as usize,
+        prices: number(line, second) as usize,
+        shares: number(line, third) as usize,
+    };
+    site(
+        &level_bytes[..level_length],
+        &job_bytes[..job_length],
+        &mut [MARK; PLAN_ROOM],
+        &mut [MARK; PRICE_ROOM],
+        &mut [SHARE_MARK; SHARE_ROOM],
+        lent,
+        word,
+    );
+}
+
+// Lends a part of each buffer to planning, and prints what is then in the whole of them.
+fn site(
+    levels: &[u8],
+    jobs: &[u8],
+    plan: &mut [u8],
+    prices: &mut [u8],
+    shares: &mut [u32],
+    lent: Lengths,
+    word: u8,
+) {
+    let plan_length = within_bytes(lent.plan, plan);
+    let price_length = within_bytes(lent.prices, prices);
+    let share_length = within_numbers(lent.shares, shares);
+    let answer = planning::plan(
+        levels,
+        jobs,
+        &mut plan[..plan_length],
+        &mut prices[..price_length],
+        &mut shares[..share_length],
+    );
+    match answer {
+        PlanAnswer::Plan {
+            intervals,
+            steps,
+            energy,
+        } => {
+            print::plan(intervals, energy);
+            written::print(levels, jobs, plan, prices, shares, intervals, steps, word);
+        }
+        PlanAnswer::Overfull { start, end, spare } => {
+            print::overfull(start, end, spare);
+            print::rest(plan, prices, shares, nothing());
+        }
+        PlanAnswer::Refused { number, place } => {
+            show::refusal(number, place);
+            print::rest(plan, prices, shares, nothing());
+        }
+    }
+}
+
+// Without a plan nothing is written.
+fn nothing() -> Lengths {
+    Lengths {
+        plan: 0,
+        prices: 0,
+        shares: 0,
+    }
+}

@@ -1,0 +1,6 @@
+-- What is to be placed, and what placed shares and their prices are.
+pub mod Words
+pub mod Placement
+pub mod RangesFit
+pub mod SiteProblem
+pub mod Arrays
