@@ -2,13 +2,14 @@
 -- the ends of the band that the price names.
 -- Assumes nothing.
 use mathlib.Core.Path.{_≡_, sym, _∙_}
-use mathlib.Core.Bool.{true, false, cond, and-false}
+use mathlib.Core.Bool.{true, false, cond, _&&_, and-false}
 use mathlib.Core.Logic.{_⊎_, inl, inr}
 use mathlib.Core.List.{List}
 use Prim.Native.Nat.{ℕ, zero, suc, _-_, _*_, _<_, _≤_}
 use native.Mathlib.Nat.{mul-le-mul-left}
 use native.Mathlib.Omega.{arith}
 use lib.ListN.{getD}
+use lib.Dec.{leb}
 use borrow.Author.Tests.{ne-eqb, lt-leb, le-leb, le-ltb}
 use Rattle.model.specs.Points.{Point}
 use Rattle.model.specs.Bands.{bandCount, frequencyOf, Curve}
@@ -65,11 +66,8 @@ module _ {ws : List Point} (curve : Curve ws) (length load k : ℕ) (band : k < 
   load-between some low high =
       both-true (isBandNumber ws (suc k)) _ (between-fits curve length load some k (record { band = band; low = low; high = high })) .1
 
--- the same over working points in arrays
-module _ (working : PointTable) (curve : Curve (pointsOf working)) (length load number : ℕ) (low : 1 ≤ number) (high : number < working .count) where
-  abbrev priced : ℕ
-  priced = cond (fitsLoad (pointsOf working) length load number) 0 23
-
+-- the same over working points in arrays, as the code tests it
+module _ (working : PointTable) (curve : Curve (pointsOf working)) (length load number : ℕ) (some : 1 ≤ length) (low : 1 ≤ number) (high : number < working .count) where
   from-one : number ≡ suc (number - 1)
   from-one = omega arith
 
@@ -82,15 +80,37 @@ module _ (working : PointTable) (curve : Curve (pointsOf working)) (length load 
   upper : length * frequencyOf (pointsOf working) (suc (number - 1)) ≡ length * getD (working .frequencies) number 0
   upper = rw (← from-one, frequency-in working number high)
 
-  pub below-band : load < length * getD (working .frequencies) (number - 1) 0 → 23 ≡ priced
-  below-band less =
-      rw (from-one, load-outside curve length load (number - 1) band (λ between. omega (arith, between .low, lower)))
+  fits-in-band :
+      fitsLoad (pointsOf working) length load number
+      ≡ (leb (length * getD (working .frequencies) (number - 1) 0) load && leb load (length * getD (working .frequencies) number 0))
+  fits-in-band = go (lt-or-le load (length * getD (working .frequencies) (number - 1) 0)) (lt-or-le (length * getD (working .frequencies) number 0) load)
+    where
+      go : (load < length * getD (working .frequencies) (number - 1) 0) ⊎ (length * getD (working .frequencies) (number - 1) 0 ≤ load)
+          → (length * getD (working .frequencies) number 0 < load) ⊎ (load ≤ length * getD (working .frequencies) number 0)
+          → fitsLoad (pointsOf working) length load number
+          ≡ (leb (length * getD (working .frequencies) (number - 1) 0) load && leb load (length * getD (working .frequencies) number 0))
+      go (inl less) either =
+          rw (
+            lt-leb (length * getD (working .frequencies) (number - 1) 0) load less,
+            from-one,
+            load-outside curve length load (number - 1) band (λ between. omega (arith, between .low, lower)),
+          )
+      go (inr least) (inl more) =
+          rw (
+            lt-leb load (length * getD (working .frequencies) number 0) more,
+            and-false,
+            from-one,
+            load-outside curve length load (number - 1) band (λ between. omega (arith, between .high, upper)),
+          )
+      go (inr least) (inr most) =
+          rw (
+            le-leb (length * getD (working .frequencies) (number - 1) 0) load least,
+            le-leb load (length * getD (working .frequencies) number 0) most,
+            from-one,
+            load-between curve length load (number - 1) band some (omega (arith, lower)) (omega (arith, upper)),
+          )
 
-  pub above-band : length * getD (working .frequencies) number 0 < load → 23 ≡ priced
-  above-band more =
-      rw (from-one, load-outside curve length load (number - 1) band (λ between. omega (arith, between .high, upper)))
-
-  pub in-band : 1 ≤ length → length * getD (working .frequencies) (number - 1) 0 ≤ load
-      → load ≤ length * getD (working .frequencies) number 0 → 0 ≡ priced
-  in-band some above upto =
-      rw (from-one, load-between curve length load (number - 1) band some (omega (arith, lower)) (omega (arith, upper)))
+  pub band-fault : (fault : ℕ)
+      → fault ≡ cond (leb (length * getD (working .frequencies) (number - 1) 0) load && leb load (length * getD (working .frequencies) number 0)) 0 23
+      → fault ≡ cond (fitsLoad (pointsOf working) length load number) 0 23
+  band-fault fault found = rw fits-in-band found

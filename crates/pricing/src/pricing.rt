@@ -2,14 +2,13 @@
 ghost use mathlib.Core.Path.{_≡_};
 ghost use mathlib.Core.Bool.{cond, _&&_};
 ghost use mathlib.Core.List.{List};
-ghost use Prim.Native.Nat.{_+_, _-_, _*_, _<_, _≤_};
+ghost use Prim.Native.Nat.{_+_, _-_, _*_, _≤_};
 ghost use lib.ListN.{length, getD};
 ghost use lib.Dec.{leb, eqb};
 ghost use Rattle.model.specs.declared.Job.{Job};
-ghost use Rattle.model.specs.Limits.{maxJobs, maxDeadline, maxIntervals};
+ghost use Rattle.model.specs.Limits.{maxJobs, maxDeadline, maxFrequency, maxIntervals};
 ghost use Rattle.model.specs.Outcome.{byEntry};
 ghost use Rattle.model.specs.Bands.{Curve};
-ghost use Rattle.model.specs.Prices.{fitsLoad};
 ghost use Rattle.model.specs.Processors.{Processor, workingOf};
 ghost use Rattle.model.specs.Checking.{pricing};
 ghost use Rattle.tables.specs.Column.{columnOf};
@@ -150,7 +149,10 @@ fn check_fits(
 {
     let mut i = 0;
     while i + 1 < bounds {
-        let number = load_fault(working, times[i + 1] - times[i], loads[i], numbers[i]);
+        let k = numbers[i] as usize;
+        let low = working.frequencies[k - 1];
+        let high = working.frequencies[k];
+        let number = load_fault(times[i + 1] - times[i], loads[i], low, high);
         if number != 0 {
             return Verdict::Refused {
                 number,
@@ -162,17 +164,15 @@ fn check_fits(
     Verdict::Passed
 }
 
-// 23 where a load does not lie between the ends of the band that the price names; 0 for none.
-fn load_fault(working: PointTable, length: u64, load: u64, number: u64) -> u32
-    requires { ⌜ SmallPoints working × Curve (pointsOf working) ⌝ }
-    requires { ⌜ (1 ≤ length) × (length ≤ maxDeadline) × (1 ≤ number) × (number < working .count) ⌝ }
-    ensures { λ r. ⌜ r ≡ cond (fitsLoad (pointsOf working) length load number) 0 23 ⌝ }
+// 23 where a load does not lie between what the lower and the upper end of a band give in an interval; 0 for none.
+fn load_fault(length: u64, load: u64, low: u64, high: u64) -> u32
+    requires { ⌜ (length ≤ maxDeadline) × (low ≤ maxFrequency) × (high ≤ maxFrequency) ⌝ }
+    ensures { λ r. ⌜ r ≡ cond (leb (length * low) load && leb load (length * high)) 0 23 ⌝ }
 {
-    let k = number as usize;
-    if load < length * working.frequencies[k - 1] {
+    if load < length * low {
         return 23;
     }
-    if load > length * working.frequencies[k] {
+    if load > length * high {
         return 23;
     }
     0
