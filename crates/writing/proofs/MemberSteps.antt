@@ -12,7 +12,7 @@ use lib.ListN.{length}
 use Rattle.model.specs.Limits.{maxJobs}
 use Rattle.model.specs.Steps.{Step}
 use Rattle.model.proofs.Numbers.{lt-or-le, true≢false}
-use Rattle.model.proofs.Search.{FirstBelow, firstBelow-law, firstBelow-none}
+use Rattle.model.proofs.Search.{firstBelow-law, firstBelow-none}
 use Rattle.job_sets.specs.declared.JobSet.{JobSet}
 use Rattle.job_sets.specs.JobSets.{isMember, memberCount, leastMember, isEmpty, withoutJob}
 use Rattle.job_sets.proofs.JobSets.{count-without, empty-has, least-has, without-here, without-other}

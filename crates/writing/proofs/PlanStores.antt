@@ -20,7 +20,7 @@ use Rattle.writing.proofs.CellOrder.{cellOfStep}
 use Rattle.writing.proofs.EncodedPlan.{length-cells, length-cycles, length-plan}
 
 module _ (count first : ℕ) where
-  pub with-none : (plan : List ℕ) → plan ≡ withSteps count first [] plan
+  with-none : (plan : List ℕ) → plan ≡ withSteps count first [] plan
   unfolding withSteps encodeEach
   with-none plan = refl
 

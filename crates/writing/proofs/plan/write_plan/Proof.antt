@@ -1,5 +1,5 @@
--- `plan::write_plan` meets its contract. The members of the sets are as many as the steps (proofs/HeldShares.antt), and counts and steps
--- make the whole plan (proofs/PlanStores.antt). Assumes nothing.
+-- `plan::write_plan` meets its contract. The members of the sets are as many as the steps (proofs/HeldShares.antt), and
+-- counts and steps make the whole plan (proofs/PlanStores.antt). Assumes nothing.
 use mathlib.Core.Path.{_≡_, _∙_}
 use native.Mathlib.Omega.{arith}
 use lib.ListN.{length}

@@ -16,11 +16,11 @@ use Rattle.writing.proofs.plan.write_share.Statement.{statement}
 use Rattle.writing.proofs.plan.write_share.Tie as tie
 
 -- the one step of a share that is not 0
-one-step : (count next interval job share : ℕ) (plan with-cell after : List ℕ) → 0 < share
+one-step : (count next interval job share : ℕ) (plan with-cell after : List ℕ)
     → with-cell ≡ sets plan (4 + 2 * next) (bytes16 (cellOf interval job))
     → after ≡ sets with-cell (4 + 2 * count + 4 * next) (bytes32 share)
-    → after ≡ withSteps count next (stepOf interval job share) plan
-one-step count next interval job share plan with-cell after some-share first second =
+    → 0 < share → after ≡ withSteps count next (stepOf interval job share) plan
+one-step count next interval job share plan with-cell after first second some-share =
     rw (second, first, stepOf-some interval job share some-share) (with-one count next _ plan)
 
 mul-share : tie.Need-mul-share
@@ -76,8 +76,7 @@ same-length c = search needs
 
 returns : tie.Need-returns
 returns c =
-    let start = c .before .before .before .before .before .before .before .before .before .before .before in
-    one-step _ _ _ _ _ _ _ _ (start .pre .1 .0) (c .before .before .before .before .before .before .put16 .ensures) (c .before .before .put32 .ensures)
+    one-step _ _ _ _ _ _ _ _ (c .before .before .before .before .before .before .put16 .ensures) (c .before .before .put32 .ensures) (omega arith)
 
 pub write-share-spec : {M : Type 1} → statement M
 write-share-spec =
