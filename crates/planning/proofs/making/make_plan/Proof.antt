@@ -74,14 +74,6 @@ smallest : (c : tie.After-smallest-prices)
     (numbersIn (c .smallest-prices .last .1 .1 .1 .1 .1 .1 .1 .1 .1 .0))
 smallest c = let placed = placing c in c .smallest-prices .ensures .0 (workload placed .cycles) (can-price placed)
 
-from-one-requires : tie.Need-from-one-requires
-from-one-requires c κs =
-    let priced = c .before in
-    let made = made-of (making (placing priced)) in (
-      made .sound .intervals-most,
-      λ i below. omega (arith, made .sound .bands-most, smallest priced .priced .band i below),
-    )
-
 write-plan-requires : tie.Need-write-plan-requires
 write-plan-requires c κs =
     let priced = c .before .before .before .before in
@@ -132,13 +124,12 @@ returns : tie.Need-returns
 returns c = λ site can.
     let listed = c .before .before .before .before in
     let written = listed .before .before .before .before .before in
-    let counted = written .before .before .before in
-    let priced = counted .before .before in
+    let priced = written .before .before .before in
     let placed = placing priced in
     let valid = can .in-arrays .valid in
     let holds = can .in-arrays .holds in
     made-plan valid (making placed .workload-of .ensures site valid holds) _ _ _ (placed .place .ensures .0)
-    (priced .smallest-prices .last .1 .1 .1 .1 .1 .1 .1 .1 .1 .0) (smallest priced) _ (counted .from-one .ensures) holds _ _
+    (priced .smallest-prices .last .1 .1 .1 .1 .1 .1 .1 .1 .1 .0) (smallest priced) holds _ _
     _ _ _ _ _ (placed .place .ensures .1) (written .write-plan .ensures .0) (written .write-plan .ensures .1)
     (listed .write-prices .ensures) (c .energy-figure .ensures)
 
@@ -149,7 +140,6 @@ make-plan-spec =
     workload-of-requires
     place-requires
     smallest-prices-requires
-    from-one-requires
     write-plan-requires
     write-prices-requires
     energy-figure-requires
