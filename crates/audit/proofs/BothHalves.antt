@@ -1,7 +1,7 @@
 -- The check over a site that was read, one law for each way out of the code: what the verdicts of the two halves say of the
 -- whole, and that the figure is the plan's.
 -- Assumes nothing.
-use mathlib.Core.Path.{_≡_, refl, sym, _∙_, ap}
+use mathlib.Core.Path.{_≡_, sym, _∙_, ap}
 use mathlib.Core.Bool.{false, not}
 use mathlib.Core.List.{List}
 use Prim.Native.Nat.{ℕ, _-_, _<_}

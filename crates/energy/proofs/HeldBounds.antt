@@ -15,7 +15,8 @@ use Rattle.model.specs.Sum.{sum}
 use Rattle.model.specs.Intervals.{intervalCount, lengthOf}
 use Rattle.model.proofs.Numbers.{lt-or-le}
 use Rattle.model.proofs.Sum.{sum-mono, sum-mul-right, sum-telescopes, sum-next}
-use Rattle.energy.specs.Figures.{SmallBounds, cyclesIn, bandTotalOf, idleOf}
+use Rattle.intervals.specs.Times.{SmallBounds}
+use Rattle.energy.specs.Figures.{cyclesIn, bandTotalOf, idleOf}
 
 module _ (bounds : ℕ) (times : List ℕ) (small : SmallBounds bounds times) where
   -- The array is long enough for its bounds: past its end there are zeros, which do not rise.
@@ -26,13 +27,13 @@ module _ (bounds : ℕ) (times : List ℕ) (small : SmallBounds bounds times) wh
       go (inl short) (inl two) =
           let place : suc (bounds - 2) ≡ bounds - 1 = omega arith in
           let zero-there : getD times (bounds - 1) 0 ≡ 0 = List·getD-eq-default times 0 (omega arith) in
-          let rises : getD times (bounds - 2) 0 < getD times (bounds - 1) 0 = rw place at (small .rises (bounds - 2) (omega arith)) in
+          let rises : getD times (bounds - 2) 0 < getD times (bounds - 1) 0 = rw place at (small .rising .rises (bounds - 2) (omega arith)) in
           absurd (omega arith)
       go (inl short) (inr one) = rw length-take (omega arith)
       go (inr enough) number = rw length-take (omega arith)
 
   pub bound-rises : (i : ℕ) → i + 1 < bounds → getD times i 0 < getD times (i + 1) 0
-  bound-rises i below = rw (add-one i) (small .rises i (omega arith))
+  bound-rises i below = rw (add-one i) (small .rising .rises i (omega arith))
 
   held-length : (i : ℕ) → i + 1 < bounds → lengthOf (take bounds times) i ≡ getD times (i + 1) 0 - getD times i 0
   unfolding lengthOf
@@ -42,7 +43,7 @@ module _ (bounds : ℕ) (times : List ℕ) (small : SmallBounds bounds times) wh
   lengths-reach : (k : ℕ) → k ≤ bounds - 1 → getD times 0 0 + sum k (lengthOf (take bounds times)) ≡ getD times k 0
   lengths-reach k within =
       sum-telescopes k (λ i. getD times i 0) (lengthOf (take bounds times))
-      (λ i below. rw (held-length i (omega arith), add-one i) (omega (arith, small .rises i (omega arith))))
+      (λ i below. rw (held-length i (omega arith), add-one i) (omega (arith, small .rising .rises i (omega arith))))
 
   lengths-few : (k : ℕ) → k ≤ bounds - 1 → sum k (lengthOf (take bounds times)) ≤ maxDeadline
   unfolding sum

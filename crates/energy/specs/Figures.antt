@@ -8,12 +8,6 @@ use Rattle.model.specs.Points.{Point}
 use Rattle.model.specs.Bands.{bandCount, frequencyOf, powerAt, gap, rise}
 use Rattle.model.specs.Intervals.{intervalCount, lengthOf}
 
--- Bounds in an array: at most 128 of them, rising, none above the latest deadline allowed.
-pub record SmallBounds (bounds : ℕ) (times : List ℕ) : Type 0 where
-  pub few : bounds ≤ maxBounds
-  pub rises : (i : ℕ) → suc i < bounds → getD times i 0 < getD times (suc i) 0
-  pub last : (i : ℕ) → i < bounds → getD times i 0 ≤ maxDeadline
-
 -- The cycles that a band takes in an interval, by its lower frequency and its gap.
 abbrev pub cyclesIn : (bounds loads : List ℕ) → (lower gap : ℕ) → (interval : ℕ) → ℕ
 cyclesIn bounds loads lower gap i = min (lengthOf bounds i * gap) (getD loads i 0 - lengthOf bounds i * lower)

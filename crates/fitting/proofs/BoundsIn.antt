@@ -11,7 +11,7 @@ use Rattle.model.specs.declared.Job.{Job}
 use Rattle.model.specs.Limits.{maxDeadline, maxFrequency}
 use Rattle.model.specs.Intervals.{intervalCount, boundAt, lengthOf, isOpen}
 use Rattle.model.proofs.Entries.{length-listOf, getD-listOf}
-use Rattle.energy.specs.Figures.{SmallBounds}
+use Rattle.intervals.specs.Times.{SmallBounds}
 use Rattle.fitting.specs.TestedJobs.{openBetween}
 use Rattle.fitting.specs.FirstHalf.{boundsIn}
 
@@ -42,7 +42,7 @@ module _ (count : ℕ) (times : List ℕ) where
 
   module _ (small : SmallBounds count times) (i : ℕ) (below : i + 1 < count) where
     pub bounds-rise : getD times i 0 < getD times (i + 1) 0
-    bounds-rise = rw (add-one i) (small .rises i (rw (add-one i) at below))
+    bounds-rise = rw (add-one i) (small .rising .rises i (rw (add-one i) at below))
 
     pub length-small : getD times (i + 1) 0 - getD times i 0 ≤ maxDeadline
     length-small = omega (arith, small .last (i + 1) below)

@@ -15,16 +15,11 @@ use Rattle.model.specs.Limits.{maxJobs}
 use Rattle.model.specs.Search.{firstBelow}
 use Rattle.model.proofs.Numbers.{lt-or-le, rises-between}
 use Rattle.model.proofs.Search.{FirstBelow, firstBelow-law}
-use Rattle.energy.specs.Figures.{SmallBounds}
-use Rattle.intervals.specs.Times.{RisingTimes}
+use Rattle.intervals.specs.Times.{SmallBounds}
 use Rattle.job_sets.specs.IntervalSets.{setWords, Added}
 use Rattle.fitting.specs.SetsHave.{SetsHave, withJobIn}
 use Rattle.fitting.specs.TestedJobs.{EndsBy, inRange, opensIn}
 use Rattle.fitting.proofs.SetsHave.{have-cong, have-added}
-
--- bounds rise, as the search for one of them asks
-pub bounds-rising : {bounds : ℕ} {times : List ℕ} → SmallBounds bounds times → RisingTimes bounds times
-bounds-rising small = record { few = small .few; rises = small .rises }
 
 -- The number of bounds before a time: those below the number lie before it, the others do not.
 pub record BoundsBefore (bounds : ℕ) (times : List ℕ) (time number : ℕ) : Type 0 where
@@ -50,7 +45,7 @@ module _ (bounds : ℕ) (times : List ℕ) (time : ℕ) where
 
       from : (i : ℕ) → (number < i) ⊎ (i ≤ number) → number ≤ i → i < bounds → time ≤ getD times i 0
       from i (inl less) past inside =
-          omega (arith, here (omega arith), rises-between (λ k. getD times k 0) bounds (small .rises) number i less inside)
+          omega (arith, here (omega arith), rises-between (λ k. getD times k 0) bounds (small .rising .rises) number i less inside)
       from i (inr least) past inside = let same : i ≡ number = omega arith in rw same (here (omega arith))
 
   -- the bound at the number is the time, or no bound is
@@ -59,7 +54,7 @@ module _ (bounds : ℕ) (times : List ℕ) (time : ℕ) where
     ends-at below same = record {
       within = omega arith;
       before = λ i under. up-to i (lt-or-le (i + 1) number) under;
-      after = λ i past inside. omega (arith, rises-between (λ k. getD times k 0) bounds (small .rises) number (i + 1) (omega arith) (omega arith));
+      after = λ i past inside. omega (arith, rises-between (λ k. getD times k 0) bounds (small .rising .rises) number (i + 1) (omega arith) (omega arith));
     }
       where
         up-to : (i : ℕ) → (i + 1 < number) ⊎ (number ≤ i + 1) → i < number → getD times (i + 1) 0 ≤ time
@@ -78,7 +73,7 @@ module _ (bounds : ℕ) (times : List ℕ) (time : ℕ) where
 
         from : (i : ℕ) → (number < i + 1) ⊎ (i + 1 ≤ number) → number - 1 ≤ i → i < bounds - 1 → time < getD times (i + 1) 0
         from i (inl less) past inside =
-            omega (arith, split .after (i + 1) (omega arith) (omega arith), rises-between (λ k. getD times k 0) bounds (small .rises) number (i + 1) less (omega arith), split .after number (omega arith) (omega arith))
+            omega (arith, split .after (i + 1) (omega arith) (omega arith), rises-between (λ k. getD times k 0) bounds (small .rising .rises) number (i + 1) less (omega arith), split .after number (omega arith) (omega arith))
         from i (inr last) past inside =
             let at : i + 1 ≡ number = omega arith in
             omega (arith, split .after (i + 1) (omega arith) (omega arith), apart (i + 1) at (omega arith))

@@ -94,10 +94,6 @@ module _ (sets cycles : List ℕ) (count bounds : ℕ) where
       let numbers = pair-numbers step (not-false pair (cell .0)) in
       (numbers .0, numbers .1, cell .1)
 
-  pub sound-interval : (plan : List ℕ) (s : ℕ) → stepFaultIn sets cycles count bounds plan s ≡ 0 → stepAt plan s .interval < bounds - 1
-  unfolding stepFaultIn
-  sound-interval plan s none = sound-pair _ (stepAt plan s) none .0
-
   -- where the pairs of the steps before s are marked, the faults of step s are those of the plan's cells
   marked-fault : (plan : List ℕ) (s : ℕ) (seen : List ℕ) → SetsHave seen (isSeen plan s) → bounds ≤ maxBounds → count ≤ maxJobs
       → faultOfStep sets cycles count bounds seen (stepAt plan s) ≡ stepFaultIn sets cycles count bounds plan s

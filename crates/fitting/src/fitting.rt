@@ -9,7 +9,7 @@ ghost use Rattle.model.specs.Outcome.{byEntry};
 ghost use Rattle.model.specs.Processors.{Processor, topOf};
 ghost use Rattle.model.specs.Checking.{fitting};
 ghost use Rattle.tables.specs.Tables.{jobsIn};
-ghost use Rattle.energy.specs.Figures.{SmallBounds};
+ghost use Rattle.intervals.specs.Times.{SmallBounds};
 ghost use Rattle.fitting.specs.Verdicts.{verdictOf, passed};
 ghost use Rattle.fitting.specs.SetsHave.{NoJobs};
 ghost use Rattle.fitting.specs.TestedJobs.{TestedBelow, HoldsCycles};

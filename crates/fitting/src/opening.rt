@@ -3,15 +3,15 @@ ghost use mathlib.Core.Path.{_≡_};
 ghost use Prim.Native.Nat.{_<_, _≤_};
 ghost use lib.ListN.{length};
 ghost use Rattle.model.specs.Limits.{maxJobs, maxIntervals};
-ghost use Rattle.energy.specs.Figures.{SmallBounds};
+ghost use Rattle.intervals.specs.Times.{SmallBounds};
 ghost use Rattle.job_sets.specs.IntervalSets.{setWords};
 ghost use Rattle.fitting.specs.SetsHave.{SetsHave, withJobIn};
 ghost use Rattle.fitting.specs.TestedJobs.{EndsBy, inRange, opensIn};
+use intervals::bound_number;
+use intervals::interval_count;
 use job_sets::SET_WORDS;
 use job_sets::add;
 use model::MAX_BOUNDS;
-use intervals::bound_number;
-use intervals::interval_count;
 
 // Adds job j to the sets of the intervals that it is open in.
 pub(crate) fn add_open(

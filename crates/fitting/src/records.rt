@@ -5,7 +5,7 @@ ghost use Prim.Native.Nat.{_<_, _≤_};
 ghost use lib.ListN.{length, take};
 ghost use Rattle.model.specs.Limits.{maxJobs};
 ghost use Rattle.tables.specs.Tables.{jobsIn};
-ghost use Rattle.energy.specs.Figures.{SmallBounds};
+ghost use Rattle.intervals.specs.Times.{SmallBounds};
 ghost use Rattle.job_sets.specs.IntervalSets.{setWords};
 ghost use Rattle.fitting.specs.SetsHave.{NoJobs};
 ghost use Rattle.fitting.specs.TestedJobs.{TestedBelow, JobTested};

@@ -2,3 +2,4 @@
 pub mod Inserted
 pub mod Padded
 pub mod Halving
+pub mod SmallBounds

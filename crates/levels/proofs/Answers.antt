@@ -1,17 +1,17 @@
 -- The setting of one interval, one law for each way out: refused levels, refusals 25 and 26, and the setting over the working
 -- points that stand in a table.
 -- Assumes nothing.
-use mathlib.Core.Path.{_≡_, sym, _∙_, ap}
+use mathlib.Core.Path.{_≡_, _∙_}
 use mathlib.Core.List.{List}
 use Prim.Native.Nat.{ℕ, _-_, _*_, _<_, _≤_}
 use native.Mathlib.Nat.{mul-le-mul}
 use native.Mathlib.Omega.{arith}
-use lib.ListN.{length, getD}
+use lib.ListN.{getD}
 use borrow.Author.Tests.{lt-ltb, le-ltb, lt-leb, le-leb}
 use Rattle.model.specs.declared.Level.{Level}
 use Rattle.model.specs.Limits.{maxDeadline}
 use Rattle.model.specs.Outcome.{refused, answer}
-use Rattle.model.specs.Levels.{levelOf, readLevels, ValidLevels}
+use Rattle.model.specs.Levels.{readLevels, ValidLevels}
 use Rattle.model.specs.Points.{topFrequency}
 use Rattle.model.specs.Bands.{Curve}
 use Rattle.model.specs.Processors.{workingOf, processorOf}

@@ -25,11 +25,10 @@ use Rattle.levels.specs.PointTables.{pointsOf}
 use Rattle.levels.specs.Settings.{Fits}
 use Rattle.site.specs.declared.SiteTable.{SiteTable}
 use Rattle.site.specs.SiteTables.{HoldsSite}
-use Rattle.site.proofs.HeldSites.{held-points, held-small, held-curve, held-top-point, held-bounds}
-use Rattle.energy.specs.Figures.{SmallBounds}
+use Rattle.site.proofs.HeldSites.{held-points, held-small, held-curve, held-top-point, held-bounds, held-bounds-small}
+use Rattle.intervals.specs.Times.{SmallBounds}
 use Rattle.writing.proofs.Joined.{joined-cong}
 use Rattle.planning.proofs.RoomSizes.{jobs-counted}
-use Rattle.energy.proofs.Figures.{site-bounds-small}
 use Rattle.listing_text.specs.PlanText.{spanLines, planText, textOfPlan}
 use Rattle.listing_text.specs.ShownPlans.{boundsIn, pricesIn, ShownPlan, ListedPlan}
 
@@ -73,7 +72,7 @@ module _ {levelBytes jobBytes : List ℕ} {intervals steps energy : ℕ} {prices
 
   module _ {table : SiteTable} {releases deadlines cycles times : List ℕ} (holds : HoldsSite site table releases deadlines cycles times) where
     small : SmallBounds (length (site .bounds)) times
-    small = rw (holds .bounds-are .counted) at (site-bounds-small valid holds)
+    small = rw (holds .bounds-are .counted) at (held-bounds-small valid holds)
 
     time-same : (i : ℕ) → i < length (site .bounds) → boundsIn times i ≡ boundAt (site .bounds) i
     time-same i below =
@@ -102,7 +101,7 @@ module _ {levelBytes jobBytes : List ℕ} {intervals steps energy : ℕ} {prices
           few-intervals = omega (arith, planned .interval-count, valid .few-bounds);
           price-room = omega (arith, planned .price-size, length-take (2 + 5 * intervals) prices);
           share-room = omega (arith, planned .share-count, length-take (jobs * intervals) shares);
-          rises = λ i below. small .rises i (both i below);
+          rises = λ i below. small .rising .rises i (both i below);
           within = λ i below. small .last (suc i) (both i below);
           fits = load-set;
         })

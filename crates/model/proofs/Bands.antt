@@ -30,9 +30,6 @@ module _ (ws : List Point) (curve : Curve ws) where
   pub gap-positive : (k : ℕ) → k < bandCount ws → 0 < gap ws k
   gap-positive k inside = omega (arith, gap-step k inside, curve .frequency-rises k inside)
 
-  pub rise-positive : (k : ℕ) → k < bandCount ws → 0 < rise ws k
-  rise-positive k inside = omega (arith, rise-step k inside, curve .power-rises k inside)
-
   pub scale-positive : 0 < scale ws
   unfolding scale
   scale-positive = product-pos (bandCount ws) gap-positive

@@ -8,7 +8,7 @@ use native.Mathlib.Nat.{pow-suc}
 use native.Mathlib.Numerals.{add-one}
 use native.Mathlib.Omega.{arith}
 use lib.ListN.{length, getD, take, drop}
-use lib.Seq.{drop-cons, getD-drop, drop-append-seam}
+use lib.Seq.{drop-cons, getD-drop}
 use Rattle.model.specs.Bytes.{IsBytes, numberAt, bytesOf}
 
 pub length-bytesOf : (width n : ℕ) → length (bytesOf width n) ≡ width
@@ -29,10 +29,6 @@ numberAt-drop zero bytes p o = refl
 numberAt-drop (suc width) bytes p o =
     let next : p + o + 1 ≡ p + (o + 1) = omega arith in
     rw (getD-drop, next, numberAt-drop width bytes p (o + 1))
-
-pub numberAt-append : (width : ℕ) (before rest : List ℕ) (o : ℕ)
-    → numberAt width (before ++ rest) (length before + o) ≡ numberAt width rest o
-numberAt-append width before rest o = rw (numberAt-drop, drop-append-seam)
 
 pub numberAt-bytesOf : (width n : ℕ) (rest : List ℕ) → n < 256 ^ width → numberAt width (bytesOf width n ++ rest) 0 ≡ n
 unfolding numberAt bytesOf

@@ -13,7 +13,7 @@ use lib.Dec.{ltb}
 use borrow.Author.Tests.{le-ltb}
 use Rattle.model.specs.declared.Job.{Job}
 use Rattle.model.specs.Processors.{topOf}
-use Rattle.model.specs.Sites.{Site, ValidSite}
+use Rattle.model.specs.Sites.{Site}
 use Rattle.model.specs.Windows.{Window, spareOf, earliestOverfull}
 use Rattle.model.specs.Steps.{sharesOf}
 use Rattle.model.specs.Planning.{

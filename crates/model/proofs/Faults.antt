@@ -22,7 +22,7 @@ use Rattle.model.specs.Checking.{isOpenPair, wrongCell, wrongCycles, ste
 use Rattle.model.specs.Checking.{wrongPriceLength, entryFault, priceFault, cheaperFault}
 use Rattle.model.proofs.Numbers.{true-or-false, both-true}
 use Rattle.model.proofs.Search.{someBelow-none, someBelow-fails}
-use Rattle.model.proofs.Tests.{neither, in-range, no-fault, never-false, FaultUnless, fault-unless, fault-when}
+use Rattle.model.proofs.Tests.{neither, in-range, no-fault, FaultUnless, fault-unless, fault-when}
 
 -- 15: a plan is as long as its step count says.
 pub plan-length : (plan : List ℕ) → (wrongPlanLength plan ≡ false) ↔ (length plan ≡ 4 + 6 * stepCount plan)
@@ -79,15 +79,6 @@ module _ (site : Site) (plan : List ℕ) where
     λ e. let (cell, cycles) = no-fault _ _ 16 17 e in (cell-sound s .0 cell, cycles-sound s .0 cycles),
     λ h. rw (cell-sound s .1 (h .0), cycles-sound s .1 (h .1)),
   )
-
-  -- otherwise the cell's refusal comes first
-  pub wrong-cell : (s : ℕ) → (SoundCell (site .jobs) (site .bounds) plan s → ⊥) → stepFault site plan s ≡ 17
-  unfolding stepFault
-  wrong-cell s unsound = rw (never-false _ (λ e. unsound (cell-sound s .0 e)))
-
-  pub wrong-cycles : (s : ℕ) → SoundCell (site .jobs) (site .bounds) plan s → (SoundCycles (site .jobs) plan s → ⊥) → stepFault site plan s ≡ 18
-  unfolding stepFault
-  wrong-cycles s cell unsound = rw (cell-sound s .1 cell) (fault-when _ 17 (cycles-sound s) .wrong unsound)
 
   -- 19: a job's steps add to its cycles
   pub job-sum-fault : (j : ℕ) → FaultUnless (jobSum plan j ≡ jobOf (site .jobs) j .cycles) (jobSumFault site plan j) 19

@@ -6,7 +6,7 @@ use mathlib.Core.Bool.{Bool, true, _&&_, or-true}
 use mathlib.Core.Logic.{_⊎_, inl, inr}
 use mathlib.Core.List.{List}
 use Prim.Native.Nat.{ℕ, zero, suc, _-_, _*_, _<_, _≤_}
-use native.Mathlib.Nat.{eq-or-lt-of-le, mul-sub, mul-le-mul-left, mul-lt-mul-of-pos-left}
+use native.Mathlib.Nat.{eq-or-lt-of-le, mul-le-mul-left, mul-lt-mul-of-pos-left}
 use native.Mathlib.Omega.{arith}
 use lib.Dec.{ltb, leb, eqb}
 use borrow.Author.Tests.{lt-ltb, leb-true, le-leb, lt-leb, leb-false, eqb-true, eq-eqb}
@@ -68,16 +68,6 @@ module _ {ws : List Point} (curve : Curve ws) where
   unfolding settingOf
   settingOf-is length zero k inside = absurd (omega (arith, inside .above))
   settingOf-is length (suc cycles) k inside = rw (bandOf-is length (suc cycles) k inside)
-
-  -- the clock stays on the level of the band for no longer than the interval
-  pub extra-fits : (length load : ℕ) → load ≤ length * frequencyOf ws (bandCount ws)
-      → settingOf ws length load .extra ≤ length * settingOf ws length load .gap
-  unfolding settingOf gap
-  extra-fits length zero fits = omega arith
-  extra-fits length (suc cycles) fits =
-      let inside = bandOf-law length (suc cycles) (omega arith) fits in
-      let k : ℕ = bandOf ws length (suc cycles) in
-      omega (arith, inside .upto, mul-sub length (frequencyOf ws (suc k)) (frequencyOf ws k))
 
   fits-ends : (length load : ℕ) → load ≤ length * frequencyOf ws (bandCount ws) → (k : ℕ) → k < bandCount ws
       → fitsLoad ws length load (suc k) ≡ true → (length * frequencyOf ws k ≤ load) × (load ≤ length * frequencyOf ws (suc k))

@@ -16,7 +16,7 @@ use Rattle.model.specs.Processors.{topOf}
 use Rattle.model.specs.Intervals.{intervalCount}
 use Rattle.model.specs.Sites.{Site}
 use Rattle.model.specs.Plans.{Gives}
-use Rattle.model.specs.Steps.{planIntervals, stepCount, stepAt, wrongPlanLength, jobSum, sharesOf}
+use Rattle.model.specs.Steps.{planIntervals, stepCount, wrongPlanLength, jobSum, sharesOf}
 use Rattle.model.specs.Checking.{stepFault, jobSumFault, loadFault, fitting}
 use Rattle.model.specs.Accepted.{IsPlan}
 use Rattle.model.proofs.Numbers.{true≢false}

@@ -3,21 +3,20 @@
 -- and each tick lies in exactly one interval, in a job's window exactly when the job is open there.
 -- Assumes nothing.
 use mathlib.Core.Path.{_≡_}
-use mathlib.Core.Bool.{true, false}
+use mathlib.Core.Bool.{true}
 use mathlib.Core.Logic.{_⊎_, inl, inr, _↔_}
 use mathlib.Core.List.{List}
-use Prim.Native.Nat.{ℕ, zero, suc, _+_, _-_, _<_, _≤_}
-use native.Mathlib.Nat.{eq-or-lt-of-le, le-of-suc-le-suc, zero-add}
+use Prim.Native.Nat.{ℕ, zero, suc, _+_, _<_, _≤_}
+use native.Mathlib.Nat.{eq-or-lt-of-le, le-of-suc-le-suc}
 use native.Mathlib.Omega.{arith}
 use lib.ListN.{length}
 use lib.Dec.{leb}
 use borrow.Author.Tests.{leb-true, le-leb}
 use Rattle.model.specs.declared.Job.{Job}
-use Rattle.model.specs.Sum.{sum, onlyIf}
+use Rattle.model.specs.Sum.{sum}
 use Rattle.model.specs.Jobs.{jobOf}
-use Rattle.model.specs.Intervals.{intervalCount, boundAt, lengthOf, isOpen, earliestRelease, latestDeadline, Bounds, OpenRange}
-use Rattle.model.proofs.Numbers.{lt-or-le, true-or-false, both-true, rises-between}
-use Rattle.model.proofs.Sum.{sum-cong, sum-zero, sum-split}
+use Rattle.model.specs.Intervals.{intervalCount, boundAt, lengthOf, isOpen, Bounds, OpenRange}
+use Rattle.model.proofs.Numbers.{lt-or-le, both-true, rises-between}
 
 -- A job is open in an interval that does not start before its release nor end after its deadline.
 pub isOpen-iff : (bounds : List ℕ) (job : Job) (i : ℕ)
@@ -37,35 +36,6 @@ stretch-of (suc n) f t low high = go (lt-or-le t (f n)) (stretch-of n f t low)
         → (i : ℕ) × (i < suc n) × (f i ≤ t) × (t < f (suc i))
     go (inl before) step = let found = step before in (found .0, omega (arith, found .1), found .2, found .3)
     go (inr last) step = (n, omega arith, last, high)
-
--- a tick between the first bound and the last lies in some interval
-pub interval-of : (bounds : List ℕ) (t : ℕ) → boundAt bounds 0 ≤ t → t < boundAt bounds (intervalCount bounds)
-    → (i : ℕ) × (i < intervalCount bounds) × (boundAt bounds i ≤ t) × (t < boundAt bounds (suc i))
-interval-of bounds t low high = stretch-of (intervalCount bounds) (boundAt bounds) t low high
-
-module _ {jobs : List Job} {bounds : List ℕ} {j lo hi : ℕ} (range : OpenRange jobs bounds j lo hi) where
-  -- a job is shut in the other intervals
-  pub shut-outside : (i : ℕ) → i < intervalCount bounds → (i < lo) ⊎ (hi ≤ i) → isOpen bounds (jobOf jobs j) i ≡ false
-  shut-outside i below outside = go (true-or-false (isOpen bounds (jobOf jobs j) i))
-    where
-      never : (i < lo) ⊎ (hi ≤ i) → (lo ≤ i) × (i < hi) → ⊥
-      never (inl early) h = omega arith
-      never (inr late) h = omega arith
-
-      go : (isOpen bounds (jobOf jobs j) i ≡ true) ⊎ (isOpen bounds (jobOf jobs j) i ≡ false) → isOpen bounds (jobOf jobs j) i ≡ false
-      go (inl e) = absurd (never outside (range .exactly i below .0 e))
-      go (inr e) = e
-
-  -- a sum over the intervals in which a job is open
-  pub open-sum : (f : ℕ → ℕ) → sum (intervalCount bounds) (λ i. onlyIf (isOpen bounds (jobOf jobs j) i) (f i)) ≡ sum (hi - lo) (λ d. f (lo + d))
-  open-sum f =
-      let N : ℕ = intervalCount bounds in
-      let g : ℕ → ℕ = λ i. onlyIf (isOpen bounds (jobOf jobs j) i) (f i) in
-      let e : N ≡ lo + ((hi - lo) + (N - hi)) = omega arith in
-      let early : sum lo g ≡ 0 = sum-zero lo (λ i h. rw (shut-outside i (omega arith) (inl h))) in
-      let late : sum (N - hi) (λ d. g (lo + ((hi - lo) + d))) ≡ 0 = sum-zero (N - hi) (λ d h. rw (shut-outside (lo + ((hi - lo) + d)) (omega arith) (inr (omega arith)))) in
-      let inside : sum (hi - lo) (λ d. g (lo + d)) ≡ sum (hi - lo) (λ d. f (lo + d)) = sum-cong (hi - lo) (λ d h. rw (range .exactly (lo + d) (omega arith) .1 (omega arith))) in
-      rw e (omega (arith, sum-split lo ((hi - lo) + (N - hi)) g, sum-split (hi - lo) (N - hi) (λ d. g (lo + d))))
 
 module _ {jobs : List Job} {bounds : List ℕ} (B : Bounds jobs bounds) where
   pub bounds-rise : (i k : ℕ) → i < k → k < length bounds → boundAt bounds i < boundAt bounds k
@@ -93,11 +63,6 @@ module _ {jobs : List Job} {bounds : List ℕ} (B : Bounds jobs bounds) where
       go (inl h) = absurd (omega (arith, bounds-rise k i h below))
       go (inr h) = h
 
-  -- equal bounds have equal numbers
-  pub number-same : (i k : ℕ) → i < length bounds → k < length bounds → boundAt bounds i ≡ boundAt bounds k → i ≡ k
-  number-same i k below-i below-k same =
-      omega (arith, number-mono i k below-i (omega arith), number-mono k i below-k (omega arith))
-
   pub length-reaches : (i : ℕ) → i < intervalCount bounds → boundAt bounds i + lengthOf bounds i ≡ boundAt bounds (suc i)
   unfolding lengthOf
   length-reaches i below = omega (arith, B .rises i (omega arith))
@@ -112,10 +77,6 @@ module _ {jobs : List Job} {bounds : List ℕ} (B : Bounds jobs bounds) where
   lengths-add i (suc k) within =
       let e : i + suc k ≡ suc (i + k) = omega arith in
       rw e (omega (arith, lengths-add i k (omega arith), length-reaches (i + k) (omega arith)))
-
-  -- the lengths of all intervals
-  pub all-lengths : earliestRelease jobs + sum (intervalCount bounds) (lengthOf bounds) ≡ latestDeadline jobs
-  all-lengths = rw (← B .first, ← B .last) (simp zero-add at (lengths-add 0 (intervalCount bounds) (omega arith)))
 
   -- each job, its release before its deadline, is open in one stretch of at least one interval
   pub open-range : (j : ℕ) → j < length jobs → jobOf jobs j .release < jobOf jobs j .deadline → (lo : ℕ) × (hi : ℕ) × OpenRange jobs bounds j lo hi
@@ -143,23 +104,6 @@ module _ {jobs : List Job} {bounds : List ℕ} (B : Bounds jobs bounds) where
           );
         },
       )
-
-  -- the lengths of a job's open intervals add up to its window's
-  pub open-lengths : (j : ℕ) → j < length jobs → jobOf jobs j .release < jobOf jobs j .deadline
-      → jobOf jobs j .release + sum (intervalCount bounds) (λ i. onlyIf (isOpen bounds (jobOf jobs j) i) (lengthOf bounds i)) ≡ jobOf jobs j .deadline
-  open-lengths j below wide = go (open-range j below wide)
-    where
-      go : (lo : ℕ) × (hi : ℕ) × OpenRange jobs bounds j lo hi
-          → jobOf jobs j .release + sum (intervalCount bounds) (λ i. onlyIf (isOpen bounds (jobOf jobs j) i) (lengthOf bounds i)) ≡ jobOf jobs j .deadline
-      go (lo, hi, range) =
-          let e : lo + (hi - lo) ≡ hi = omega arith in
-          rw (open-sum range (lengthOf bounds), ← range .starts, ← range .ends) (rw e at (lengths-add lo (hi - lo) (omega arith)))
-
-  -- a tick lies in one interval at most
-  pub interval-same : (i k t : ℕ) → i < intervalCount bounds → k < intervalCount bounds
-      → boundAt bounds i ≤ t → t < boundAt bounds (suc i) → boundAt bounds k ≤ t → t < boundAt bounds (suc k) → i ≡ k
-  interval-same i k t below-i below-k low-i high-i low-k high-k =
-      omega (arith, number-rises i (suc k) (omega arith) (omega arith), number-rises k (suc i) (omega arith) (omega arith))
 
   -- a tick of an interval lies in a job's window exactly when the job is open there
   pub tick-open : (i j t : ℕ) → i < intervalCount bounds → j < length jobs → boundAt bounds i ≤ t → t < boundAt bounds (suc i)

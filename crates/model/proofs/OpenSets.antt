@@ -9,7 +9,7 @@ use Prim.Native.Nat.{ℕ, zero, suc, _+_, _-_, _*_, _/_, _%_, _^_, _<_, _≤_}
 use native.Mathlib.Nat.{eq-or-lt-of-le, le-of-suc-le-suc, mul-one, pow-suc, mod-eq-of-lt, mul-add-div-right, mul-add-mod-self-right}
 use native.Mathlib.Omega.{arith}
 use lib.ListN.{length}
-use lib.Pow.{pow-pos, pow-lt, pow-mono, pow-add, high}
+use lib.Pow.{pow-pos, pow-lt, pow-add, high}
 use lib.Count.{ones, ones-cat}
 use Rattle.model.specs.declared.Job.{Job}
 use Rattle.model.specs.Sum.{sum, onlyIf}
@@ -20,10 +20,6 @@ use Rattle.model.proofs.Sum.{sum-mono, sum-const}
 -- a 1 shifted in a machine word by fewer than 64 places
 pub bit-shifted : (j : ℕ) → j < 64 → 1 * 2 ^ j % 2 ^ 64 ≡ 2 ^ j
 bit-shifted j below = omega (arith, pow-lt below)
-
--- a set of jobs below j has room for job j
-pub bit-room : (j set bit : ℕ) → j < 64 → set < 2 ^ j → bit ≤ 2 ^ j → set + bit < 2 ^ 64
-bit-room j set bit below small high = omega (arith, pow-mono {i = j} {j = 63} (omega arith))
 
 sum-at-most : (n most : ℕ) {f : ℕ → ℕ} → ((i : ℕ) → i < n → f i ≤ most) → sum n f ≤ n * most
 sum-at-most n most small = rw (← sum-const n most) (sum-mono n small)

@@ -178,20 +178,6 @@ leastBelow-found n value test least e = rw e at (least-answer n value test)
 pub leastBelow-fails : (n : ℕ) (value : ℕ → ℕ) (test : ℕ → Bool) → leastBelow n value test ≡ none → (i : ℕ) → i < n → test i ≡ false
 leastBelow-fails n value test e = rw e at (least-answer n value test)
 
-pub leastBelow-is : (n : ℕ) (value : ℕ → ℕ) (test : ℕ → Bool) (least : ℕ) → LeastBelow n value test least
-    → leastBelow n value test ≡ some least
-leastBelow-is n value test least law = go (leastBelow n value test) (least-answer n value test)
-  where
-    go : (found : Option ℕ) → LeastAnswer n value test found → found ≡ some least
-    go none fails =
-        let (i, below, passes, is) = law .found in
-        absurd (true≢false (sym passes ∙ fails i below))
-    go (some other) same =
-        let (i, below, passes, is) = law .found in
-        let (k, inside, holds, at) = same .found in
-        let e : other ≡ least = omega (arith, same .lowest i below passes, law .lowest k inside holds) in
-        rw e
-
 -- with one that passes the test there is a least
 pub leastBelow-exists : (n : ℕ) (value : ℕ → ℕ) (test : ℕ → Bool) (i : ℕ) → i < n → test i ≡ true
     → (least : ℕ) × (leastBelow n value test ≡ some least)
@@ -214,11 +200,6 @@ least-index n value test i below passes =
 pub someBelow-next : (n : ℕ) (test : ℕ → Bool) → someBelow (n + 1) test ≡ (someBelow n test || test n)
 unfolding someBelow
 someBelow-next n test = rw (add-one n)
-
-pub leastBelow-next : (n : ℕ) (value : ℕ → ℕ) (test : ℕ → Bool)
-    → leastBelow (n + 1) value test ≡ smaller (test n) (value n) (leastBelow n value test)
-unfolding leastBelow
-leastBelow-next n value test = rw (add-one n)
 
 -- what has the least value among 0, 1, .. , last, and is the first to have it
 pub record FirstLowest (last : ℕ) (value : ℕ → ℕ) (i : ℕ) : Type 0 where

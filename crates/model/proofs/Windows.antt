@@ -12,7 +12,7 @@ use native.Mathlib.Omega.{arith}
 use lib.ListN.{length}
 use lib.IntN.{ℤ, pos, negsuc, _-ℤ_}
 use lib.Dec.{ltb, leb}
-use borrow.Author.Tests.{ltb-true, ltb-false, lt-ltb, le-ltb, leb-true, le-leb}
+use borrow.Author.Tests.{ltb-true, ltb-false, lt-ltb, leb-true, le-leb}
 use Rattle.model.specs.declared.Job.{Job}
 use Rattle.model.specs.Sum.{onlyIf}
 use Rattle.model.specs.Jobs.{jobOf}
@@ -81,10 +81,6 @@ module _ (top : ℕ) (jobs : List Job) where
     unfolding isOverfull
     overfull-iff = (ltb-true _ _, lt-ltb _ _)
 
-    pub not-overfull-iff : (isOverfull top jobs start end ≡ false) ↔ (cyclesInside jobs start end ≤ (end - start) * top)
-    unfolding isOverfull
-    not-overfull-iff = (ltb-false _ _, le-ltb _ _)
-
     pub spare-iff : (z : ℤ) → (spareOf top jobs start end ≡ z) ↔ Difference ((end - start) * top) (cyclesInside jobs start end) z
     unfolding spareOf
     spare-iff z =
@@ -101,14 +97,6 @@ module _ (top : ℕ) (jobs : List Job) where
           let n : ℕ = cyclesInside jobs start end - suc ((end - start) * top) in
           (n, spare-iff (negsuc n) .1 (omega (arith, overfull-iff .0 e))),
       λ r. overfull-iff .1 (omega (arith, spare-iff (negsuc (r .0)) .0 (r .1))),
-    )
-
-    pub spare-not-negative : (isOverfull top jobs start end ≡ false) ↔ ((n : ℕ) × (spareOf top jobs start end ≡ pos n))
-    spare-not-negative = (
-      λ e.
-          let n : ℕ = (end - start) * top - cyclesInside jobs start end in
-          (n, spare-iff (pos n) .1 (omega (arith, not-overfull-iff .0 e))),
-      λ r. not-overfull-iff .1 (omega (arith, spare-iff (pos (r .0)) .0 (r .1))),
     )
 
     -- an overfull window has a job inside

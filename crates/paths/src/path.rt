@@ -1,7 +1,7 @@
 // The path from an interval with room back to the job being placed: in each interval the first reached job that is open
 // there moves in, from its source, and the path goes on there.
 ghost use mathlib.Core.Path.{_≡_};
-ghost use Prim.Native.Nat.{ℕ, _+_, _<_, _≤_};
+ghost use Prim.Native.Nat.{ℕ, _<_, _≤_};
 ghost use Rattle.model.specs.Limits.{maxJobs};
 ghost use Rattle.workloads.specs.Placement.{Problem};
 ghost use Rattle.workloads.specs.Arrays.{numbersIn};

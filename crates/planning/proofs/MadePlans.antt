@@ -1,6 +1,6 @@
 -- What is made of a site's workload is a plan as planning promises it, and there is room to write it.
 -- Assumes nothing.
-use mathlib.Core.Path.{_≡_, refl}
+use mathlib.Core.Path.{_≡_}
 use mathlib.Core.List.{List, _++_}
 use Prim.Native.Nat.{ℕ, suc, _+_, _*_, _^_, _<_, _≤_}
 use native.Mathlib.Nat.{mul-le-mul-left}
@@ -20,7 +20,7 @@ use Rattle.tables.proofs.Column.{column-at}
 use Rattle.levels.specs.PointTables.{pointsOf}
 use Rattle.site.specs.declared.SiteTable.{SiteTable}
 use Rattle.site.specs.SiteTables.{HoldsSite}
-use Rattle.site.proofs.HeldSites.{held-points, held-bounds}
+use Rattle.site.proofs.HeldSites.{held-points, held-bounds, held-bounds-small}
 use Rattle.energy.specs.Figures.{figureOfLoads}
 use Rattle.writing.specs.StepList.{stepsOf}
 use Rattle.writing.specs.PriceListBytes.{encodePrices}
@@ -33,7 +33,6 @@ use Rattle.workloads.specs.Placement.{SmallestPriced}
 use Rattle.planner.specs.PlacedTables.{PlacedTables}
 use Rattle.planning.specs.Workloads.{SiteWorkload}
 use Rattle.planning.specs.MadePlans.{MadePlan}
-use Rattle.energy.proofs.Figures.{site-bounds-small}
 use Rattle.planning.proofs.Placeable.{jobs-counted, intervals-counted, workload-gives, smallest-prices-fit, smallest-prices-least}
 use Rattle.planning.proofs.RoomSizes.{pairs-few}
 use Rattle.planning.proofs.WrittenSite.{plan-planned}
@@ -44,7 +43,7 @@ module _ {site : Site} {table : SiteTable} {releases deadlines cycles times : Li
       → (getD times (suc i) 0 ≡ boundAt (site .bounds) (suc i)) × (getD times (suc i) 0 < 2 ^ 32)
   ends-held i below = (
     rw (holds .bounds-are .array) (column-at maxBounds _ (length (site .bounds)) (suc i) (omega (arith, valid .few-bounds)) (omega arith)),
-    omega (arith, site-bounds-small valid holds .last (suc i) (omega (arith, holds .bounds-are .counted))),
+    omega (arith, held-bounds-small valid holds .last (suc i) (omega (arith, holds .bounds-are .counted))),
   )
 
 -- there is room for the shares and the prices

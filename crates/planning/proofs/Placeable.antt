@@ -22,7 +22,7 @@ use Rattle.workloads.specs.Placement.{Problem, Placed, SmallestPriced}
 use Rattle.workloads.specs.RangesFit.{RangesFit}
 use Rattle.workloads.specs.SiteProblem.{problemOf}
 use Rattle.workloads.specs.Arrays.{numbersIn, problemIn}
-use Rattle.workloads.proofs.SiteProblem.{priced-fit, placed-gives}
+use Rattle.workloads.proofs.SiteProblem.{placed-gives}
 use Rattle.workloads.proofs.SitePrices.{ranges-fit, smallest-fit, smallest-least}
 use Rattle.prices.specs.RisingPrices.{CanPrice}
 use Rattle.planner.specs.PlacedTables.{PlacedTables}
@@ -69,10 +69,6 @@ module _ {site : Site} {work : Workload} (valid : ValidSite site) (made : SiteWo
     pub workload-can-price : CanPrice work table loads
     workload-can-price =
         record { sound = made .sound; stored = tables .stored; fitting = numbersIn prices; priced = tables .placed .priced }
-
-    -- the prices fit, counted from 1
-    pub workload-prices : FittingPrices ws jobs (site .bounds) (sharesIn (work .jobs) table) (λ i. suc (numbersIn prices i))
-    workload-prices = priced-fit curve (valid .bounds) (made .ranges) (site-placed .priced)
 
   module _ {shares : Shares} {prices : ℕ → ℕ} (smallest : SmallestPriced (problemIn work) shares prices) where
     site-smallest : SmallestPriced (problemOf ws jobs (site .bounds) (numbersIn (work .first)) (numbersIn (work .last))) shares prices

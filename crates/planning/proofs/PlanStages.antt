@@ -25,7 +25,7 @@ use Rattle.windows.specs.declared.overfull.Overfull.the-variants.{Window as Win
 use Rattle.windows.specs.Answers.{overfullAnswer}
 use Rattle.planning.specs.declared.operation.PlanAnswer.{PlanAnswer}
 use Rattle.planning.specs.declared.operation.PlanAnswer.the-variants.{Plan, Overfull, Refused}
-use Rattle.planning.specs.MadePlans.{Buffers, Written, MadePlan}
+use Rattle.planning.specs.MadePlans.{Buffers, MadePlan}
 use Rattle.planning.specs.PlanAnswers.{outcomeOf, SitePlanned, PlanContract}
 
 -- a refusal is no plan, nor is a window

@@ -14,7 +14,7 @@ use Rattle.tables.specs.Tables.{jobsIn}
 use Rattle.tables.proofs.Read.{length-jobsIn}
 use Rattle.site.specs.declared.SiteTable.{SiteTable}
 use Rattle.site.specs.SiteTables.{HoldsSite}
-use Rattle.site.proofs.HeldSites.{held-few, held-bounds}
+use Rattle.site.proofs.HeldSites.{held-bounds}
 use Rattle.planning.specs.WantedRooms.{WantedRooms}
 
 -- a valid site has few pairs and few intervals

@@ -30,7 +30,7 @@ use Rattle.intervals.specs.Times.{RisingTimes}
 use Rattle.intervals.proofs.Padded.{holds-rising}
 use Rattle.site.specs.declared.SiteTable.{SiteTable}
 use Rattle.site.specs.SiteTables.{HoldsSite}
-use Rattle.site.proofs.HeldSites.{held-count, held-points, held-small, held-curve, held-few}
+use Rattle.site.proofs.HeldSites.{held-count, held-points, held-small, held-curve, held-few, held-bounds-small}
 use Rattle.workloads.specs.declared.Workload.{Workload}
 use Rattle.workloads.specs.Placement.{SoundProblem}
 use Rattle.workloads.specs.SiteProblem.{problemOf}
@@ -38,7 +38,6 @@ use Rattle.workloads.specs.Arrays.{numbersIn, problemIn, SoundWorkload}
 use Rattle.workloads.proofs.SiteProblem.{problem-sound}
 use Rattle.workloads.proofs.SitePrices.{problem-same}
 use Rattle.planning.specs.Workloads.{numberOf, SiteWorkload}
-use Rattle.energy.proofs.Figures.{site-bounds-small}
 
 -- past the end of a list stands the default
 getD-past : {A : Type 0} (l : List A) (i : ℕ) (d : A) → length l ≤ i → getD l i d ≡ d
@@ -171,7 +170,7 @@ module _ {site : Site} {table : SiteTable} {releases deadlines cycles times : Li
     unfolding lengthOf
     length-high i below =
         let inside : suc i < length bounds = omega (arith, intervals-counted) in
-        omega (arith, site-bounds-small valid holds .last (suc i) (omega (arith, holds .bounds-are .counted)), time-at (suc i) inside)
+        omega (arith, held-bounds-small valid holds .last (suc i) (omega (arith, holds .bounds-are .counted)), time-at (suc i) inside)
 
     curve : Curve ws
     curve = rw (held-points valid holds) at (held-curve valid holds)

@@ -33,7 +33,7 @@ use Rattle.levels.proofs.PointTables.{length-pointsOf}
 use Rattle.fitting.specs.declared.Verdict.{Verdict}
 use Rattle.fitting.specs.declared.Verdict.the-variants.{Passed, Refused}
 use Rattle.fitting.specs.Verdicts.{verdictOf, passed}
-use Rattle.energy.specs.Figures.{SmallBounds}
+use Rattle.intervals.specs.Times.{SmallBounds}
 use Rattle.job_sets.specs.JobSets.{isMember}
 use Rattle.job_sets.specs.IntervalSets.{setIn}
 use Rattle.fitting.specs.SetsHave.{SetsHave}
@@ -114,11 +114,11 @@ module _ (working : PointTable) (sets : List ℕ) (count bounds : ℕ) (times pl
   module _ (right : wrongLengthIn intervals prices ≡ false) where
     past-lengths : outcome ≡ byEntry (intervalCount bs) (entryFault site plan prices) afterEntries
     unfolding pricing
-    past-lengths = rw (price-length site plan prices .1 (rw all-intervals (lengths bounds times prices (small .few) intervals counted right)))
+    past-lengths = rw (price-length site plan prices .1 (rw all-intervals (lengths bounds times prices (small .rising .few) intervals counted right)))
 
     module _ (numbers : List ℕ) (filled : numbers ≡ columnOf maxIntervals intervals (λ i. getD prices (2 + 4 * intervals + i) 0)) where
       price-here : (i : ℕ) → i < intervals → pricesOf prices i ≡ getD numbers i 0
-      price-here = price-at bounds times prices (small .few) intervals counted right numbers filled
+      price-here = price-at bounds times prices (small .rising .few) intervals counted right numbers filled
 
       module _ (entries : Verdict)
           (went : entries ≡ verdictOf (byEntry intervals (entryFaultIn (working .count - 1) times prices numbers) passed)) where
@@ -140,7 +140,7 @@ module _ (working : PointTable) (sets : List ℕ) (count bounds : ℕ) (times pl
             loaded i below =
                 load-of-steps plan jobs (λ s inside. rw jobs-counted (planned .step-job s inside)) i
                 ∙ rw (planned .loaded)
-                (sym (tally-at maxIntervals _ _ (stepCount plan) i (omega (arith, small .few))))
+                (sym (tally-at maxIntervals _ _ (stepCount plan) i (omega (arith, small .rising .few))))
 
             same-price : (i : ℕ) → i < intervals → priceFault site plan prices i ≡ priceFaultIn ws times loads numbers i
             unfolding priceFault
@@ -168,7 +168,7 @@ module _ (working : PointTable) (sets : List ℕ) (count bounds : ℕ) (times pl
                       (λ i. isMember (setIn sets i) j && ltb (getD numbers i 0) (getD numbers (stepAt plan s .interval) 0))
                       (λ i below. rw (
                         open-in bounds times (jobOf jobs j) i (omega arith),
-                        open-has jobs times bounds count opened i j below (omega (arith, small .few)) (planned .step-job s inside) (omega (arith, planned .step-job s inside)),
+                        open-has jobs times bounds count opened i j below (omega (arith, small .rising .few)) (planned .step-job s inside) (omega (arith, planned .step-job s inside)),
                         price-here i (omega arith),
                         price-here (stepAt plan s .interval) (omega arith),
                       )),

@@ -14,7 +14,7 @@ ghost use Rattle.model.specs.Processors.{Processor, workingOf};
 ghost use Rattle.model.specs.Checking.{pricing};
 ghost use Rattle.tables.specs.Column.{columnOf};
 ghost use Rattle.levels.specs.PointTables.{pointsOf, SmallPoints};
-ghost use Rattle.energy.specs.Figures.{SmallBounds};
+ghost use Rattle.intervals.specs.Times.{SmallBounds};
 ghost use Rattle.fitting.specs.Verdicts.{verdictOf, passed};
 ghost use Rattle.fitting.specs.SetsHave.{SetsHave};
 ghost use Rattle.fitting.specs.TestedJobs.{openBelow};

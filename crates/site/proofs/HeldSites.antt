@@ -1,6 +1,6 @@
 -- What the arrays and numbers of a site that was read keep: its jobs and its working points, within the limits.
 -- Assumes nothing.
-use mathlib.Core.Path.{_≡_, sym, _∙_}
+use mathlib.Core.Path.{_≡_}
 use mathlib.Core.List.{List}
 use Prim.Native.Nat.{ℕ, _-_, _<_, _≤_}
 use native.Mathlib.Omega.{arith}
@@ -8,14 +8,16 @@ use lib.ListN.{length, take}
 use Rattle.model.specs.Limits.{maxFrequency, maxJobs, maxBounds}
 use Rattle.model.specs.Jobs.{ValidJobs}
 use Rattle.model.specs.Bands.{bandCount, frequencyOf, Curve}
-use Rattle.model.specs.Processors.{allPoints, workingOf, topOf, ValidProcessor}
+use Rattle.model.specs.Processors.{allPoints, workingOf}
 use Rattle.model.specs.Sites.{Site, ValidSite}
 use Rattle.model.proofs.Working.{working-curve, working-top}
 use Rattle.tables.specs.Tables.{jobsIn}
 use Rattle.tables.proofs.Read.{jobs-count}
 use Rattle.levels.specs.PointTables.{pointsOf, SmallPoints}
 use Rattle.levels.proofs.SmallPoints.{working-small, working-held}
-use Rattle.intervals.proofs.Padded.{holds-first}
+use Rattle.intervals.specs.Times.{SmallBounds}
+use Rattle.intervals.proofs.Padded.{take-padded, holds-first}
+use Rattle.intervals.proofs.SmallBounds.{small-bounds}
 use Rattle.site.specs.declared.SiteTable.{SiteTable}
 use Rattle.site.specs.SiteTables.{HoldsSite}
 
@@ -54,3 +56,8 @@ module _ {site : Site} {table : SiteTable} {releases deadlines cycles times : Li
 
   pub held-bounds : take (table .bounds) times ≡ site .bounds
   held-bounds = holds-first (holds .bounds-are) held-few
+
+  pub held-bounds-small : SmallBounds (table .bounds) times
+  held-bounds-small =
+      rw (holds .bounds-are .counted, holds .bounds-are .array)
+      (small-bounds (valid .bounds) (valid .jobs) (valid .few-bounds) _ (take-padded (site .bounds) (valid .few-bounds)))

@@ -114,9 +114,6 @@ module _ (bytes : List ℕ) (table : LevelTable) (read : table ≡ levelTable (r
       (λ levels answered counted. rw (read, answered, ← counted) (levels-held levels (levels-valid bytes levels answered .few)))
 
 module _ (bytes : List ℕ) (table : JobTable) (read : table ≡ jobTable (readJobs bytes)) where
-  pub jobs-read-refused : (number place : ℕ) → table .reading ≡ Refused number place → readJobs bytes ≡ refused number place
-  jobs-read-refused number place e = reading-refused _ number place (sym (ap (λ (t : JobTable). t .reading) read) ∙ e)
-
   -- the jobs of the bytes stand in the arrays
   pub jobs-read : (count : ℕ) → table .reading ≡ Entries count
       → readJobs bytes ≡ answer (jobsIn count (table .releases) (table .deadlines) (table .cycles))

@@ -1,17 +1,16 @@
 -- The answers of this crate: the paper's number and values for each case of an enum, and lists in plain arrays.
 use Prim.Native.Nat.{ℕ, min}
-use mathlib.Core.Bool.{Bool, not, _&&_, _||_}
+use mathlib.Core.Bool.{Bool, not, _&&_}
 use mathlib.Core.List.{List}
 use mathlib.Core.Option.{Option, none, some}
 use lib.ListN.{length, getD}
 use lib.IntN.{ℤ}
-use lib.Dec.{ltb, leb, eqb}
+use lib.Dec.{eqb}
 use Rattle.model.specs.declared.Job.{Job}
-use Rattle.model.specs.Limits.{maxDeadline}
-use Rattle.model.specs.Outcome.{Outcome, refused, answer, refuseWhen, andThen}
+use Rattle.model.specs.Outcome.{Outcome, refused, answer}
 use Rattle.model.specs.Search.{someBelow}
-use Rattle.model.specs.Jobs.{jobOf, readJobs}
-use Rattle.model.specs.Windows.{Window, spareOf, overfullTo}
+use Rattle.model.specs.Jobs.{jobOf}
+use Rattle.model.specs.Windows.{Window, overfullTo}
 use Rattle.job_sets.specs.declared.JobSet.{JobSet}
 use Rattle.job_sets.specs.JobSets.{setBelow}
 use Rattle.windows.specs.declared.window.SpareAnswer.{SpareAnswer}

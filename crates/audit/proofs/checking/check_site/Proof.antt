@@ -4,8 +4,7 @@ use mathlib.Core.Path.{refl, sym}
 use mathlib.Core.List.{[]}
 use borrow.Author.Needs.{needs}
 use Rattle.tables.proofs.Read.{length-jobsIn}
-use Rattle.site.proofs.HeldSites.{held-count, held-points, held-small, held-curve, held-top}
-use Rattle.energy.proofs.Figures.{site-bounds-small}
+use Rattle.site.proofs.HeldSites.{held-count, held-points, held-small, held-curve, held-top, held-bounds-small}
 use Rattle.fitting.proofs.SetsHave.{no-jobs}
 use Rattle.audit.proofs.BothHalves.{first-refused, sets-opened, planned, second-refused, all-passed}
 use Rattle.audit.proofs.checking.check_site.Statement.{statement}
@@ -14,7 +13,7 @@ use Rattle.audit.proofs.checking.check_site.Tie as tie
 fit-requires : tie.Need-fit-requires
 fit-requires c κs =
     let (site, valid, holds) = c .before .before .before .before .before .pre in
-    ((held-top valid holds, held-count valid holds, site-bounds-small valid holds), (no-jobs, refl))
+    ((held-top valid holds, held-count valid holds, held-bounds-small valid holds), (no-jobs, refl))
 
 enum-known-first : tie.Need-enum-known-first
 enum-known-first c = search needs
@@ -32,7 +31,7 @@ price-requires c κs =
     let (site, valid, holds) = fitted .before .before .before .before .before .before .pre in (
       (held-small valid holds, held-curve valid holds),
       (
-        (site-bounds-small valid holds, held-count valid holds),
+        (held-bounds-small valid holds, held-count valid holds),
         planned valid holds _ [] _ _ _ (fitted .fit .ensures) (c .before .before .enum-told .given .1),
       ),
     )
@@ -54,7 +53,7 @@ enum-told-2 c = search needs
 energy-figure-requires : tie.Need-energy-figure-requires
 energy-figure-requires c κs =
     let (site, valid, holds) = c .before .before .before .before .before .before .before .before .before .before .before .before .before .before .pre in
-    (held-small valid holds, site-bounds-small valid holds)
+    (held-small valid holds, held-bounds-small valid holds)
 
 returns-3 : tie.Need-returns-3
 returns-3 c = λ site valid holds.

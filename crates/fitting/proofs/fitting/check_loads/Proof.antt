@@ -31,28 +31,28 @@ loop-holds : tie.Need-loop-holds Inv-loop μ-loop
 loop-holds c = (omega arith, below-none _)
 
 add-loop : tie.Need-add-loop Inv-loop μ-loop
-add-loop c = omega (arith, c .before .pre .1 .few)
+add-loop c = omega (arith, c .before .pre .1 .rising .few)
 
 mul-if1 : tie.Need-mul-if1 Inv-loop μ-loop
 mul-if1 c = omega arith
 
 element-copy-out-if1 : tie.Need-element-copy-out-if1 Inv-loop μ-loop
-element-copy-out-if1 c = omega (arith, c .before .before .pre .1 .few)
+element-copy-out-if1 c = omega (arith, c .before .before .pre .1 .rising .few)
 
 add-if1 : tie.Need-add-if1 Inv-loop μ-loop
 add-if1 c = omega arith
 
 mul-if1-2 : tie.Need-mul-if1-2 Inv-loop μ-loop
-mul-if1-2 c = omega (arith, c .before .before .before .pre .1 .few)
+mul-if1-2 c = omega (arith, c .before .before .before .pre .1 .rising .few)
 
 element-copy-out-if1-2 : tie.Need-element-copy-out-if1-2 Inv-loop μ-loop
-element-copy-out-if1-2 c = omega (arith, c .before .before .before .pre .1 .few)
+element-copy-out-if1-2 c = omega (arith, c .before .before .before .pre .1 .rising .few)
 
 mul-if1-3 : tie.Need-mul-if1-3 Inv-loop μ-loop
-mul-if1-3 c = omega (arith, c .before .before .before .before .pre .1 .few)
+mul-if1-3 c = omega (arith, c .before .before .before .before .pre .1 .rising .few)
 
 element-copy-out-if1-3 : tie.Need-element-copy-out-if1-3 Inv-loop μ-loop
-element-copy-out-if1-3 c = omega (arith, c .before .before .before .before .pre .1 .few)
+element-copy-out-if1-3 c = omega (arith, c .before .before .before .before .pre .1 .rising .few)
 
 sub-if1 : tie.Need-sub-if1 Inv-loop μ-loop
 sub-if1 c =
@@ -65,7 +65,7 @@ mul-if1-4 c =
     omega (arith, capacity-small _ _ (start .pre .1) _ (turn .loop-test .taken) _ (start .pre .0))
 
 cast-t22 : tie.Need-cast-t22 Inv-loop μ-loop
-cast-t22 c = omega (arith, c .before .before .before .before .before .before .pre .1 .few)
+cast-t22 c = omega (arith, c .before .before .before .before .before .before .pre .1 .rising .few)
 
 returns : tie.Need-returns Inv-loop μ-loop
 returns c =

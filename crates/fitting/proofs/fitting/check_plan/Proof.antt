@@ -21,7 +21,7 @@ returns c =
     let start = c .before .before .before in
     λ processor jobs is-top counted tested held.
     wrong-length-refused
-    _ processor is-top _ _ _ _ _ _ _ (start .pre .1) (start .pre .2 .few) jobs counted tested held
+    _ processor is-top _ _ _ _ _ _ _ (start .pre .1) (start .pre .2 .rising .few) jobs counted tested held
     (sym (c .before .wrong-length .ensures) ∙ c .if1 .taken)
 
 -- past the refusal 15 the plan has the right length, and past 16 the right number of intervals
@@ -48,12 +48,12 @@ returns-2 c =
     let start = numbered .before .before .before .before in
     λ processor jobs is-top counted tested held.
     wrong-intervals-refused
-    _ processor is-top _ _ _ _ _ _ _ (start .pre .1) (start .pre .2 .few) jobs counted tested held (right (numbered .before))
+    _ processor is-top _ _ _ _ _ _ _ (start .pre .1) (start .pre .2 .rising .few) jobs counted tested held (right (numbered .before))
     (λ e. c .if2 .taken (numbered .number16 .ensures .0 ∙ e ∙ sym (c .before .interval-count .ensures)))
 
 check-steps-requires : tie.Need-check-steps-requires
 check-steps-requires c κs =
-    let sized = c .before .before .before in (omega arith, sized .before .before .before .pre .2 .few, size sized)
+    let sized = c .before .before .before in (omega arith, sized .before .before .before .pre .2 .rising .few, size sized)
 
 enum-known-steps : tie.Need-enum-known-steps
 enum-known-steps c = search needs
@@ -65,7 +65,7 @@ returns-3 c =
     let start = counted .before .before .before .before .before .before in
     λ processor jobs is-top jobs-counted tested held.
     steps-refused
-    _ processor is-top _ _ _ _ _ _ _ (start .pre .1) (start .pre .2 .few) jobs jobs-counted tested held
+    _ processor is-top _ _ _ _ _ _ _ (start .pre .1) (start .pre .2 .rising .few) jobs jobs-counted tested held
     (right (counted .before .before .before)) (intervals counted) _ (steps .check-steps .ensures) _ _ (c .before .steps .given .1)
 
 enum-told : tie.Need-enum-told
@@ -82,7 +82,7 @@ returns-4 c =
     let start = counted .before .before .before .before .before .before in
     λ processor jobs is-top jobs-counted tested held.
     sums-refused
-    _ processor is-top _ _ _ _ _ _ _ (start .pre .1) (start .pre .2 .few) jobs jobs-counted tested held
+    _ processor is-top _ _ _ _ _ _ _ (start .pre .1) (start .pre .2 .rising .few) jobs jobs-counted tested held
     (right (counted .before .before .before)) (intervals counted) _ (steps .check-steps .ensures) (sound .enum-told .given .1) (c .if3 .taken)
 
 check-loads-requires : tie.Need-check-loads-requires
@@ -96,7 +96,7 @@ returns-5 c =
     let start = counted .before .before .before .before .before .before in
     λ processor jobs is-top jobs-counted tested held.
     loads-decide
-    _ processor is-top _ _ _ _ _ _ _ (start .pre .1) (start .pre .2 .few) jobs jobs-counted tested held
+    _ processor is-top _ _ _ _ _ _ _ (start .pre .1) (start .pre .2 .rising .few) jobs jobs-counted tested held
     (right (counted .before .before .before)) (intervals counted) _ (steps .check-steps .ensures) (sound .enum-told .given .1) (c .before .if3 .left)
     _ (start .pre .3) _ (c .check-loads .ensures)
 

@@ -3,12 +3,12 @@
 use native.Mathlib.Omega.{arith}
 use denote.Ref.{now}
 use borrow.Author.Needs.{needs}
-use Rattle.fitting.proofs.OpenRange.{BoundsBefore, bounds-rising, bounds-before, ends-at, ends-before}
+use Rattle.fitting.proofs.OpenRange.{BoundsBefore, bounds-before, ends-at, ends-before}
 use Rattle.fitting.proofs.opening.ends_by.Statement.{statement}
 use Rattle.fitting.proofs.opening.ends_by.Tie as tie
 
 bound-number-requires : tie.Need-bound-number-requires
-bound-number-requires c κs = bounds-rising (c .pre)
+bound-number-requires c κs = c .pre .rising
 
 -- the bounds before the deadline
 split : (c : tie.After-bound-number) → BoundsBefore (c .before .args .bounds) (now (c .before .args .times)) (c .before .args .deadline) (c .bound-number .result)
@@ -23,10 +23,10 @@ returns c =
     rw (c .interval-count .ensures) (ends-before _ _ _ _ (split found) (found .before .pre) (λ below same. omega arith))
 
 mul-if2 : tie.Need-mul-if2
-mul-if2 c = omega (arith, split (c .before) .within, c .before .before .pre .few)
+mul-if2 c = omega (arith, split (c .before) .within, c .before .before .pre .rising .few)
 
 element-copy-out-if2 : tie.Need-element-copy-out-if2
-element-copy-out-if2 c = omega (arith, split (c .before) .within, c .before .before .pre .few)
+element-copy-out-if2 c = omega (arith, split (c .before) .within, c .before .before .pre .rising .few)
 
 returns-2 : tie.Need-returns-2
 returns-2 c =

@@ -51,7 +51,7 @@ use denote.Exit.{yes}
 use denote.Triple.Clauses.{Lasts, ensured, lasts}
 use Rattle.model.specs.declared.Job.{Job}
 use Rattle.model.specs.Limits.{maxJobs}
-use Rattle.energy.specs.Figures.{SmallBounds}
+use Rattle.intervals.specs.Times.{SmallBounds}
 use Rattle.fitting.specs.SetsHave.{NoJobs}
 use Rattle.fitting.specs.TestedJobs.{TestedBelow}
 use Rattle.fitting.proofs.Rows.{after, cut-after, join-after}

@@ -57,7 +57,7 @@ use Rattle.model.specs.declared.Job.{Job}
 use Rattle.model.specs.Limits.{maxJobs}
 use Rattle.model.specs.Jobs.{noJob, jobOf}
 use Rattle.model.proofs.Numbers.{lt-or-le}
-use Rattle.energy.specs.Figures.{SmallBounds}
+use Rattle.intervals.specs.Times.{SmallBounds}
 use Rattle.fitting.specs.SetsHave.{NoJobs}
 use Rattle.fitting.specs.TestedJobs.{TestedBelow, JobTested}
 use Rattle.fitting.proofs.TestedJobs.{tests-none, tests-more}

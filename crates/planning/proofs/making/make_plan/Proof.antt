@@ -12,9 +12,8 @@ use Rattle.workloads.specs.Arrays.{numbersIn, problemIn}
 use Rattle.workloads.specs.Placement.{SmallestPriced}
 use Rattle.planning.specs.Workloads.{SiteWorkload}
 use Rattle.prices.specs.RisingPrices.{CanPrice}
-use Rattle.site.proofs.HeldSites.{held-small}
+use Rattle.site.proofs.HeldSites.{held-small, held-bounds-small}
 use Rattle.planning.proofs.Placeable.{workload-fits, workload-can-price}
-use Rattle.energy.proofs.Figures.{site-bounds-small}
 use Rattle.planning.proofs.MadePlans.{rooms, steps-few, made-plan}
 use Rattle.planning.proofs.making.make_plan.Statement.{statement}
 use Rattle.planning.proofs.making.make_plan.Tie as tie
@@ -105,7 +104,7 @@ energy-figure-requires c κs =
     let (site, can) = making placed .before .before .before .before .pre in
     let valid = can .in-arrays .valid in
     let holds = can .in-arrays .holds in
-    (held-small valid holds, site-bounds-small valid holds)
+    (held-small valid holds, held-bounds-small valid holds)
 
 same-length : tie.Need-same-length
 same-length c = search needs

@@ -22,38 +22,38 @@ loop-holds : tie.Need-loop-holds Inv-loop μ-loop
 loop-holds c = (omega arith, below-none _)
 
 add-loop : tie.Need-add-loop Inv-loop μ-loop
-add-loop c = omega (arith, c .before .pre .1 .0 .few)
+add-loop c = omega (arith, c .before .pre .1 .0 .rising .few)
 
 add-load-fault : tie.Need-add-load-fault Inv-loop μ-loop
 add-load-fault c = omega arith
 
 mul-load-fault : tie.Need-mul-load-fault Inv-loop μ-loop
-mul-load-fault c = omega (arith, c .before .before .pre .1 .0 .few)
+mul-load-fault c = omega (arith, c .before .before .pre .1 .0 .rising .few)
 
 element-copy-out-load-fault : tie.Need-element-copy-out-load-fault Inv-loop μ-loop
-element-copy-out-load-fault c = omega (arith, c .before .before .pre .1 .0 .few)
+element-copy-out-load-fault c = omega (arith, c .before .before .pre .1 .0 .rising .few)
 
 mul-load-fault-2 : tie.Need-mul-load-fault-2 Inv-loop μ-loop
-mul-load-fault-2 c = omega (arith, c .before .before .before .pre .1 .0 .few)
+mul-load-fault-2 c = omega (arith, c .before .before .before .pre .1 .0 .rising .few)
 
 element-copy-out-load-fault-2 : tie.Need-element-copy-out-load-fault-2 Inv-loop μ-loop
-element-copy-out-load-fault-2 c = omega (arith, c .before .before .before .pre .1 .0 .few)
+element-copy-out-load-fault-2 c = omega (arith, c .before .before .before .pre .1 .0 .rising .few)
 
 sub-load-fault : tie.Need-sub-load-fault Inv-loop μ-loop
 sub-load-fault c =
     let turn = c .before .before in omega (arith, bounds-rise _ _ (turn .before .before .pre .1 .0) _ (turn .loop-test .taken))
 
 mul-load-fault-3 : tie.Need-mul-load-fault-3 Inv-loop μ-loop
-mul-load-fault-3 c = omega (arith, c .before .before .before .before .pre .1 .0 .few)
+mul-load-fault-3 c = omega (arith, c .before .before .before .before .pre .1 .0 .rising .few)
 
 element-copy-out-load-fault-3 : tie.Need-element-copy-out-load-fault-3 Inv-loop μ-loop
-element-copy-out-load-fault-3 c = omega (arith, c .before .before .before .before .pre .1 .0 .few)
+element-copy-out-load-fault-3 c = omega (arith, c .before .before .before .before .pre .1 .0 .rising .few)
 
 mul-load-fault-4 : tie.Need-mul-load-fault-4 Inv-loop μ-loop
-mul-load-fault-4 c = omega (arith, c .before .before .before .before .before .pre .1 .0 .few)
+mul-load-fault-4 c = omega (arith, c .before .before .before .before .before .pre .1 .0 .rising .few)
 
 element-copy-out-load-fault-4 : tie.Need-element-copy-out-load-fault-4 Inv-loop μ-loop
-element-copy-out-load-fault-4 c = omega (arith, c .before .before .before .before .before .pre .1 .0 .few)
+element-copy-out-load-fault-4 c = omega (arith, c .before .before .before .before .before .pre .1 .0 .rising .few)
 
 load-fault-requires : tie.Need-load-fault-requires Inv-loop μ-loop
 load-fault-requires c κs =
@@ -80,7 +80,7 @@ here : (c : tie.After-load-fault Inv-loop μ-loop)
 here c = c .load-fault .ensures
 
 cast-t27 : tie.Need-cast-t27 Inv-loop μ-loop
-cast-t27 c = omega (arith, c .before .before .before .before .before .before .before .before .pre .1 .0 .few)
+cast-t27 c = omega (arith, c .before .before .before .before .before .before .before .before .pre .1 .0 .rising .few)
 
 returns : tie.Need-returns Inv-loop μ-loop
 returns c =

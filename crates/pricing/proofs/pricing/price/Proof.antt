@@ -2,7 +2,6 @@
 -- proofs/SecondHalf.antt. Assumes nothing.
 use mathlib.Core.Path.{_≡_, sym, _∙_}
 use mathlib.Core.Bool.{false}
-use mathlib.Core.List.{[]}
 use Prim.Native.Nat.{_+_, _-_, _*_, _≤_}
 use native.Mathlib.Omega.{arith}
 use lib.ListN.{length}
@@ -44,8 +43,8 @@ sized c =
     let start = c .before .before .before .before .before in
     let a = start .args in
     let small = start .pre .1 .0 .0 in (
-      omega (arith, small .few),
-      price-size _ (now (a .times)) (now (a .prices)) (small .few) _ (c .before .before .interval-count .ensures) (right c),
+      omega (arith, small .rising .few),
+      price-size _ (now (a .times)) (now (a .prices)) (small .rising .few) _ (c .before .before .interval-count .ensures) (right c),
     )
 
 price-numbers-requires : tie.Need-price-numbers-requires
@@ -89,7 +88,7 @@ banded c =
     let start = sound .before .before .before .before .before in
     let a = start .args in
     band-numbers
-    _ (now (a .times)) _ (start .pre .1 .0 .0 .few) _ (sound .before .before .interval-count .ensures) (right sound)
+    _ (now (a .times)) _ (start .pre .1 .0 .0 .rising .few) _ (sound .before .before .interval-count .ensures) (right sound)
     _ (filled .price-numbers .ensures) _ _ (entered .check-entries .ensures) (c .enum-told .given .1)
 
 check-fits-requires : tie.Need-check-fits-requires
@@ -124,7 +123,7 @@ check-cheapest-requires c κs =
     let start = numbered .before .before .before .before .before .before .before .before .before .before .before in
     let planned = start .pre .1 .1 in
     let points = start .pre .0 .0 in (
-      (start .pre .1 .0 .0 .few, planned .size),
+      (start .pre .1 .0 .0 .rising .few, planned .size),
       (λ i below. omega (arith, banded numbered .high i below, points .few), planned .step-interval),
     )
 
