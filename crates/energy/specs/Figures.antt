@@ -1,8 +1,7 @@
 -- The energy figure over loads that stand in an array. With the loads of a plan it is the plan's figure.
-use Prim.Native.Nat.{ℕ, suc, _+_, _-_, _*_, _/_, _≤_, _<_, min}
+use Prim.Native.Nat.{ℕ, _+_, _-_, _*_, _/_, min}
 use mathlib.Core.List.{List}
 use lib.ListN.{getD}
-use Rattle.model.specs.Limits.{maxDeadline, maxBounds}
 use Rattle.model.specs.Sum.{sum}
 use Rattle.model.specs.Points.{Point}
 use Rattle.model.specs.Bands.{bandCount, frequencyOf, powerAt, gap, rise}
