@@ -29,6 +29,14 @@ module _ {p : Problem} {before after : Shares} {interval job amount : ℕ} (grow
       go (yes its) (no other) = inl (rw its (grown .other-interval i inside other))
       go (yes its) (yes there) = inr (there, its)
 
+  -- in other intervals all shares stay
+  pub grown-elsewhere : (i j : ℕ) → i < p .intervals → j < p .jobs → (i ≡ interval → ⊥) → after i j ≡ before i j
+  grown-elsewhere i j inside below other = go (grown-case i j inside below)
+    where
+      go : (after i j ≡ before i j) ⊎ ((i ≡ interval) × (j ≡ job)) → after i j ≡ before i j
+      go (inl same) = same
+      go (inr (there, its)) = absurd (other there)
+
   -- no share falls
   pub grown-most : (i j : ℕ) → i < p .intervals → j < p .jobs → before i j ≤ after i j
   grown-most i j inside below = go (grown-case i j inside below)
@@ -40,17 +48,13 @@ module _ {p : Problem} {before after : Shares} {interval job amount : ℕ} (grow
   pub grown-load : (i : ℕ) → i < p .intervals → loadOf p after i ≡ loadOf p before i + onlyIf (eqb i interval) amount
   grown-load i inside = go (ℕ-discrete i interval)
     where
-      row : (j : ℕ) → (i ≡ interval → ⊥) → (after i j ≡ before i j) ⊎ ((i ≡ interval) × (j ≡ job)) → after i j ≡ before i j
-      row j other (inl same) = same
-      row j other (inr (there, its)) = absurd (other there)
-
       go : Dec (i ≡ interval) → loadOf p after i ≡ loadOf p before i + onlyIf (eqb i interval) amount
       go (yes there) =
           rw (eq-eqb i interval there, there)
           (sum-update (p .jobs) (before interval) (after interval) job amount (grown .job-below) (grown .here)
           (λ j below other. grown .other-job interval j (grown .interval-below) below other))
       go (no other) =
-          let same : loadOf p after i ≡ loadOf p before i = sum-cong (p .jobs) (λ j below. row j other (grown-case i j inside below)) in
+          let same : loadOf p after i ≡ loadOf p before i = sum-cong (p .jobs) (λ j below. grown-elsewhere i j inside below other) in
           rw (ne-eqb i interval other) (omega arith)
 
   pub grown-placed : (j : ℕ) → j < p .jobs → placedOf p after j ≡ placedOf p before j + onlyIf (eqb j job) amount

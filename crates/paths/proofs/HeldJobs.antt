@@ -1,141 +1,108 @@
--- Laws of the sets of jobs with a share in each interval: a job joins a set where its share was 0, and leaves it where its
--- share becomes 0.
+-- Laws of the sets of jobs with a share in each interval: a job joins the set where its share grows, and leaves it where its share
+-- becomes 0.
 -- Assumes nothing.
 use mathlib.Core.Path.{_≡_, sym, _∙_}
+use mathlib.Core.Bool.{false}
 use mathlib.Core.Logic.{_⊎_, inl, inr}
 use mathlib.Core.List.{List}
-use Prim.Native.Nat.{ℕ, _+_, _-_, _^_, _<_, _≤_, min}
+use Prim.Native.Nat.{ℕ, _<_, _≤_}
 use native.Mathlib.Decide.{ℕ-discrete}
 use native.Mathlib.Omega.{arith}
-use lib.ListN.{length, getD, set, replicate, length-set, length-replicate}
-use lib.Seq.{getD-set-same, getD-set-other}
-use borrow.Author.Tests.{eq-eqb, ne-eqb}
-use Rattle.model.specs.Limits.{maxJobs, maxIntervals}
+use lib.Dec.{ltb}
+use lib.ListN.{length, replicate, length-replicate}
+use borrow.Author.Tests.{lt-ltb, le-ltb}
+use Rattle.model.specs.Limits.{maxJobs}
 use Rattle.model.specs.Plans.{Shares}
-use Rattle.workloads.specs.Words.{bit}
+use Rattle.job_sets.specs.JobSets.{isMember, withJob, withoutJob}
+use Rattle.job_sets.specs.IntervalSets.{setWords, setIn, Added}
+use Rattle.job_sets.proofs.JobSets.{none-has, with-here, with-other, without-here, without-other}
+use Rattle.job_sets.proofs.IntervalSets.{zeros-are}
 use Rattle.workloads.specs.Placement.{Problem}
-use Rattle.workloads.specs.Arrays.{numbersIn, Holding}
-use Rattle.workloads.proofs.Words.{bit-none, bit-put, bit-put-other, bit-put-fits, bit-least, bit-take, bit-take-other}
+use Rattle.workloads.specs.Arrays.{Holding}
 use Rattle.paths.specs.Paths.{Grown}
-use Rattle.paths.specs.Moves.{putHolder, takenHolder}
-use Rattle.paths.proofs.GrownShares.{grown-case}
+use Rattle.paths.specs.Moves.{Lessened}
+use Rattle.paths.proofs.GrownShares.{grown-case, grown-elsewhere}
 
 -- no job has a share
 pub holding-start : {p : Problem} {shares : Shares} → ((i j : ℕ) → i < p .intervals → j < p .jobs → shares i j ≡ 0)
-    → ((i : ℕ) → numbersIn (replicate maxIntervals 0) i ≡ 0) → Holding p shares (replicate maxIntervals 0)
-holding-start no-share zeros =
+    → Holding p shares (replicate setWords 0)
+holding-start no-share =
     record {
-      holders-length = length-replicate {A = ℕ} maxIntervals 0;
-      held = λ i j inside below. rw (zeros i, no-share i j inside below) (bit-none j);
-      held-past = λ i j inside past. rw (zeros i) (bit-none j);
-      held-small = λ i inside. rw (zeros i) (omega arith);
+      holders-length = length-replicate {A = ℕ} setWords 0;
+      held = λ i j inside below. rw (zeros-are i, no-share i j inside below) (none-has j);
+      held-past = λ i j inside past. rw (zeros-are i) (none-has j);
     }
 
-module _ {p : Problem} {shares : Shares} {holders : List ℕ} (holding : Holding p shares holders) {i j : ℕ} (inside : i < p .intervals) (below : j < p .jobs) where
-  -- a job without a share can join the set
-  pub join-fits : p .jobs ≤ maxJobs → shares i j ≡ 0 → getD holders i 0 + 2 ^ j < 2 ^ maxJobs
-  join-fits most none =
-      bit-put-fits maxJobs j (getD holders i 0) (omega arith) (holding .held-small i inside) (omega (arith, holding .held i j inside below))
+-- the set of one interval changes with its shares
+holding-change : {p : Problem} {before after : Shares} {holders holders-after : List ℕ} → Holding p before holders → (interval : ℕ)
+    → length holders-after ≡ setWords → ((i : ℕ) → (i ≡ interval → ⊥) → setIn holders-after i ≡ setIn holders i)
+    → ((i j : ℕ) → i < p .intervals → j < p .jobs → (i ≡ interval → ⊥) → after i j ≡ before i j)
+    → ((j : ℕ) → j < p .jobs → isMember (setIn holders-after interval) j ≡ ltb 0 (after interval j))
+    → ((j : ℕ) → p .jobs ≤ j → isMember (setIn holders-after interval) j ≡ false)
+    → Holding p after holders-after
+holding-change {p} {before} {after} {holders} {holders-after} holding interval size elsewhere others held past =
+    record {
+      holders-length = size;
+      held = λ i j inside below. held-at i j inside below (ℕ-discrete i interval);
+      held-past = λ i j inside over. past-at i j inside over (ℕ-discrete i interval);
+    }
+  where
+    held-at : (i j : ℕ) → i < p .intervals → j < p .jobs → Dec (i ≡ interval) → isMember (setIn holders-after i) j ≡ ltb 0 (after i j)
+    held-at i j inside below (yes here) = rw here (held j below)
+    held-at i j inside below (no other) = rw (elsewhere i other, others i j inside below other) (holding .held i j inside below)
 
-  -- a job with a share is in the set
-  pub leave-fits : 0 < shares i j → 2 ^ j ≤ getD holders i 0
-  leave-fits share = bit-least j (getD holders i 0) (omega (arith, holding .held i j inside below))
+    past-at : (i j : ℕ) → i < p .intervals → p .jobs ≤ j → Dec (i ≡ interval) → isMember (setIn holders-after i) j ≡ false
+    past-at i j inside over (yes here) = rw here (past j over)
+    past-at i j inside over (no other) = rw (elsewhere i other) (holding .held-past i j inside over)
 
-module _ {p : Problem} {before : Shares} (after : Shares) {holders : List ℕ} (holding : Holding p before holders) where
-  -- the set of one interval changes with its shares
-  holding-set : (interval : ℕ) → interval < length holders → {word : ℕ} → word < 2 ^ maxJobs → ((j : ℕ) → j < p .jobs → bit j word ≡ min 1 (after interval j))
-      → ((j : ℕ) → p .jobs ≤ j → bit j word ≡ 0)
-      → ((i j : ℕ) → i < p .intervals → j < p .jobs → (i ≡ interval → ⊥) → after i j ≡ before i j)
-      → Holding p after (set holders interval word)
-  holding-set interval inside-array {word} small bits past others =
-      record {
-        holders-length = length-set holders interval word ∙ holding .holders-length;
-        held = λ i j inside below. held-at i j inside below (ℕ-discrete i interval);
-        held-past = λ i j inside over. past-at i j inside over (ℕ-discrete i interval);
-        held-small = λ i inside. small-at i inside (ℕ-discrete i interval);
-      }
-    where
-      held-at : (i j : ℕ) → i < p .intervals → j < p .jobs → Dec (i ≡ interval) → bit j (numbersIn (set holders interval word) i) ≡ min 1 (after i j)
-      held-at i j inside below (yes here) = rw (here, getD-set-same holders interval word 0 inside-array) (bits j below)
-      held-at i j inside below (no other) =
-          rw (getD-set-other holders interval i word 0 other, others i j inside below other) (holding .held i j inside below)
-
-      past-at : (i j : ℕ) → i < p .intervals → p .jobs ≤ j → Dec (i ≡ interval) → bit j (numbersIn (set holders interval word) i) ≡ 0
-      past-at i j inside over (yes here) = rw (here, getD-set-same holders interval word 0 inside-array) (past j over)
-      past-at i j inside over (no other) = rw (getD-set-other holders interval i word 0 other) (holding .held-past i j inside over)
-
-      small-at : (i : ℕ) → i < p .intervals → Dec (i ≡ interval) → numbersIn (set holders interval word) i < 2 ^ maxJobs
-      small-at i inside (yes here) = rw (here, getD-set-same holders interval word 0 inside-array) small
-      small-at i inside (no other) = rw (getD-set-other holders interval i word 0 other) (holding .held-small i inside)
-
-  -- no set changes where each share stays 0 or stays above 0
-  holding-same : ((i j : ℕ) → i < p .intervals → j < p .jobs → min 1 (after i j) ≡ min 1 (before i j)) → Holding p after holders
-  holding-same same =
-      record {
-        holders-length = holding .holders-length;
-        held = λ i j inside below. holding .held i j inside below ∙ sym (same i j inside below);
-        held-past = holding .held-past;
-        held-small = holding .held-small;
-      }
-
-module _ {p : Problem} (jobs-most : p .jobs ≤ maxJobs) (intervals-most : p .intervals ≤ maxIntervals) {before after : Shares} {holders : List ℕ}
-    (holding : Holding p before holders) {interval job amount : ℕ} (there : interval < p .intervals) (some : 0 < amount) where
+module _ {p : Problem} (jobs-most : p .jobs ≤ maxJobs) {before after : Shares} {holders holders-after : List ℕ} (holding : Holding p before holders)
+    {interval job amount : ℕ} (some : 0 < amount) where
   -- a share grows
-  pub holding-put : Grown p before after interval job amount → Holding p after (putHolder holders interval job (before interval job))
-  holding-put grown = go (ℕ-discrete (before interval job) 0)
+  pub holding-put : Grown p before after interval job amount → Added holders holders-after interval job → Holding p after holders-after
+  holding-put grown added =
+      holding-change holding interval (added .size) (added .elsewhere) (grown-elsewhere grown)
+      (λ j below. rw (added .here) (joined j below (ℕ-discrete j job)))
+      (λ j past. rw (added .here) (with-other (setIn holders interval) job j small (λ e. omega (arith, grown .job-below)) ∙ holding .held-past interval j (grown .interval-below) past))
     where
-      word : ℕ
-      word = getD holders interval 0
+      small : job < maxJobs
+      small = omega (arith, grown .job-below)
 
-      elsewhere : (i j : ℕ) → (i ≡ interval → ⊥) → (after i j ≡ before i j) ⊎ ((i ≡ interval) × (j ≡ job)) → after i j ≡ before i j
-      elsewhere i j other (inl same) = same
-      elsewhere i j other (inr (here, its)) = absurd (other here)
-
-      bits : before interval job ≡ 0 → (j : ℕ) → j < p .jobs → bit job word ≡ 0 → Dec (j ≡ job) → bit j (word + 2 ^ job) ≡ min 1 (after interval j)
-      bits none j below free (yes its) = rw (its, bit-put job word free) (omega (arith, grown .here))
-      bits none j below free (no other) =
-          rw (bit-put-other job word free j other, grown .other-job interval j there below other) (holding .held interval j there below)
-
-      stays : 0 < before interval job → (i j : ℕ) → (after i j ≡ before i j) ⊎ ((i ≡ interval) × (j ≡ job)) → min 1 (after i j) ≡ min 1 (before i j)
-      stays share i j (inl same) = rw same
-      stays share i j (inr (here, its)) = rw (here, its) (omega (arith, grown .here))
-
-      go : Dec (before interval job ≡ 0) → Holding p after (putHolder holders interval job (before interval job))
-      go (yes none) =
-          let free : bit job word ≡ 0 = omega (arith, holding .held interval job there (grown .job-below)) in
-          rw (eq-eqb (before interval job) 0 none)
-          (holding-set after holding interval (omega (arith, holding .holders-length)) (join-fits holding there (grown .job-below) jobs-most none) (λ j below. bits none j below free (ℕ-discrete j job))
-          (λ j past. bit-put-other job word free j (λ e. omega (arith, grown .job-below)) ∙ holding .held-past interval j there past)
-          (λ i j inside below other. elsewhere i j other (grown-case grown i j inside below)))
-      go (no share) =
-          rw (ne-eqb (before interval job) 0 share) (holding-same after holding (λ i j inside below. stays (omega arith) i j (grown-case grown i j inside below)))
+      joined : (j : ℕ) → j < p .jobs → Dec (j ≡ job) → isMember (withJob (setIn holders interval) job) j ≡ ltb 0 (after interval j)
+      joined j below (yes its) =
+          rw its (with-here (setIn holders interval) job small ∙ sym (lt-ltb 0 (after interval job) (omega (arith, grown .here))))
+      joined j below (no other) =
+          rw (with-other (setIn holders interval) job j small other, grown .other-job interval j (grown .interval-below) below other)
+          (holding .held interval j (grown .interval-below) below)
 
   -- a share falls
-  pub holding-taken : Grown p after before interval job amount → Holding p after (takenHolder holders interval job (before interval job) amount)
-  holding-taken grown = go (ℕ-discrete (before interval job) amount)
+  pub holding-taken : Grown p after before interval job amount → Lessened holders holders-after interval job (before interval job) amount
+      → Holding p after holders-after
+  holding-taken grown lessened = go (ℕ-discrete (before interval job) amount)
     where
-      word : ℕ
-      word = getD holders interval 0
+      left : before interval job ≡ amount → (j : ℕ) → j < p .jobs → Dec (j ≡ job) → isMember (withoutJob (setIn holders interval) job) j ≡ ltb 0 (after interval j)
+      left all j below (yes its) =
+          rw its (without-here (setIn holders interval) job ∙ sym (le-ltb 0 (after interval job) (omega (arith, grown .here))))
+      left all j below (no other) =
+          rw (without-other (setIn holders interval) job j other, ← grown .other-job interval j (grown .interval-below) below other)
+          (holding .held interval j (grown .interval-below) below)
 
-      elsewhere : (i j : ℕ) → (i ≡ interval → ⊥) → (before i j ≡ after i j) ⊎ ((i ≡ interval) × (j ≡ job)) → after i j ≡ before i j
-      elsewhere i j other (inl same) = sym same
-      elsewhere i j other (inr (here, its)) = absurd (other here)
-
-      bits : before interval job ≡ amount → (j : ℕ) → j < p .jobs → bit job word ≡ 1 → Dec (j ≡ job) → bit j (word - 2 ^ job) ≡ min 1 (after interval j)
-      bits all j below has (yes its) = rw (its, bit-take job word has) (omega (arith, grown .here))
-      bits all j below has (no other) =
-          rw (bit-take-other job word has j other, ← grown .other-job interval j there below other) (holding .held interval j there below)
-
-      stays : (before interval job ≡ amount → ⊥) → (i j : ℕ) → (before i j ≡ after i j) ⊎ ((i ≡ interval) × (j ≡ job)) → min 1 (after i j) ≡ min 1 (before i j)
+      -- a share that is not taken whole stays above 0
+      stays : (before interval job ≡ amount → ⊥) → (i j : ℕ) → (before i j ≡ after i j) ⊎ ((i ≡ interval) × (j ≡ job)) → ltb 0 (before i j) ≡ ltb 0 (after i j)
       stays more i j (inl same) = rw same
-      stays more i j (inr (here, its)) = rw (here, its) (omega (arith, grown .here, more))
+      stays more i j (inr (here, its)) =
+          rw (here, its)
+          (lt-ltb 0 (before interval job) (omega (arith, grown .here)) ∙ sym (lt-ltb 0 (after interval job) (omega (arith, grown .here, more))))
 
-      go : Dec (before interval job ≡ amount) → Holding p after (takenHolder holders interval job (before interval job) amount)
+      go : Dec (before interval job ≡ amount) → Holding p after holders-after
       go (yes all) =
-          let has : bit job word ≡ 1 = omega (arith, holding .held interval job there (grown .job-below)) in
-          rw (eq-eqb (before interval job) amount all)
-          (holding-set after holding interval (omega (arith, holding .holders-length)) (omega (arith, holding .held-small interval there)) (λ j below. bits all j below has (ℕ-discrete j job))
-          (λ j past. bit-take-other job word has j (λ e. omega (arith, grown .job-below)) ∙ holding .held-past interval j there past)
-          (λ i j inside below other. elsewhere i j other (grown-case grown i j inside below)))
+          let removed = lessened .leaves all in
+          holding-change holding interval (removed .size) (removed .elsewhere) (λ i j inside below other. sym (grown-elsewhere grown i j inside below other))
+          (λ j below. rw (removed .here) (left all j below (ℕ-discrete j job)))
+          (λ j past. rw (removed .here) (without-other (setIn holders interval) job j (λ e. omega (arith, grown .job-below)) ∙ holding .held-past interval j (grown .interval-below) past))
       go (no more) =
-          rw (ne-eqb (before interval job) amount more) (holding-same after holding (λ i j inside below. stays more i j (grown-case grown i j inside below)))
+          rw (lessened .stays more)
+          (record {
+            holders-length = holding .holders-length;
+            held = λ i j inside below. holding .held i j inside below ∙ stays more i j (grown-case grown i j inside below);
+            held-past = holding .held-past;
+          })

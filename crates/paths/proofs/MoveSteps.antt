@@ -2,11 +2,12 @@
 -- Assumes nothing.
 use mathlib.Core.Path.{_≡_, sym}
 use mathlib.Core.List.{List}
-use Prim.Native.Nat.{ℕ, _+_, _*_, _^_, _<_, _≤_}
+use Prim.Native.Nat.{ℕ, _+_, _*_, _<_, _≤_}
 use native.Mathlib.Omega.{arith}
 use lib.ListN.{length, getD, length-set}
-use Rattle.model.specs.Limits.{maxDeadline, maxFrequency, maxCycles, maxIntervals}
+use Rattle.model.specs.Limits.{maxDeadline, maxFrequency, maxCycles}
 use Rattle.model.specs.Plans.{sharesIn}
+use Rattle.job_sets.specs.IntervalSets.{setWords, Added}
 use Rattle.workloads.specs.declared.Workload.{Workload}
 use Rattle.workloads.specs.Placement.{Open}
 use Rattle.workloads.specs.Arrays.{numbersIn, problemIn, Holding, KeptPast}
@@ -14,11 +15,11 @@ use Rattle.workloads.proofs.SharesTable.{place-below, place-in, kept-refl, kept
 use Rattle.workloads.proofs.Capacity.{capacity-most}
 use Rattle.searching.specs.Reaching.{SearchState}
 use Rattle.paths.specs.Paths.{Grown, firstOpen, Passes, Moving}
-use Rattle.paths.specs.Moves.{putAt, takenAt, putHolder, takenHolder, ToMove, CanMove, MovedTables}
+use Rattle.paths.specs.Moves.{putAt, takenAt, Lessened, ToMove, CanMove, MovedTables}
 use Rattle.paths.proofs.PathLimit.{first-open, passes-next}
 use Rattle.paths.proofs.PathSteps.{moving-start, moving-share, moving-step, moving-end, new-load}
 use Rattle.paths.proofs.GrownShares.{put-most, grown-put, grown-taken}
-use Rattle.paths.proofs.HeldJobs.{join-fits, leave-fits, holding-put, holding-taken}
+use Rattle.paths.proofs.HeldJobs.{holding-put, holding-taken}
 
 abbrev MovingTable : Workload → (before table : List ℕ) → SearchState → (amount gap : ℕ) → (prices : ℕ → ℕ) → (band bound : ℕ) → Type 0
 MovingTable work before table found amount gap prices band bound =
@@ -91,10 +92,6 @@ module _ {work : Workload} {before holders-before : List ℕ} {found : SearchSta
             capacity-most (can .sound) (found .target) _ target (to-move .placing .band-below),
           )
 
-      -- the job can join the set of the gap where it has no share
-      pub move-joins : getD table (placeOf work found gap r) 0 ≡ 0 → getD holders gap 0 + 2 ^ numbersIn (found .reached) r < 2 ^ 64
-      move-joins none = join-fits (now .holding) move-gap (can .to-move .reaching .now .job-below r below) (can .sound .jobs-most) none
-
     -- a step
     module _ (more : 0 < s) where
       pub mover-below : numbersIn (found .reached) s < work .jobs
@@ -116,7 +113,7 @@ module _ {work : Workload} {before holders-before : List ℕ} {found : SearchSta
 
       -- the amount is put into the gap
       module _ {put : List ℕ} {put-holders : List ℕ} (is-put : put ≡ putAt table (placeOf work found gap s) amount)
-          (is-held : put-holders ≡ putHolder holders gap (numbersIn (found .reached) s) (getD table (placeOf work found gap s) 0)) where
+          (is-held : Added holders put-holders gap (numbersIn (found .reached) s)) where
         put-length : length put ≡ length table
         put-length = rw is-put (length-set table (placeOf work found gap s) (getD table (placeOf work found gap s) 0 + amount))
 
@@ -136,32 +133,27 @@ module _ {work : Workload} {before holders-before : List ℕ} {found : SearchSta
 
         put-holding : Holding (problemIn work) (sharesIn (work .jobs) put) put-holders
         put-holding =
-            rw is-held (holding-put (can .sound .jobs-most) (can .sound .intervals-most) (now .holding) move-gap (can .to-move .some) put-grown)
+            holding-put (can .sound .jobs-most) (now .holding) (can .to-move .some) put-grown is-held
 
         put-kept : KeptPast (work .intervals * work .jobs) before put
         put-kept = rw is-put (kept-set (now .kept) _ _ (place-below move-gap mover-below))
 
-        pub put-length-holders : length put-holders ≡ maxIntervals
+        pub put-length-holders : length put-holders ≡ setWords
         put-length-holders = put-holding .holders-length
-
-        -- the job can leave the set of its source
-        pub put-leaves : getD put (placeOf work found (numbersIn (found .source) s) s) 0 ≡ amount
-            → 2 ^ numbersIn (found .reached) s ≤ getD put-holders (numbersIn (found .source) s) 0
-        put-leaves all = leave-fits put-holding source-below mover-below (omega (arith, can .to-move .some))
 
         -- and taken out of the source
         pub move-next : {after after-holders : List ℕ} {next : ℕ}
             → after ≡ takenAt put (placeOf work found (numbersIn (found .source) s) s) amount
-            → after-holders ≡ takenHolder put-holders (numbersIn (found .source) s) (numbersIn (found .reached) s)
+            → Lessened put-holders after-holders (numbersIn (found .source) s) (numbersIn (found .reached) s)
             (getD put (placeOf work found (numbersIn (found .source) s) s) 0) amount
             → next ≡ firstOpen (problemIn work) (found .count) (numbersIn (found .reached)) (numbersIn (found .source) s)
             → MoveAt work before found amount after after-holders (numbersIn (found .source) s) next
         move-next {after} {after-holders} is-after is-taken is-next =
-            rw (is-after, is-taken)
+            rw is-after
             (record {
               kept = kept-set put-kept _ _ source-place;
               holding =
-                  holding-taken (can .sound .jobs-most) (can .sound .intervals-most) put-holding source-below (can .to-move .some) taken-grown;
+                  holding-taken (can .sound .jobs-most) put-holding (can .to-move .some) taken-grown is-taken;
               is-first = is-next;
               passes = passes-next (now .passes) (sym (now .is-first)) more .1;
               moving = λ prices lefts job left band to-move.
@@ -178,15 +170,14 @@ module _ {work : Workload} {before holders-before : List ℕ} {found : SearchSta
 
     -- the last step
     pub move-end : s ≤ 0 → {after after-holders : List ℕ} → after ≡ putAt table (placeOf work found gap 0) amount
-        → after-holders ≡ putHolder holders gap (numbersIn (found .reached) 0) (getD table (placeOf work found gap 0) 0)
+        → Added holders after-holders gap (numbersIn (found .reached) 0)
         → MovedTables work before after after-holders found amount
     move-end last {after} {after-holders} is-after is-held =
         record {
           kept = rw is-after (kept-set (now .kept) _ _ (place-below move-gap first-below));
           holding =
-              rw (is-after, is-held)
-              (holding-put (can .sound .jobs-most) (can .sound .intervals-most) (now .holding) move-gap (can .to-move .some)
-              (grown-put move-gap first-below table room));
+              rw is-after
+              (holding-put (can .sound .jobs-most) (now .holding) (can .to-move .some) (grown-put move-gap first-below table room) is-held);
           moves = λ prices lefts job left band to-move.
               let (bound, moving) = now .moving prices lefts job left band to-move in
               let origin = to-move .reaching .now .origin in

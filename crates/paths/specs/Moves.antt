@@ -1,13 +1,13 @@
 -- Moving cycles along a path, in plain arrays.
-use Prim.Native.Nat.{ℕ, suc, _+_, _-_, _*_, _^_, _<_, _≤_}
+use Prim.Native.Nat.{ℕ, suc, _+_, _-_, _*_, _<_, _≤_}
 use mathlib.Core.Path.{_≡_}
-use mathlib.Core.Bool.{cond}
 use mathlib.Core.List.{List}
 use lib.ListN.{length, getD, set}
 use lib.Dec.{eqb}
 use Rattle.model.specs.Limits.{maxJobs}
 use Rattle.model.specs.Sum.{onlyIf}
 use Rattle.model.specs.Plans.{Shares, sharesIn}
+use Rattle.job_sets.specs.IntervalSets.{Removed}
 use Rattle.workloads.specs.declared.Workload.{Workload}
 use Rattle.workloads.specs.Placement.{Problem, loadOf}
 use Rattle.workloads.specs.Arrays.{numbersIn, problemIn, SoundWorkload, Holding, lentWindows, KeptPast}
@@ -22,12 +22,11 @@ putAt table place amount = set table place (getD table place 0 + amount)
 abbrev pub takenAt : List ℕ → (place amount : ℕ) → List ℕ
 takenAt table place amount = set table place (getD table place 0 - amount)
 
--- The jobs with a share in an interval, where one share grows from `share`, and where one falls from `share` by an amount.
-abbrev pub putHolder : (holders : List ℕ) → (interval job share : ℕ) → List ℕ
-putHolder holders interval job share = cond (eqb share 0) (set holders interval (getD holders interval 0 + 2 ^ job)) holders
-
-abbrev pub takenHolder : (holders : List ℕ) → (interval job share amount : ℕ) → List ℕ
-takenHolder holders interval job share amount = cond (eqb share amount) (set holders interval (getD holders interval 0 - 2 ^ job)) holders
+-- The sets of the jobs with a share, where the share of a job in an interval falls by an amount: it leaves the set where no share
+-- is left.
+pub record Lessened (before after : List ℕ) (interval job share amount : ℕ) : Type 0 where
+  pub leaves : share ≡ amount → Removed before after interval job
+  pub stays : (share ≡ amount → ⊥) → after ≡ before
 
 -- `amount` cycles can go along the path from the target back to the job being placed.
 abbrev pub PathPasses : Workload → (table : List ℕ) → SearchState → (amount : ℕ) → Type 0

@@ -13,6 +13,7 @@ use crate::Turn;
 use crate::shares::put;
 use crate::shares::share_of;
 use crate::shares::take;
+use job_sets::SET_WORDS;
 use model::MAX_INTERVALS;
 use model::MAX_JOBS;
 use searching::Found;
@@ -23,7 +24,7 @@ pub fn fill(
     last: &[usize; MAX_JOBS],
     shares: &mut [u32],
     room: &mut [u64; MAX_INTERVALS],
-    holders: &mut [u64; MAX_INTERVALS],
+    holders: &mut [u64; SET_WORDS],
     reached: &[usize; MAX_JOBS],
     source: &[usize; MAX_JOBS],
     found: Found,
@@ -87,7 +88,7 @@ fn move_along(
     first: &[usize; MAX_JOBS],
     last: &[usize; MAX_JOBS],
     shares: &mut [u32],
-    holders: &mut [u64; MAX_INTERVALS],
+    holders: &mut [u64; SET_WORDS],
     reached: &[usize; MAX_JOBS],
     source: &[usize; MAX_JOBS],
     found: Found,

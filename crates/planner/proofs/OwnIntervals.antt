@@ -3,7 +3,7 @@
 -- Assumes nothing.
 use mathlib.Core.Path.{_≡_, refl}
 use mathlib.Core.List.{List}
-use Prim.Native.Nat.{ℕ, suc, _+_, _-_, _*_, _^_, _<_, _≤_}
+use Prim.Native.Nat.{ℕ, suc, _+_, _-_, _*_, _<_, _≤_}
 use native.Mathlib.Omega.{arith}
 use lib.Dec.{eqb}
 use lib.ListN.{length, getD, set}
@@ -11,6 +11,7 @@ use Rattle.model.specs.Limits.{maxJobs, maxIntervals, maxDeadline, maxFrequency
 use Rattle.model.specs.Sum.{onlyIf}
 use Rattle.model.specs.Plans.{Shares, sharesIn}
 use Rattle.model.proofs.Sum.{sum-term}
+use Rattle.job_sets.specs.IntervalSets.{Added}
 use Rattle.workloads.specs.declared.Workload.{Workload}
 use Rattle.workloads.specs.Placement.{Problem, SoundProblem, Open, loadOf}
 use Rattle.workloads.specs.Arrays.{numbersIn, problemIn, KeptPast}
@@ -20,11 +21,11 @@ use Rattle.searching.specs.Reached.{Reached}
 use Rattle.searching.proofs.ReachedRange.{reached-start}
 use Rattle.paths.specs.Placing.{Placing}
 use Rattle.paths.specs.Paths.{Grown, Moving}
-use Rattle.paths.specs.Moves.{putAt, putHolder}
+use Rattle.paths.specs.Moves.{putAt}
 use Rattle.paths.specs.FilledTargets.{PlacingTables}
 use Rattle.paths.proofs.Placing.{placed-most}
 use Rattle.paths.proofs.GrownShares.{grown-put}
-use Rattle.paths.proofs.HeldJobs.{join-fits, holding-put}
+use Rattle.paths.proofs.HeldJobs.{holding-put}
 use Rattle.paths.proofs.PathSteps.{moving-start, moving-end, new-load}
 use Rattle.paths.proofs.FillSteps.{room-less, room-most}
 
@@ -74,13 +75,9 @@ module _ {work : Workload} {table room holders : List ℕ} {prices lefts : ℕ �
         tables .stored .sound .cycles-most job below,
       )
 
-  -- the job can join the set of the interval where it has no share
-  pub own-joins : getD table (interval * work .jobs + job) 0 ≡ 0 → getD holders interval 0 + 2 ^ job < 2 ^ maxJobs
-  own-joins none = join-fits (tables .stored .holding) own-inside (tables .placing .job-below) (tables .stored .sound .jobs-most) none
-
   module _ {amount : ℕ} (some : 0 < amount) (within : amount ≤ left) (most : amount ≤ numbersIn room interval)
       {after holders-after : List ℕ} (is-after : after ≡ putAt table (interval * work .jobs + job) amount)
-      (is-held : holders-after ≡ putHolder holders interval job (getD table (interval * work .jobs + job) 0)) where
+      (is-held : Added holders holders-after interval job) where
     pub own-kept : KeptPast (work .intervals * work .jobs) table after
     own-kept = rw is-after (kept-set (kept-refl _ table) _ _ (place-below own-inside (tables .placing .job-below)))
 
@@ -101,8 +98,7 @@ module _ {work : Workload} {table room holders : List ℕ} {prices lefts : ℕ �
                 room-at =
                     room-less (tables .stored .room-at) own-inside most (own-load (sound .sound) (tables .placing) is-open some fits grown)
                     (omega (arith, sound .intervals-most, tables .stored .room-at .room-length));
-                holding =
-                    rw is-held (holding-put (sound .jobs-most) (sound .intervals-most) (tables .stored .holding) own-inside some grown);
+                holding = holding-put (sound .jobs-most) (tables .stored .holding) some grown is-held;
               };
           placing = own-placing (sound .sound) (tables .placing) is-open some fits grown (omega arith);
         }

@@ -11,6 +11,7 @@ use lib.Seq.{getD-set-same, getD-set-other, set-getD}
 use Rattle.model.specs.Limits.{maxJobs, maxDeadline, maxFrequency, maxIntervals}
 use Rattle.model.specs.Plans.{sharesIn}
 use Rattle.model.proofs.Sum.{sum-zero}
+use Rattle.job_sets.specs.IntervalSets.{setWords}
 use Rattle.workloads.specs.declared.Workload.{Workload}
 use Rattle.workloads.specs.Placement.{Open, loadOf}
 use Rattle.workloads.specs.RangesFit.{RangesFit}
@@ -33,7 +34,7 @@ use Rattle.planner.proofs.FullRange.{range-order, next-band}
 -- nothing is placed
 pub tables-start : {work : Workload} → SoundWorkload work → length (work .cycles) ≡ maxJobs → (table : List ℕ)
     → work .intervals * work .jobs ≤ length table → ((k : ℕ) → k < work .intervals * work .jobs → numbersIn table k ≡ 0)
-    → BandStart work table (replicate maxIntervals 0) (replicate maxIntervals 0) (work .cycles) (numbersIn (replicate maxIntervals 0)) 0
+    → BandStart work table (replicate maxIntervals 0) (replicate setWords 0) (work .cycles) (numbersIn (replicate maxIntervals 0)) 0
 tables-start {work} sound cycles-length table room cleared =
     let no-share : (i j : ℕ) → i < work .intervals → j < work .jobs → sharesIn (work .jobs) table i j ≡ 0 =
     λ i j inside below. cleared (i * work .jobs + j) (place-below inside below) in
@@ -50,7 +51,7 @@ tables-start {work} sound cycles-length table room cleared =
                       rw (zeros maxIntervals i, sound .sound .start) (omega arith);
                   room-past = λ i past. zeros maxIntervals i;
                 };
-            holding = holding-start no-share (zeros maxIntervals);
+            holding = holding-start no-share;
           };
       left-length = cycles-length;
       filling = filling-none (sound .sound) (sharesIn (work .jobs) table) (numbersIn (replicate maxIntervals 0)) no-share (λ i inside. zeros maxIntervals i);

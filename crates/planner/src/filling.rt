@@ -2,6 +2,7 @@
 ghost use Prim.Native.Nat.{ℕ, _+_, _<_};
 ghost use Rattle.workloads.specs.Arrays.{numbersIn};
 ghost use Rattle.planner.specs.OwnWindows.{RangeFill, RangeFilled, TurnFill, TurnFilled, WindowsPass, WindowsPassed};
+use job_sets::SET_WORDS;
 use model::MAX_INTERVALS;
 use model::MAX_JOBS;
 use paths::Turn;
@@ -15,7 +16,7 @@ pub(crate) fn fill_jobs(
     order: &[usize; MAX_JOBS],
     shares: &mut [u32],
     room: &mut [u64; MAX_INTERVALS],
-    holders: &mut [u64; MAX_INTERVALS],
+    holders: &mut [u64; SET_WORDS],
     left: &mut [u64; MAX_JOBS],
     jobs: usize,
 )
@@ -44,7 +45,7 @@ fn fill_job(
     last: &[usize; MAX_JOBS],
     shares: &mut [u32],
     room: &mut [u64; MAX_INTERVALS],
-    holders: &mut [u64; MAX_INTERVALS],
+    holders: &mut [u64; SET_WORDS],
     turn: Turn,
 ) -> u64
     requires { ⌜ TurnFill (now first) (now last) (now shares) (now room) (now holders) turn ⌝ }
@@ -62,7 +63,7 @@ fn fill_job(
 fn fill_range(
     shares: &mut [u32],
     room: &mut [u64; MAX_INTERVALS],
-    holders: &mut [u64; MAX_INTERVALS],
+    holders: &mut [u64; SET_WORDS],
     turn: Turn,
     start: usize,
     end: usize,
@@ -92,7 +93,7 @@ fn fill_range(
 fn fill_interval(
     shares: &mut [u32],
     room: &mut [u64; MAX_INTERVALS],
-    holders: &mut [u64; MAX_INTERVALS],
+    holders: &mut [u64; SET_WORDS],
     turn: Turn,
     interval: usize,
 ) -> u64

@@ -1,5 +1,6 @@
 // Placing what is left of the jobs along paths, at a band.
 ghost use Rattle.planner.specs.BandPasses.{WindowsPlace, WindowsPlaced, TurnRaise, TurnRaised, WindowsRaise, WindowsRaised};
+use job_sets::SET_WORDS;
 use model::MAX_INTERVALS;
 use model::MAX_JOBS;
 use paths::Turn;
@@ -23,7 +24,7 @@ pub(crate) fn move_jobs(
     last: &[usize; MAX_JOBS],
     shares: &mut [u32],
     room: &mut [u64; MAX_INTERVALS],
-    holders: &mut [u64; MAX_INTERVALS],
+    holders: &mut [u64; SET_WORDS],
     prices: &mut [u64; MAX_INTERVALS],
     left: &mut [u64; MAX_JOBS],
     jobs: usize,
@@ -53,7 +54,7 @@ fn move_job(
     last: &[usize; MAX_JOBS],
     shares: &mut [u32],
     room: &mut [u64; MAX_INTERVALS],
-    holders: &mut [u64; MAX_INTERVALS],
+    holders: &mut [u64; SET_WORDS],
     prices: &mut [u64; MAX_INTERVALS],
     band: u64,
     turn: Turn,
@@ -84,7 +85,7 @@ fn move_cycles(
     last: &[usize; MAX_JOBS],
     shares: &mut [u32],
     room: &mut [u64; MAX_INTERVALS],
-    holders: &mut [u64; MAX_INTERVALS],
+    holders: &mut [u64; SET_WORDS],
     turn: Turn,
 ) -> Rest
     requires { ⌜ WindowsPlace (now first) (now last) (now shares) (now room) (now holders) turn ⌝ }

@@ -11,6 +11,7 @@ use crate::moving::move_jobs;
 use crate::order::by_deadline;
 use crate::rooms::add_band;
 use crate::rooms::loads_of;
+use job_sets::SET_WORDS;
 use model::MAX_INTERVALS;
 use model::MAX_JOBS;
 use model::MAX_POINTS;
@@ -42,7 +43,7 @@ pub fn place<'a>(
     clear(shares, intervals * jobs);
     *loads = [0; MAX_INTERVALS];
     *prices = [0; MAX_INTERVALS];
-    let mut holders = [0u64; MAX_INTERVALS];
+    let mut holders = [0u64; SET_WORDS];
     let mut left = *cycles;
     let order = by_deadline(last, jobs);
     let mut band = 0;

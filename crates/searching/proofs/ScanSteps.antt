@@ -2,28 +2,28 @@
 -- scanned.
 -- Assumes nothing.
 use mathlib.Core.Path.{_≡_, refl, sym, _∙_}
-use mathlib.Core.Bool.{cond}
+use mathlib.Core.Bool.{true, false, cond}
 use mathlib.Core.Logic.{_⊎_, inl, inr}
 use mathlib.Core.List.{List}
-use Prim.Native.Nat.{ℕ, _+_, _-_, _^_, _<_, _≤_}
+use Prim.Native.Nat.{ℕ, _+_, _<_, _≤_}
 use native.Mathlib.Nat.{eq-or-lt-of-le, le-of-suc-le-suc}
 use native.Mathlib.Decide.{ℕ-discrete}
 use native.Mathlib.Numerals.{add-one}
 use native.Mathlib.Omega.{arith}
 use lib.Dec.{ltb}
-use lib.Bits.{bitAnd, and-le-l}
 use lib.ListN.{length, set, length-set}
 use lib.Seq.{getD-set-same, getD-set-other}
-use borrow.Author.Tests.{lt-ltb, le-ltb}
+use borrow.Author.Tests.{lt-ltb, le-ltb, ltb-true}
 use Rattle.model.specs.Limits.{maxJobs}
 use Rattle.model.specs.Plans.{Shares}
-use Rattle.model.proofs.Numbers.{lt-or-le}
-use Rattle.workloads.specs.Words.{bit}
+use Rattle.model.proofs.Numbers.{lt-or-le, true≢false, both-true}
+use Rattle.job_sets.specs.declared.JobSet.{JobSet}
+use Rattle.job_sets.specs.JobSets.{isMember, isEmpty, noJobs, allJobs, withoutJob, inBoth}
+use Rattle.job_sets.proofs.JobSets.{none-has, all-has, without-here, without-other, both-has, empty-has}
 use Rattle.workloads.specs.Placement.{Problem, SoundProblem, OnlyOpen}
 use Rattle.workloads.specs.Arrays.{numbersIn}
-use Rattle.workloads.proofs.Words.{bit-most, bit-all, bit-and, bit-least, bit-take, bit-take-other}
 use Rattle.searching.specs.Reached.{Appended, IsListed}
-use Rattle.searching.specs.Reaching.{SearchState, onlyJob, withJob, Reaching, ToScan, ScanOf}
+use Rattle.searching.specs.Reaching.{SearchState, onlyJob, withReached, Reaching, ToScan, ScanOf}
 use Rattle.searching.proofs.Listing.{listed-kept}
 use Rattle.searching.proofs.ReachedRange.{reached-few, reached-start, reached-more}
 
@@ -50,18 +50,18 @@ listed-before {count} {value} {before} {after} more j (s, below, is) = go (eq-or
     go (inr earlier) = inl (s, earlier, sym (more .same s earlier) ∙ is)
 
 -- a set without one of its jobs
-module _ (set job : ℕ) (has : bit job set ≡ 1) where
-  marked-one : (j : ℕ) → bit j (set - 2 ^ job) ≡ 0 → (j ≡ job) ⊎ (bit j set ≡ 0)
-  marked-one j e = go (ℕ-discrete j job)
+module _ (jobs : JobSet) (job : ℕ) where
+  without-lacks : (j : ℕ) → isMember (withoutJob jobs job) j ≡ false → (j ≡ job) ⊎ (isMember jobs j ≡ false)
+  without-lacks j lacks = go (ℕ-discrete j job)
     where
-      go : Dec (j ≡ job) → (j ≡ job) ⊎ (bit j set ≡ 0)
+      go : Dec (j ≡ job) → (j ≡ job) ⊎ (isMember jobs j ≡ false)
       go (yes here) = inl here
-      go (no other) = inr (sym (bit-take-other job set has j other) ∙ e)
+      go (no other) = inr (sym (without-other jobs job j other) ∙ lacks)
 
-  unmarked-one : (j : ℕ) → bit j (set - 2 ^ job) ≡ 1 → (j ≡ job → ⊥) × (bit j set ≡ 1)
-  unmarked-one j e =
-      let other : j ≡ job → ⊥ = λ here. let one = rw here at e in omega (arith, bit-take job set has) in
-      (other, sym (bit-take-other job set has j other) ∙ e)
+  without-keeps : (j : ℕ) → isMember (withoutJob jobs job) j ≡ true → (j ≡ job → ⊥) × (isMember jobs j ≡ true)
+  without-keeps j has =
+      let other : j ≡ job → ⊥ = λ here. true≢false (sym (rw here at has) ∙ without-here jobs job) in
+      (other, sym (without-other jobs job j other) ∙ has)
 
 -- at the start of the search
 pub reaching-start : {p : Problem} {shares : Shares} → SoundProblem p → p .jobs ≤ maxJobs → {job : ℕ} → job < p .jobs
@@ -70,18 +70,15 @@ pub reaching-start : {p : Problem} {shares : Shares} → SoundProblem p → p .j
 reaching-start {p} {shares} sound most {job} below reached source origin jobs-length sources-length =
     record {
       now = reached-start sound below _ _ origin;
-      marked = λ j inside e. (0, omega arith, origin ∙ sym (its j (omega arith) (marked-one (2 ^ maxJobs - 1) job all j e)));
-      unmarked = λ j inside e listed. unmarked-one (2 ^ maxJobs - 1) job all j e .0 (only j listed);
+      marked = λ j inside lacks. (0, omega arith, origin ∙ sym (its j (omega arith) (without-lacks allJobs job j lacks)));
+      unmarked = λ j inside has listed. without-keeps allJobs job j has .0 (only j listed);
       reached-length = jobs-length;
       source-length = sources-length;
     }
   where
-    all : bit job (2 ^ maxJobs - 1) ≡ 1
-    all = bit-all maxJobs job (omega arith)
-
-    its : (j : ℕ) → j < maxJobs → (j ≡ job) ⊎ (bit j (2 ^ maxJobs - 1) ≡ 0) → j ≡ job
+    its : (j : ℕ) → j < maxJobs → (j ≡ job) ⊎ (isMember allJobs j ≡ false) → j ≡ job
     its j small (inl here) = here
-    its j small (inr e) = absurd (omega (arith, bit-all maxJobs j small))
+    its j small (inr lacks) = absurd (true≢false (sym (all-has j small) ∙ lacks))
 
     only : (j : ℕ) → IsListed 1 (numbersIn reached) j → j ≡ job
     only j (s, first, is) = let e : s ≡ 0 = omega arith in sym (rw e at is) ∙ origin
@@ -89,7 +86,7 @@ reaching-start {p} {shares} sound most {job} below reached source origin jobs-le
 -- a job that is not listed, with a share in a reached interval
 module _ {p : Problem} (sound : SoundProblem p) (most : p .jobs ≤ maxJobs) {shares : Shares} (shut : OnlyOpen p shares) {job : ℕ} {found : SearchState}
     (reaching : Reaching p shares job found) {interval j : ℕ} (from : found .start ≤ interval) (to : interval < found .end)
-    (below : j < p .jobs) (share : 0 < shares interval j) (new : bit j (found .unlisted) ≡ 1) where
+    (below : j < p .jobs) (share : 0 < shares interval j) (new : isMember (found .unlisted) j ≡ true) where
   -- there is room for it in the list
   pub reach-room : found .count < maxJobs
   reach-room =
@@ -97,15 +94,15 @@ module _ {p : Problem} (sound : SoundProblem p) (most : p .jobs ≤ maxJobs) {sh
       (appended _ (found .count) interval) in
       omega (arith, reached-few more)
 
-  pub reaching-more : Reaching p shares job (withJob found j interval (p .first j) (p .last j))
+  pub reaching-more : Reaching p shares job (withReached found j interval (p .first j) (p .last j))
   reaching-more =
       record {
         now =
             rw (add-one (found .count))
             (reached-more sound (reaching .now) shut from to below share (reaching .unmarked j below new) jobs-more
             (appended-set (found .source) (found .count) interval (omega (arith, reach-room, reaching .source-length))));
-        marked = λ k inside e. listed-now k inside (marked-one (found .unlisted) j new k e);
-        unmarked = λ k inside e listed. let (other, before) = unmarked-one (found .unlisted) j new k e in
+        marked = λ k inside lacks. listed-now k inside (without-lacks (found .unlisted) j k lacks);
+        unmarked = λ k inside has listed. let (other, before) = without-keeps (found .unlisted) j k has in
             not-now k (reaching .unmarked k inside before) other (listed-before jobs-more k listed);
         reached-length = length-set (found .reached) (found .count) j ∙ reaching .reached-length;
         source-length = length-set (found .source) (found .count) interval ∙ reaching .source-length;
@@ -114,7 +111,7 @@ module _ {p : Problem} (sound : SoundProblem p) (most : p .jobs ≤ maxJobs) {sh
       jobs-more : Appended (found .count) (numbersIn (found .reached)) (numbersIn (set (found .reached) (found .count) j)) j
       jobs-more = appended-set (found .reached) (found .count) j (omega (arith, reach-room, reaching .reached-length))
 
-      listed-now : (k : ℕ) → k < p .jobs → (k ≡ j) ⊎ (bit k (found .unlisted) ≡ 0)
+      listed-now : (k : ℕ) → k < p .jobs → (k ≡ j) ⊎ (isMember (found .unlisted) k ≡ false)
           → IsListed (found .count + 1) (numbersIn (set (found .reached) (found .count) j)) k
       listed-now k inside (inl here) = (found .count, omega arith, jobs-more .here ∙ sym here)
       listed-now k inside (inr e) = listed-kept (omega arith) (jobs-more .same) (reaching .marked k inside e)
@@ -124,9 +121,9 @@ module _ {p : Problem} (sound : SoundProblem p) (most : p .jobs ≤ maxJobs) {sh
       not-now k before other (inl listed) = before listed
       not-now k before other (inr here) = other here
 
-module _ {p : Problem} {shares : Shares} {job holders : ℕ} {before : SearchState} {interval : ℕ} (to-scan : ToScan p shares job holders before interval) where
+module _ {p : Problem} {shares : Shares} {job : ℕ} {holders : JobSet} {before : SearchState} {interval : ℕ} (to-scan : ToScan p shares job holders before interval) where
   -- no job yet: those that are not listed are new
-  pub scan-start : ScanOf p shares job before interval (bitAnd holders (before .unlisted)) before
+  pub scan-start : ScanOf p shares job before interval (inBoth holders (before .unlisted)) before
   scan-start =
       record {
         reaching = to-scan .reaching;
@@ -134,62 +131,74 @@ module _ {p : Problem} {shares : Shares} {job holders : ℕ} {before : SearchSta
         end-least = omega arith;
         longer = omega arith;
         same = λ s below. refl;
-        listed = λ j below share none.
-            to-scan .reaching .marked j below
-            (omega (arith, bit-and j holders (before .unlisted), to-scan .held j below, bit-most j (before .unlisted)));
-        new-small = omega (arith, and-le-l holders (before .unlisted), to-scan .held-small);
+        listed = λ j below share lacks.
+            let has : isMember holders j ≡ true = to-scan .held j below ∙ lt-ltb 0 (shares interval j) share in
+            to-scan .reaching .marked j below (rw has at (sym (both-has holders (before .unlisted) j) ∙ lacks));
         new-below = new-below;
-        new-share = λ j one. omega (arith, to-scan .held j (new-below j one), common j one);
-        new-unlisted = λ j one. omega (arith, common j one, bit-most j (before .unlisted));
+        new-share = λ j has. ltb-true 0 (shares interval j) (sym (to-scan .held j (new-below j has)) ∙ common j has .0);
+        new-unlisted = λ j has. common j has .1;
         same-target = refl;
       }
     where
-      common : (j : ℕ) → bit j (bitAnd holders (before .unlisted)) ≡ 1 → (1 ≤ bit j holders) × (1 ≤ bit j (before .unlisted))
-      common j one = (omega (arith, bit-and j holders (before .unlisted)), omega (arith, bit-and j holders (before .unlisted)))
+      common : (j : ℕ) → isMember (inBoth holders (before .unlisted)) j ≡ true → (isMember holders j ≡ true) × (isMember (before .unlisted) j ≡ true)
+      common j has = both-true (isMember holders j) (isMember (before .unlisted) j) (sym (both-has holders (before .unlisted) j) ∙ has)
 
-      new-below : (j : ℕ) → bit j (bitAnd holders (before .unlisted)) ≡ 1 → j < p .jobs
-      new-below j one = go (lt-or-le j (p .jobs))
+      new-below : (j : ℕ) → isMember (inBoth holders (before .unlisted)) j ≡ true → j < p .jobs
+      new-below j has = go (lt-or-le j (p .jobs))
         where
           go : (j < p .jobs) ⊎ (p .jobs ≤ j) → j < p .jobs
           go (inl below) = below
-          go (inr past) = absurd (omega (arith, to-scan .held-past j past, common j one))
+          go (inr past) = absurd (true≢false (sym (common j has .0) ∙ to-scan .held-past j past))
 
-  module _ {new : ℕ} {found : SearchState} (scan : ScanOf p shares job before interval new found) (j : ℕ) (one : bit j new ≡ 1) where
-    pub scan-room : found .count < maxJobs
-    scan-room =
-        reach-room (to-scan .sound) (to-scan .jobs-most) (to-scan .shut) (scan .reaching) {interval = interval}
-        (omega (arith, scan .start-most, to-scan .from)) (omega (arith, scan .end-least, to-scan .to)) (scan .new-below j one) (scan .new-share j one)
-        (scan .new-unlisted j one)
-
-    pub scan-least : 2 ^ j ≤ found .unlisted
-    scan-least = bit-least j (found .unlisted) (scan .new-unlisted j one)
-
-    -- a job that is not listed yet
-    pub scan-reach : ScanOf p shares job before interval (new - 2 ^ j) (withJob found j interval (p .first j) (p .last j))
-    scan-reach =
+  module _ {new : JobSet} {found : SearchState} (scan : ScanOf p shares job before interval new found) where
+    -- no job is new any more
+    pub scan-end : isEmpty new ≡ true → ScanOf p shares job before interval noJobs found
+    scan-end none =
         record {
-          reaching =
-              reaching-more (to-scan .sound) (to-scan .jobs-most) (to-scan .shut) (scan .reaching)
-              (omega (arith, scan .start-most, to-scan .from)) (omega (arith, scan .end-least, to-scan .to)) (scan .new-below j one)
-              (scan .new-share j one) (scan .new-unlisted j one);
-          start-most = omega (arith, scan .start-most);
-          end-least = omega (arith, scan .end-least);
-          longer = omega (arith, scan .longer);
-          same = λ s h. jobs-more .same s (omega (arith, scan .longer)) ∙ scan .same s h;
-          listed = λ k below share none. listed-now k below share (marked-one new j one k none);
-          new-small = omega (arith, scan .new-small);
-          new-below = λ k has. scan .new-below k (unmarked-one new j one k has .1);
-          new-share = λ k has. scan .new-share k (unmarked-one new j one k has .1);
-          new-unlisted = λ k has.
-              let (other, before-it) = unmarked-one new j one k has in
-              bit-take-other j (found .unlisted) (scan .new-unlisted j one) k other ∙ scan .new-unlisted k before-it;
+          reaching = scan .reaching;
+          start-most = scan .start-most;
+          end-least = scan .end-least;
+          longer = scan .longer;
+          same = scan .same;
+          listed = λ j below share lacks. scan .listed j below share (empty-has new none j);
+          new-below = λ j has. absurd (true≢false (sym has ∙ none-has j));
+          new-share = λ j has. absurd (true≢false (sym has ∙ none-has j));
+          new-unlisted = λ j has. absurd (true≢false (sym has ∙ none-has j));
           same-target = scan .same-target;
         }
-      where
-        jobs-more : Appended (found .count) (numbersIn (found .reached)) (numbersIn (set (found .reached) (found .count) j)) j
-        jobs-more = appended-set (found .reached) (found .count) j (omega (arith, scan-room, scan .reaching .reached-length))
 
-        listed-now : (k : ℕ) → k < p .jobs → 0 < shares interval k → (k ≡ j) ⊎ (bit k new ≡ 0)
-            → IsListed (found .count + 1) (numbersIn (set (found .reached) (found .count) j)) k
-        listed-now k below share (inl here) = (found .count, omega arith, jobs-more .here ∙ sym here)
-        listed-now k below share (inr none) = listed-kept (omega arith) (jobs-more .same) (scan .listed k below share none)
+    module _ (j : ℕ) (is-new : isMember new j ≡ true) where
+      pub scan-room : found .count < maxJobs
+      scan-room =
+          reach-room (to-scan .sound) (to-scan .jobs-most) (to-scan .shut) (scan .reaching) {interval = interval}
+          (omega (arith, scan .start-most, to-scan .from)) (omega (arith, scan .end-least, to-scan .to)) (scan .new-below j is-new)
+          (scan .new-share j is-new) (scan .new-unlisted j is-new)
+
+      -- a job that is not listed yet
+      pub scan-reach : ScanOf p shares job before interval (withoutJob new j) (withReached found j interval (p .first j) (p .last j))
+      scan-reach =
+          record {
+            reaching =
+                reaching-more (to-scan .sound) (to-scan .jobs-most) (to-scan .shut) (scan .reaching)
+                (omega (arith, scan .start-most, to-scan .from)) (omega (arith, scan .end-least, to-scan .to)) (scan .new-below j is-new)
+                (scan .new-share j is-new) (scan .new-unlisted j is-new);
+            start-most = omega (arith, scan .start-most);
+            end-least = omega (arith, scan .end-least);
+            longer = omega (arith, scan .longer);
+            same = λ s h. jobs-more .same s (omega (arith, scan .longer)) ∙ scan .same s h;
+            listed = λ k below share lacks. listed-now k below share (without-lacks new j k lacks);
+            new-below = λ k has. scan .new-below k (without-keeps new j k has .1);
+            new-share = λ k has. scan .new-share k (without-keeps new j k has .1);
+            new-unlisted = λ k has.
+                let (other, before-it) = without-keeps new j k has in
+                without-other (found .unlisted) j k other ∙ scan .new-unlisted k before-it;
+            same-target = scan .same-target;
+          }
+        where
+          jobs-more : Appended (found .count) (numbersIn (found .reached)) (numbersIn (set (found .reached) (found .count) j)) j
+          jobs-more = appended-set (found .reached) (found .count) j (omega (arith, scan-room, scan .reaching .reached-length))
+
+          listed-now : (k : ℕ) → k < p .jobs → 0 < shares interval k → (k ≡ j) ⊎ (isMember new k ≡ false)
+              → IsListed (found .count + 1) (numbersIn (set (found .reached) (found .count) j)) k
+          listed-now k below share (inl here) = (found .count, omega arith, jobs-more .here ∙ sym here)
+          listed-now k below share (inr lacks) = listed-kept (omega arith) (jobs-more .same) (scan .listed k below share lacks)

@@ -10,9 +10,11 @@ use lib.ListN.{length, set, length-set}
 use lib.Seq.{getD-set-same}
 use Rattle.model.specs.Limits.{maxJobs, maxIntervals}
 use Rattle.model.specs.Plans.{Shares}
+use Rattle.job_sets.specs.JobSets.{noJobs}
+use Rattle.job_sets.specs.IntervalSets.{setIn}
+use Rattle.job_sets.proofs.JobSets.{none-has}
 use Rattle.workloads.specs.Placement.{Problem, SoundProblem, OnlyOpen, loadOf}
 use Rattle.workloads.specs.Arrays.{numbersIn, RoomAt, Holding}
-use Rattle.workloads.proofs.Words.{bit-none}
 use Rattle.searching.specs.Reached.{Scanned}
 use Rattle.searching.specs.Reaching.{SearchState, onlyJob, NextInterval, Reaching, ToScan, ScanOf, Searched}
 use Rattle.searching.proofs.ReachedRange.{scanned-kept}
@@ -103,7 +105,7 @@ module _ {p : Problem} (sound : SoundProblem p) (most : p .jobs ≤ maxJobs) {sh
       pub next-inside : next < p .intervals
       next-inside = omega (arith, is-next .inside below, scanning .reaching .now .end-below)
 
-      pub next-to-scan : OnlyOpen p shares → {holders : List ℕ} → Holding p shares holders → ToScan p shares job (numbersIn holders next) found next
+      pub next-to-scan : OnlyOpen p shares → {holders : List ℕ} → Holding p shares holders → ToScan p shares job (setIn holders next) found next
       next-to-scan shut holding =
           record {
             sound = sound;
@@ -114,11 +116,10 @@ module _ {p : Problem} (sound : SoundProblem p) (most : p .jobs ≤ maxJobs) {sh
             to = is-next .inside below .1;
             held = λ j inside. holding .held next j next-inside inside;
             held-past = λ j past. holding .held-past next j next-inside past;
-            held-small = holding .held-small next next-inside;
           }
 
       -- an interval that is full is scanned
-      pub scanning-next : p .size next * p .frequency (suc band) ≤ loadOf p shares next → {after : SearchState} → ScanOf p shares job found next 0 after
+      pub scanning-next : p .size next * p .frequency (suc band) ≤ loadOf p shares next → {after : SearchState} → ScanOf p shares job found next noJobs after
           → Scanning p shares job band after (min low next) (max high (next + 1))
       scanning-next full {after} scan =
           record {
@@ -132,7 +133,7 @@ module _ {p : Problem} (sound : SoundProblem p) (most : p .jobs ≤ maxJobs) {sh
         where
           go : (i : ℕ) → min low next ≤ i → i < max high (next + 1) → Dec (i ≡ next)
               → Scanned p shares band (after .count) (numbersIn (after .reached)) i
-          go i from to (yes here) = rw here (record { full = full; listed = λ j below share. scan .listed j below share (bit-none j) })
+          go i from to (yes here) = rw here (record { full = full; listed = λ j below share. scan .listed j below share (none-has j) })
           go i from to (no other) =
               scanned-kept (scan .longer) (scan .same)
               (scanning .scanned i (omega (arith, other, is-next .beside below)) (omega (arith, other, is-next .beside below)))

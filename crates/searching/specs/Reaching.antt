@@ -1,11 +1,14 @@
 -- What the search has found, in plain arrays.
-use Prim.Native.Nat.{ℕ, suc, _+_, _-_, _*_, _^_, _<_, _≤_, min, max}
+use Prim.Native.Nat.{ℕ, suc, _+_, _-_, _*_, _<_, _≤_, min, max}
 use mathlib.Core.Path.{_≡_}
+use mathlib.Core.Bool.{true, false}
 use mathlib.Core.List.{List}
 use lib.ListN.{length, set}
+use lib.Dec.{ltb}
 use Rattle.model.specs.Limits.{maxJobs, maxIntervals}
 use Rattle.model.specs.Plans.{Shares}
-use Rattle.workloads.specs.Words.{bit}
+use Rattle.job_sets.specs.declared.JobSet.{JobSet}
+use Rattle.job_sets.specs.JobSets.{isMember, noJobs, allJobs, withoutJob}
 use Rattle.workloads.specs.Placement.{Problem, SoundProblem, OnlyOpen, loadOf}
 use Rattle.workloads.specs.Arrays.{numbersIn, RoomAt, Holding}
 use Rattle.searching.specs.declared.reached.Found.{Found}
@@ -16,7 +19,7 @@ pub record SearchState : Type 0 where
   pub count : ℕ
   pub reached : List ℕ
   pub source : List ℕ
-  pub unlisted : ℕ
+  pub unlisted : JobSet
   pub start : ℕ
   pub end : ℕ
   pub target : ℕ
@@ -40,20 +43,20 @@ onlyJob job first last reached source =
       count = 1;
       reached = reached;
       source = source;
-      unlisted = 2 ^ maxJobs - 1 - 2 ^ job;
+      unlisted = withoutJob allJobs job;
       start = first;
       end = last;
       target = maxIntervals;
     }
 
 -- One job more, with the interval in which it has a share and its window.
-abbrev pub withJob : SearchState → (job source first last : ℕ) → SearchState
-withJob found job source first last =
+abbrev pub withReached : SearchState → (job source first last : ℕ) → SearchState
+withReached found job source first last =
     record {
       count = found .count + 1;
       reached = set (found .reached) (found .count) job;
       source = set (found .source) (found .count) source;
-      unlisted = found .unlisted - 2 ^ job;
+      unlisted = withoutJob (found .unlisted) job;
       start = min (found .start) first;
       end = max (found .end) last;
       target = found .target;
@@ -68,38 +71,36 @@ pub record NextInterval (low high start end next : ℕ) : Type 0 where
   pub done : maxIntervals ≤ next → (low ≤ start) × (end ≤ high)
 
 module _ (p : Problem) (shares : Shares) where
-  -- The arrays of the search hold what is reached from a job, and a word has the jobs that are not.
+  -- The arrays of the search hold what is reached from a job, and a set has the jobs that are not.
   pub record Reaching (job : ℕ) (found : SearchState) : Type 0 where
     pub now : Reached p shares job (found .count) (numbersIn (found .reached)) (numbersIn (found .source)) (found .start) (found .end)
-    pub marked : (j : ℕ) → j < p .jobs → bit j (found .unlisted) ≡ 0 → IsListed (found .count) (numbersIn (found .reached)) j
-    pub unmarked : (j : ℕ) → j < p .jobs → bit j (found .unlisted) ≡ 1 → IsListed (found .count) (numbersIn (found .reached)) j → ⊥
+    pub marked : (j : ℕ) → j < p .jobs → isMember (found .unlisted) j ≡ false → IsListed (found .count) (numbersIn (found .reached)) j
+    pub unmarked : (j : ℕ) → j < p .jobs → isMember (found .unlisted) j ≡ true → IsListed (found .count) (numbersIn (found .reached)) j → ⊥
     pub reached-length : length (found .reached) ≡ maxJobs
     pub source-length : length (found .source) ≡ maxJobs
 
-  -- A reached interval is to be scanned. `holders` is the set of the jobs with a share there.
-  pub record ToScan (job : ℕ) (holders : ℕ) (found : SearchState) (interval : ℕ) : Type 0 where
+  -- A reached interval is to be scanned, with the set of the jobs that have a share there.
+  pub record ToScan (job : ℕ) (set : JobSet) (found : SearchState) (interval : ℕ) : Type 0 where
     pub sound : SoundProblem p
     pub jobs-most : p .jobs ≤ maxJobs
     pub shut : OnlyOpen p shares
     pub reaching : Reaching job found
     pub from : found .start ≤ interval
     pub to : interval < found .end
-    pub held : (j : ℕ) → j < p .jobs → bit j holders ≡ min 1 (shares interval j)
-    pub held-past : (j : ℕ) → p .jobs ≤ j → bit j holders ≡ 0
-    pub held-small : holders < 2 ^ maxJobs
+    pub held : (j : ℕ) → j < p .jobs → isMember set j ≡ ltb 0 (shares interval j)
+    pub held-past : (j : ℕ) → p .jobs ≤ j → isMember set j ≡ false
 
   -- While an interval is scanned: the jobs with a share there are listed, but for those in the set `new`.
-  pub record ScanOf (job : ℕ) (before : SearchState) (interval new : ℕ) (found : SearchState) : Type 0 where
+  pub record ScanOf (job : ℕ) (before : SearchState) (interval : ℕ) (new : JobSet) (found : SearchState) : Type 0 where
     pub reaching : Reaching job found
     pub start-most : found .start ≤ before .start
     pub end-least : before .end ≤ found .end
     pub longer : before .count ≤ found .count
     pub same : (s : ℕ) → s < before .count → numbersIn (found .reached) s ≡ numbersIn (before .reached) s
-    pub listed : (j : ℕ) → j < p .jobs → 0 < shares interval j → bit j new ≡ 0 → IsListed (found .count) (numbersIn (found .reached)) j
-    pub new-small : new < 2 ^ maxJobs
-    pub new-below : (j : ℕ) → bit j new ≡ 1 → j < p .jobs
-    pub new-share : (j : ℕ) → bit j new ≡ 1 → 0 < shares interval j
-    pub new-unlisted : (j : ℕ) → bit j new ≡ 1 → bit j (found .unlisted) ≡ 1
+    pub listed : (j : ℕ) → j < p .jobs → 0 < shares interval j → isMember new j ≡ false → IsListed (found .count) (numbersIn (found .reached)) j
+    pub new-below : (j : ℕ) → isMember new j ≡ true → j < p .jobs
+    pub new-share : (j : ℕ) → isMember new j ≡ true → 0 < shares interval j
+    pub new-unlisted : (j : ℕ) → isMember new j ≡ true → isMember (found .unlisted) j ≡ true
     pub same-target : found .target ≡ before .target
 
   -- The target has room at the band.
@@ -141,17 +142,17 @@ withWindows p jobs first last =
     }
 
 -- To a function that is lent the windows of a problem alone: the interval is one to be scanned, of some such problem.
-pub record CanScan (first last : List ℕ) (holders : ℕ) (found : SearchState) (interval : ℕ) : Type 0 where
+pub record CanScan (first last : List ℕ) (set : JobSet) (found : SearchState) (interval : ℕ) : Type 0 where
   pub problem : Problem
   pub shares : Shares
   pub job : ℕ
-  pub to-scan : ToScan (withWindows problem (problem .jobs) first last) shares job holders found interval
+  pub to-scan : ToScan (withWindows problem (problem .jobs) first last) shares job set found interval
 
 -- The interval is scanned, of each such problem.
-abbrev pub Scans : (first last : List ℕ) → (holders : ℕ) → (before : SearchState) → (interval : ℕ) → (found : SearchState) → Type 0
-Scans first last holders before interval found =
-    (p : Problem) (shares : Shares) (job : ℕ) → ToScan (withWindows p (p .jobs) first last) shares job holders before interval
-    → ScanOf (withWindows p (p .jobs) first last) shares job before interval 0 found
+abbrev pub Scans : (first last : List ℕ) → (set : JobSet) → (before : SearchState) → (interval : ℕ) → (found : SearchState) → Type 0
+Scans first last set before interval found =
+    (p : Problem) (shares : Shares) (job : ℕ) → ToScan (withWindows p (p .jobs) first last) shares job set before interval
+    → ScanOf (withWindows p (p .jobs) first last) shares job before interval noJobs found
 
 -- Likewise: an interval with room can be looked for, of some such problem.
 pub record CanSearch (first last room holders : List ℕ) (job : ℕ) : Type 0 where

@@ -1,15 +1,16 @@
 // What a search has reached: the jobs, and the range of intervals in which they are open.
 ghost use mathlib.Core.Path.{_≡_};
-ghost use Prim.Native.Nat.{ℕ, _^_, _<_, _≤_, min, max};
+ghost use Prim.Native.Nat.{ℕ, _<_, min, max};
 ghost use mathlib.Core.List.{List};
 ghost use lib.ListN.{length};
 ghost use Rattle.model.specs.Limits.{maxJobs};
-ghost use Rattle.searching.specs.Reaching.{stateOf, onlyJob, withJob, CanScan, Scans};
+ghost use Rattle.searching.specs.Reaching.{stateOf, onlyJob, withReached, CanScan, Scans};
+use job_sets::JobSet;
 use model::MAX_INTERVALS;
 use model::MAX_JOBS;
 
 // What is reached: `count` jobs, and the intervals from `start` up to, not including, `end`. `unlisted` is the set of the
-// other jobs, as a word, bit number equal to job number. The target is an interval with room, MAX_INTERVALS where none was
+// other jobs. The target is an interval with room, MAX_INTERVALS where none was
 // found. The jobs stand in an array beside this, and in another one each but the first has an interval, its source, where
 // it has a share.
 pub struct Found {
@@ -17,7 +18,7 @@ pub struct Found {
     pub start: usize,
     pub end: usize,
     pub target: usize,
-    pub unlisted: u64,
+    pub unlisted: JobSet,
 }
 
 // Only the job being placed is reached.
@@ -25,35 +26,36 @@ pub fn only(job: usize, first: usize, last: usize) -> Found
     requires { ⌜ job < maxJobs ⌝ }
     ensures { λ r. ⌜ ((reached source : List ℕ) → stateOf r reached source ≡ onlyJob job first last reached source) ⌝ }
 {
+    let unlisted = job_sets::without(job_sets::all(), job);
     Found {
         count: 1,
         start: first,
         end: last,
         target: MAX_INTERVALS,
-        unlisted: u64::MAX - (1u64 << job),
+        unlisted,
     }
 }
 
-// Lists the jobs that have a share in a reached interval. `holders` is their set.
+// Lists the jobs that have a share in a reached interval, which are those of a set.
 pub(crate) fn scan(
     first: &[usize; MAX_JOBS],
     last: &[usize; MAX_JOBS],
-    holders: u64,
+    set: JobSet,
     before: Found,
     interval: usize,
     reached: &mut [usize; MAX_JOBS],
     source: &mut [usize; MAX_JOBS],
 ) -> Found
-    requires { ⌜ CanScan (now first) (now last) holders (stateOf before (now reached) (now source)) interval ⌝ }
-    ensures { λ r. ⌜ Scans (now (first .entry)) (now (last .entry)) holders (stateOf before (now (reached .entry)) (now (source .entry))) interval
+    requires { ⌜ CanScan (now first) (now last) set (stateOf before (now reached) (now source)) interval ⌝ }
+    ensures { λ r. ⌜ Scans (now (first .entry)) (now (last .entry)) set (stateOf before (now (reached .entry)) (now (source .entry))) interval
         (stateOf r (now (reached .exit)) (now (source .exit))) ⌝ }
 {
     let mut found = before;
-    let mut new = holders & found.unlisted;
-    while new > 0 {
-        let job = u64::trailing_zeros(new) as usize;
+    let mut new = job_sets::both(set, before.unlisted);
+    while !job_sets::is_empty(new) {
+        let job = job_sets::least(new);
         found = reach(found, job, interval, first[job], last[job], reached, source);
-        new -= 1u64 << job;
+        new = job_sets::without(new, job);
     }
     found
 }
@@ -68,20 +70,21 @@ fn reach(
     reached: &mut [usize; MAX_JOBS],
     source: &mut [usize; MAX_JOBS],
 ) -> Found
-    requires { ⌜ (before .count < maxJobs) × (job < maxJobs) × (2 ^ job ≤ before .unlisted) ⌝ }
+    requires { ⌜ (before .count < maxJobs) × (job < maxJobs) ⌝ }
     requires { ⌜ (length (now reached) ≡ maxJobs) × (length (now source) ≡ maxJobs) ⌝ }
     ensures { λ r. ⌜ stateOf r (now (reached .exit)) (now (source .exit))
-        ≡ withJob (stateOf before (now (reached .entry)) (now (source .entry))) job interval first last ⌝ }
+        ≡ withReached (stateOf before (now (reached .entry)) (now (source .entry))) job interval first last ⌝ }
 {
     let count = before.count;
     reached[count] = job;
     source[count] = interval;
+    let unlisted = job_sets::without(before.unlisted, job);
     Found {
         count: count + 1,
         start: smaller(before.start, first),
         end: larger(before.end, last),
         target: before.target,
-        unlisted: before.unlisted - (1u64 << job),
+        unlisted,
     }
 }
 

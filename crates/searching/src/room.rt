@@ -10,6 +10,7 @@ use crate::reached::larger;
 use crate::reached::only;
 use crate::reached::scan;
 use crate::reached::smaller;
+use job_sets::SET_WORDS;
 use model::MAX_INTERVALS;
 use model::MAX_JOBS;
 
@@ -19,7 +20,7 @@ pub fn search(
     first: &[usize; MAX_JOBS],
     last: &[usize; MAX_JOBS],
     room: &[u64; MAX_INTERVALS],
-    holders: &[u64; MAX_INTERVALS],
+    holders: &[u64; SET_WORDS],
     job: usize,
     reached: &mut [usize; MAX_JOBS],
     source: &mut [usize; MAX_JOBS],
@@ -40,7 +41,8 @@ pub fn search(
             found.target = next;
             return found;
         }
-        found = scan(first, last, holders[next], found, next, reached, source);
+        let set = job_sets::set_at(holders, next);
+        found = scan(first, last, set, found, next, reached, source);
         low = smaller(low, next);
         high = larger(high, next + 1);
         next = next_interval(low, high, found.start, found.end);

@@ -1,5 +1,4 @@
 -- Laws of what is to be placed.
-pub mod Words
 pub mod Capacity
 pub mod SharesTable
 pub mod StoredNumbers

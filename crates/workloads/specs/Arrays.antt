@@ -1,12 +1,15 @@
 -- What is to be placed, and shares and loads, in plain arrays.
-use Prim.Native.Nat.{ℕ, _+_, _*_, _^_, _<_, _≤_, min}
+use Prim.Native.Nat.{ℕ, _+_, _*_, _<_, _≤_}
 use mathlib.Core.Path.{_≡_}
+use mathlib.Core.Bool.{false}
 use mathlib.Core.List.{List}
 use lib.ListN.{length, getD, drop}
+use lib.Dec.{ltb}
 use Rattle.model.specs.Limits.{maxLevels, maxFrequency, maxJobs, maxDeadline, maxCycles, maxIntervals}
 use Rattle.model.specs.Plans.{Shares, sharesIn}
+use Rattle.job_sets.specs.JobSets.{isMember}
+use Rattle.job_sets.specs.IntervalSets.{setWords, setIn}
 use Rattle.workloads.specs.declared.Workload.{Workload}
-use Rattle.workloads.specs.Words.{bit}
 use Rattle.workloads.specs.Placement.{Problem, SoundProblem, loadOf}
 
 -- The numbers of an array by place, 0 past its end.
@@ -63,12 +66,11 @@ pub record RoomAt (p : Problem) (shares : Shares) (frequency : ℕ) (room : List
   pub room-is : (i : ℕ) → i < p .intervals → numbersIn room i + loadOf p shares i ≡ p .size i * frequency
   pub room-past : (i : ℕ) → p .intervals ≤ i → numbersIn room i ≡ 0
 
--- For each interval a word has the jobs with a share there.
+-- For each interval a set has the jobs with a share there, and no other.
 pub record Holding (p : Problem) (shares : Shares) (holders : List ℕ) : Type 0 where
-  pub holders-length : length holders ≡ maxIntervals
-  pub held : (i j : ℕ) → i < p .intervals → j < p .jobs → bit j (numbersIn holders i) ≡ min 1 (shares i j)
-  pub held-past : (i j : ℕ) → i < p .intervals → p .jobs ≤ j → bit j (numbersIn holders i) ≡ 0
-  pub held-small : (i : ℕ) → i < p .intervals → numbersIn holders i < 2 ^ maxJobs
+  pub holders-length : length holders ≡ setWords
+  pub held : (i j : ℕ) → i < p .intervals → j < p .jobs → isMember (setIn holders i) j ≡ ltb 0 (shares i j)
+  pub held-past : (i j : ℕ) → i < p .intervals → p .jobs ≤ j → isMember (setIn holders i) j ≡ false
 
 -- A workload with other windows.
 abbrev pub lentWindows : Workload → (jobs : ℕ) → (first last : List ℕ) → Workload

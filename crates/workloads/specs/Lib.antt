@@ -1,5 +1,4 @@
 -- What is to be placed, and what placed shares and their prices are.
-pub mod Words
 pub mod Placement
 pub mod RangesFit
 pub mod SiteProblem

@@ -9,7 +9,7 @@ use Rattle.workloads.specs.Arrays.{problemIn, lentWindows}
 use Rattle.searching.specs.Reaching.{stateOf}
 use Rattle.paths.specs.Moves.{CanMove, WindowsMoved}
 use Rattle.paths.proofs.WalkSteps.{reaching-fits, path-falls}
-use Rattle.paths.proofs.MoveSteps.{MoveAt, move-start, move-listed, move-gap, move-place, move-fits, move-joins, source-below, put-place, put-enough, put-length-holders, put-leaves, move-next, move-end}
+use Rattle.paths.proofs.MoveSteps.{MoveAt, move-start, move-listed, move-gap, move-place, move-fits, source-below, put-place, put-enough, put-length-holders, move-next, move-end}
 use Rattle.paths.proofs.path.move_along.Statement.{statement}
 use Rattle.paths.proofs.path.move_along.Tie as tie
 
@@ -58,12 +58,9 @@ put-requires c κs =
     let listed = move-listed can now-at in (
       (move-place can now-at listed, omega (arith, move-fits can now-at listed)),
       (
-        (
-          omega (arith, move-gap can now-at, can .sound .intervals-most),
-          reaching-fits (can .to-move .reaching) (can .sound .jobs-most) .1 _ listed,
-          now-at .holding .holders-length,
-        ),
-        move-joins can now-at listed,
+        omega (arith, move-gap can now-at, can .sound .intervals-most),
+        reaching-fits (can .to-move .reaching) (can .sound .jobs-most) .1 _ listed,
+        now-at .holding .holders-length,
       ),
     )
 
@@ -82,12 +79,9 @@ take-requires c κs =
     let put = c .before .before .before .before .before .put .ensures in (
       (put-place can now-at more (put .0) (put .1), put-enough can now-at more (put .0) (put .1)),
       (
-        (
-          omega (arith, source-below can now-at more, can .sound .intervals-most),
-          reaching-fits (can .to-move .reaching) (can .sound .jobs-most) .1 _ (move-listed can now-at),
-          put-length-holders can now-at more (put .0) (put .1),
-        ),
-        put-leaves can now-at more (put .0) (put .1),
+        omega (arith, source-below can now-at more, can .sound .intervals-most),
+        reaching-fits (can .to-move .reaching) (can .sound .jobs-most) .1 _ (move-listed can now-at),
+        put-length-holders can now-at more (put .0) (put .1),
       ),
     )
 
@@ -122,12 +116,9 @@ put-requires-2 c κs =
     let some = can .to-move .reaching .now .some in (
       (move-place can now-at some, omega (arith, move-fits can now-at some)),
       (
-        (
-          omega (arith, move-gap can now-at, can .sound .intervals-most),
-          reaching-fits (can .to-move .reaching) (can .sound .jobs-most) .1 _ some,
-          now-at .holding .holders-length,
-        ),
-        move-joins can now-at some,
+        omega (arith, move-gap can now-at, can .sound .intervals-most),
+        reaching-fits (can .to-move .reaching) (can .sound .jobs-most) .1 _ some,
+        now-at .holding .holders-length,
       ),
     )
 

@@ -2,8 +2,6 @@
 use mathlib.Core.Path.{refl}
 use mathlib.Core.Logic.{⊎-elim}
 use borrow.Author.Needs.{needs}
-use borrow.Author.Tests.{eq-eqb, ne-eqb}
-use Rattle.model.proofs.OpenSets.{bit-shifted}
 use Rattle.paths.proofs.shares.take.Statement.{statement}
 use Rattle.paths.proofs.shares.take.Tie as tie
 
@@ -19,22 +17,8 @@ mul-if1 c = search needs
 slice-read-if1 : tie.Need-slice-read-if1
 slice-read-if1 c = search needs
 
-shl-holders : tie.Need-shl-holders
-shl-holders c = search needs
-
-mul-holders : tie.Need-mul-holders
-mul-holders c = search needs
-
-element-copy-out-holders : tie.Need-element-copy-out-holders
-element-copy-out-holders c = search needs
-
-sub-holders : tie.Need-sub-holders
-sub-holders c =
-    let start = c .before .before .before in
-    rw (bit-shifted (start .args .job) (start .pre .1 .0 .1)) (start .pre .1 .1 (c .before .if1 .taken))
-
-element-write-holders : tie.Need-element-write-holders
-element-write-holders c = search needs
+remove-requires : tie.Need-remove-requires
+remove-requires c κs = search needs
 
 mul-shares : tie.Need-mul-shares
 mul-shares c = search needs
@@ -52,12 +36,13 @@ same-length : tie.Need-same-length
 same-length c = search needs
 
 returns : tie.Need-returns
-returns c =
-    let start = c .before .before .before in (
-      refl,
-      ⊎-elim (λ w. rw (eq-eqb _ _ (w .0 .taken), ← bit-shifted (start .args .job) (start .pre .1 .0 .1)) (w .2))
-          (λ w. rw (ne-eqb _ _ (w .0 .left), w .1)) (c .before .if1 .came),
-    )
+returns c = (
+  refl,
+  ⊎-elim
+      (λ w. record { leaves = λ all. rw (w .3) (w .2 .ensures); stays = λ more. absurd (more (w .0 .taken)) })
+      (λ w. record { leaves = λ all. absurd (w .0 .left all); stays = λ more. w .1 })
+      (c .before .if1 .came),
+)
 
 pub take-spec : {M : Type 1} → statement M
 take-spec =
@@ -67,11 +52,7 @@ take-spec =
     add-place
     mul-if1
     slice-read-if1
-    shl-holders
-    mul-holders
-    element-copy-out-holders
-    sub-holders
-    element-write-holders
+    remove-requires
     mul-shares
     slice-read-shares
     sub-shares

@@ -10,7 +10,7 @@ use Rattle.workloads.specs.Placement.{Open}
 use Rattle.workloads.specs.Arrays.{numbersIn, problemIn, lentJobs}
 use Rattle.workloads.proofs.SharesTable.{kept-refl}
 use Rattle.planner.specs.OwnWindows.{CanFillRange}
-use Rattle.planner.proofs.OwnIntervals.{own-small, own-job, own-place, own-room, own-share, own-joins, own-kept, own-filled}
+use Rattle.planner.proofs.OwnIntervals.{own-small, own-job, own-place, own-room, own-share, own-kept, own-filled}
 use Rattle.planner.proofs.filling.fill_interval.Statement.{statement}
 use Rattle.planner.proofs.filling.fill_interval.Tie as tie
 
@@ -58,7 +58,7 @@ put-requires c κs =
     let tables = start .pre .0 .4 .tables in
     let here = is-open start (start .pre .0 .0) (start .pre .0 .4) in (
       (own-place tables here, omega (arith, own-share tables here, most joined, own-room tables here)),
-      ((own-small tables here, own-job tables here, tables .stored .holding .holders-length), own-joins tables here),
+      (own-small tables here, own-job tables here, tables .stored .holding .holders-length),
     )
 
 sub-room : tie.Need-sub-room

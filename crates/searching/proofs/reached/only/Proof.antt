@@ -1,17 +1,16 @@
 -- `reached::only` meets its contract. Assumes nothing.
 use borrow.Author.Needs.{needs}
-use Rattle.model.proofs.OpenSets.{bit-shifted}
 use Rattle.searching.proofs.reached.only.Statement.{statement}
 use Rattle.searching.proofs.reached.only.Tie as tie
 
-shl-t5 : tie.Need-shl-t5
-shl-t5 c = search needs
+all-requires : tie.Need-all-requires
+all-requires c κs = search needs
 
-sub-t6 : tie.Need-sub-t6
-sub-t6 c = search needs
+without-requires : tie.Need-without-requires
+without-requires c κs = search needs
 
 returns : tie.Need-returns
-returns c = λ reached source. rw (bit-shifted (c .args .job) (c .pre))
+returns c = λ reached source. rw (c .without .ensures, c .before .all .ensures)
 
 pub only-spec : {M : Type 1} → statement M
-only-spec = tie.close (tie.spec shl-t5 sub-t6 returns)
+only-spec = tie.close (tie.spec all-requires without-requires returns)

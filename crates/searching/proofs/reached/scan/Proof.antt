@@ -1,36 +1,46 @@
 -- `reached::scan` meets its contract. The loop's invariant: the jobs with a share in the interval are listed, but for those
 -- that are still in `new` (proofs/ScanSteps.antt). Assumes nothing.
-use mathlib.Core.Path.{_≡_, sym, subst}
-use Prim.Native.Nat.{ℕ, _-_, _^_, _<_}
+use mathlib.Core.Path.{_≡_, sym, subst, _∙_}
+use mathlib.Core.Bool.{true, false}
+use Prim.Native.Nat.{ℕ, _<_}
 use native.Mathlib.Omega.{arith}
-use lib.Count.{trailingZeros}
-use lib.Pow.{pow-pos}
+use borrow.Author.Tests.{not-true, not-false}
 use denote.Ref.{now}
+use Rattle.model.specs.Limits.{maxJobs}
 use Rattle.model.specs.Plans.{Shares}
-use Rattle.workloads.specs.Words.{bit}
+use Rattle.job_sets.specs.declared.JobSet.{JobSet}
+use Rattle.job_sets.specs.JobSets.{isMember, memberCount, isEmpty, withoutJob, inBoth}
+use Rattle.job_sets.proofs.JobSets.{count-without, least-has}
 use Rattle.workloads.specs.Placement.{Problem}
-use Rattle.workloads.proofs.Words.{bit-least, lowest-bit}
 use Rattle.searching.specs.Reaching.{SearchState, stateOf, withWindows, ToScan, ScanOf}
-use Rattle.searching.proofs.ScanSteps.{scan-start, scan-room, scan-least, scan-reach}
-use Rattle.model.proofs.OpenSets.{bit-shifted}
+use Rattle.searching.proofs.ScanSteps.{scan-start, scan-end, scan-room, scan-reach}
 use Rattle.searching.proofs.reached.scan.Statement.{statement}
 use Rattle.searching.proofs.reached.scan.Tie as tie
 
 abbrev Inv-loop : tie.InvT-loop
-Inv-loop first last holders interval reached₀ source₀ found₀ new₀ reached source found new =
-    (p : Problem) (shares : Shares) (job : ℕ)
-    → ToScan (withWindows p (p .jobs) first last) shares job holders (stateOf found₀ reached₀ source₀) interval
+Inv-loop first last interval reached₀ source₀ found₀ new₀ reached source found new =
+    (p : Problem) (shares : Shares) (job : ℕ) (set : JobSet) → new₀ ≡ inBoth set (found₀ .unlisted)
+    → ToScan (withWindows p (p .jobs) first last) shares job set (stateOf found₀ reached₀ source₀) interval
     → ScanOf (withWindows p (p .jobs) first last) shares job (stateOf found₀ reached₀ source₀) interval new (stateOf found reached source)
 
 abbrev μ-loop : tie.MeasureT-loop
-μ-loop first last holders interval reached₀ source₀ found₀ new₀ reached source found new = new
+μ-loop first last interval reached₀ source₀ found₀ new₀ reached source found new = memberCount new
+
+both-requires : tie.Need-both-requires Inv-loop μ-loop
+both-requires c κs = tt
+
+loop-holds : tie.Need-loop-holds Inv-loop μ-loop
+loop-holds c = λ p shares job set is-new to-scan. rw is-new (scan-start to-scan)
+
+is-empty-requires : tie.Need-is-empty-requires Inv-loop μ-loop
+is-empty-requires c κs = tt
+
+least-requires : tie.Need-least-requires Inv-loop μ-loop
+least-requires c κs = tt
 
 -- the function's entry
 abbrev entry : tie.At-loop Inv-loop μ-loop → tie.Start Inv-loop μ-loop
 entry c = c .before .before
-
-loop-holds : tie.Need-loop-holds Inv-loop μ-loop
-loop-holds c = λ p shares job to-scan. scan-start to-scan
 
 -- what is scanned, of the problem that is known
 at : (c : tie.At-loop Inv-loop μ-loop)
@@ -38,68 +48,63 @@ at : (c : tie.At-loop Inv-loop μ-loop)
     let can = entry c .pre in
     ScanOf (withWindows (can .problem) (can .problem .jobs) (now (a .first)) (now (a .last))) (can .shares) (can .job)
     (stateOf (a .before) (now (a .reached)) (now (a .source))) (a .interval) (c .loop .new) (stateOf (c .loop .found) (c .loop .reached) (c .loop .source))
-at c = let can = entry c .pre in c .loop .inv (can .problem) (can .shares) (can .job) (can .to-scan)
+at c =
+    let can = entry c .pre in
+    c .loop .inv (can .problem) (can .shares) (can .job) (entry c .args .set) (c .before .both .ensures) (can .to-scan)
 
--- the lowest of the new jobs
-lowest : (c : tie.In-loop Inv-loop μ-loop)
-    → let new = c .before .loop .new in
-    (trailingZeros 64 new < 64) × (bit (trailingZeros 64 new) new ≡ 1)
-lowest c = lowest-bit 64 (c .before .loop .new) (at (c .before) .new-small) (omega (arith, c .loop-test .taken))
+-- some job is new, and the least is one
+some : (c : tie.Then1 Inv-loop μ-loop) → isEmpty (c .before .before .loop .new) ≡ false
+some c = sym (c .before .is-empty .ensures) ∙ not-true _ (c .if1 .taken)
 
-cast-job : tie.Need-cast-job Inv-loop μ-loop
-cast-job c = omega (arith, lowest c .0)
+is-new : (c : tie.After-least Inv-loop μ-loop) → isMember (c .before .before .before .loop .new) (c .least .result) ≡ true
+is-new c = rw (c .least .ensures) (least-has (c .before .before .before .loop .new) (some (c .before)) .1)
+
+small : (c : tie.After-least Inv-loop μ-loop) → c .least .result < maxJobs
+small c = rw (c .least .ensures) (least-has (c .before .before .before .loop .new) (some (c .before)) .0)
 
 mul-reach : tie.Need-mul-reach Inv-loop μ-loop
-mul-reach c = omega (arith, lowest c .0)
+mul-reach c = omega (arith, small c)
 
 element-copy-out-reach : tie.Need-element-copy-out-reach Inv-loop μ-loop
-element-copy-out-reach c = lowest c .0
+element-copy-out-reach c = small c
 
 mul-reach-2 : tie.Need-mul-reach-2 Inv-loop μ-loop
-mul-reach-2 c = omega (arith, lowest (c .before) .0)
+mul-reach-2 c = omega (arith, small (c .before))
 
 element-copy-out-reach-2 : tie.Need-element-copy-out-reach-2 Inv-loop μ-loop
-element-copy-out-reach-2 c = lowest (c .before) .0
+element-copy-out-reach-2 c = small (c .before)
 
 reach-requires : tie.Need-reach-requires Inv-loop μ-loop
 reach-requires c κs =
     let turn = c .before .before .before .before in
-    let to-scan = entry (turn .before) .pre .to-scan in
-    let scan = at (turn .before) in
-    let one = lowest turn .1 in (
-      (scan-room to-scan scan _ one, lowest turn .0, scan-least to-scan scan _ one),
-      (scan .reaching .reached-length, scan .reaching .source-length),
-    )
+    let head = turn .before .before .before in
+    let scan = at head in
+    ((scan-room (entry head .pre .to-scan) scan _ (is-new turn), small turn), (scan .reaching .reached-length, scan .reaching .source-length))
 
-shl-new : tie.Need-shl-new Inv-loop μ-loop
-shl-new c = lowest (c .before .before .before .before .before) .0
-
-sub-new : tie.Need-sub-new Inv-loop μ-loop
-sub-new c =
-    let turn = c .before .before .before .before .before in
-    rw (bit-shifted _ (lowest turn .0)) (bit-least _ _ (lowest turn .1))
+without-requires : tie.Need-without-requires Inv-loop μ-loop
+without-requires c κs = small (c .before .before .before .before .before)
 
 loop-less : tie.Need-loop-less Inv-loop μ-loop
 loop-less c =
-    let turn = c .before .before .before .before .before in
-    let new = turn .before .loop .new in
-    rw (bit-shifted _ (lowest turn .0)) (omega (arith, turn .loop-test .taken, pow-pos (trailingZeros 64 new)))
+    let turn = c .before .before .before .before .before .before in
+    rw (c .without .ensures) (omega (arith, count-without (turn .before .before .before .loop .new) _ (is-new turn)))
 
 loop-again : tie.Need-loop-again Inv-loop μ-loop
-loop-again c = λ p shares job to-scan.
-    let turn = c .before .before .before .before .before in
-    let a = entry (turn .before) .args in
-    let new = turn .before .loop .new in
-    rw (bit-shifted _ (lowest turn .0))
+loop-again c = λ p shares job set is-first to-scan.
+    let turn = c .before .before .before .before .before .before in
+    let head = turn .before .before .before in
+    let a = entry head .args in
+    rw (c .without .ensures)
     (subst
     (λ (state : SearchState). ScanOf (withWindows p (p .jobs) (now (a .first)) (now (a .last))) shares job
-    (stateOf (a .before) (now (a .reached)) (now (a .source))) (a .interval) (new - 2 ^ trailingZeros 64 new) state)
-    (sym (c .reach .ensures)) (scan-reach to-scan (turn .before .loop .inv p shares job to-scan) _ (lowest turn .1)))
+    (stateOf (a .before) (now (a .reached)) (now (a .source))) (a .interval) (withoutJob (head .loop .new) (turn .least .result)) state)
+    (sym (c .before .reach .ensures)) (scan-reach to-scan (head .loop .inv p shares job set is-first to-scan) _ (is-new turn)))
 
 returns : tie.Need-returns Inv-loop μ-loop
 returns c = λ p shares job to-scan.
-    let none : c .before .loop .new ≡ 0 = omega arith in
-    rw none at (c .before .loop .inv p shares job to-scan)
+    let head = c .before .before in
+    scan-end to-scan (head .loop .inv p shares job (entry head .args .set) (head .before .both .ensures) to-scan)
+    (sym (c .before .is-empty .ensures) ∙ not-false _ (c .if1 .left))
 
 pub scan-spec : {M : Type 1} → statement M
 scan-spec =
@@ -107,15 +112,16 @@ scan-spec =
     (tie.spec
     Inv-loop
     μ-loop
+    both-requires
     loop-holds
-    cast-job
+    is-empty-requires
+    least-requires
     mul-reach
     element-copy-out-reach
     mul-reach-2
     element-copy-out-reach-2
     reach-requires
-    shl-new
-    sub-new
+    without-requires
     loop-less
     loop-again
     returns)

@@ -107,7 +107,8 @@ scanned c = λ p shares band can.
     let to-scan = next-to-scan (can .sound) (can .jobs-most) scanning is-next next (can .shut) (can .holding) in
     scanning-next (can .sound) (can .jobs-most) scanning is-next next
     (room-none (can .room-at) inside (c .before .before .before .before .if1 .left))
-    (c .scan .ensures (withWindows p (p .jobs) (now (a .first)) (now (a .last))) shares (a .job) to-scan)
+    (c .scan .ensures (withWindows p (p .jobs) (now (a .first)) (now (a .last))) shares (a .job)
+    (rw (c .before .before .before .set-at .ensures) to-scan))
 
 mul-if1 : tie.Need-mul-if1 Inv-loop μ-loop
 mul-if1 c = omega arith
@@ -135,11 +136,8 @@ returns c =
     let reaching = at (c .before .before .before) .reaching in
     (reaching .reached-length, reaching .source-length, target c)
 
-mul-scan : tie.Need-mul-scan Inv-loop μ-loop
-mul-scan c = omega arith
-
-element-copy-out-scan : tie.Need-element-copy-out-scan Inv-loop μ-loop
-element-copy-out-scan c = omega arith
+set-at-requires : tie.Need-set-at-requires Inv-loop μ-loop
+set-at-requires c κs = c .before .before .loop-test .taken
 
 scan-requires : tie.Need-scan-requires Inv-loop μ-loop
 scan-requires c κs =
@@ -152,8 +150,9 @@ scan-requires c κs =
       shares = can .shares;
       job = start .args .job;
       to-scan =
-          next-to-scan (to-search .sound) (to-search .jobs-most) (at (turn .before)) (turn .before .loop .inv .0) (turn .loop-test .taken)
-          (to-search .shut) (to-search .holding);
+          rw (c .before .before .set-at .ensures)
+          (next-to-scan (to-search .sound) (to-search .jobs-most) (at (turn .before)) (turn .before .loop .inv .0) (turn .loop-test .taken)
+          (to-search .shut) (to-search .holding));
     }
 
 smaller-requires : tie.Need-smaller-requires Inv-loop μ-loop
@@ -213,8 +212,7 @@ search-spec =
     mul-if1
     element-copy-out-if1
     returns
-    mul-scan
-    element-copy-out-scan
+    set-at-requires
     scan-requires
     smaller-requires
     add-larger
