@@ -8,7 +8,7 @@ use native.Mathlib.Omega.{arith}
 use lib.ListN.{length, getD, take, drop, length-take}
 use lib.Seq.{take-at, drop-at, getD-take}
 use Rattle.model.specs.declared.Job.{Job}
-use Rattle.model.specs.Limits.{maxIntervals, maxBounds}
+use Rattle.model.specs.Limits.{maxBounds}
 use Rattle.model.specs.Points.{Point}
 use Rattle.model.specs.Processors.{workingOf, topOf}
 use Rattle.model.specs.Intervals.{boundAt, intervalCount, openPairs}

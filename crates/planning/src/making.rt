@@ -3,6 +3,7 @@ ghost use Rattle.model.specs.Sites.{Site};
 ghost use Rattle.planning.specs.MadePlans.{CanMake, MadePlan};
 use crate::workload::workload_of;
 use energy::energy_figure;
+use job_sets::SET_WORDS;
 use model::MAX_BOUNDS;
 use model::MAX_INTERVALS;
 use model::MAX_JOBS;
@@ -39,6 +40,7 @@ pub(crate) fn make_plan(
     let work = workload_of(site, releases, deadlines, cycles, times);
     let mut loads = [0u64; MAX_INTERVALS];
     let mut numbers = [0u64; MAX_INTERVALS];
+    let mut holders = [0u64; SET_WORDS];
     let intervals = work.intervals;
     place(
         work.jobs,
@@ -52,6 +54,7 @@ pub(crate) fn make_plan(
         shares,
         &mut loads,
         &mut numbers,
+        &mut holders,
     );
     smallest_prices(
         work.jobs,
@@ -65,7 +68,7 @@ pub(crate) fn make_plan(
         &loads,
         &mut numbers,
     );
-    let steps = write_plan(shares, work.jobs, intervals, plan);
+    let steps = write_plan(shares, &holders, work.jobs, intervals, plan);
     write_prices(times, &numbers, intervals, prices);
     let energy = energy_figure(site.working, times, site.bounds, &loads);
     Figures {
