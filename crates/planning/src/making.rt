@@ -8,6 +8,7 @@ ghost use Rattle.tables.specs.Column.{columnOf};
 ghost use Rattle.planning.specs.MadePlans.{CanMake, MadePlan};
 use crate::workload::workload_of;
 use energy::energy_figure;
+use job_sets::SET_WORDS;
 use model::MAX_BOUNDS;
 use model::MAX_INTERVALS;
 use model::MAX_JOBS;
@@ -44,6 +45,7 @@ pub(crate) fn make_plan(
     let work = workload_of(site, releases, deadlines, cycles, times);
     let mut loads = [0u64; MAX_INTERVALS];
     let mut numbers = [0u64; MAX_INTERVALS];
+    let mut holders = [0u64; SET_WORDS];
     let intervals = work.intervals;
     place(
         work.jobs,
@@ -57,6 +59,7 @@ pub(crate) fn make_plan(
         shares,
         &mut loads,
         &mut numbers,
+        &mut holders,
     );
     smallest_prices(
         work.jobs,

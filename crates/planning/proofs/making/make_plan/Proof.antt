@@ -29,7 +29,7 @@ cycles-length c = search needs
 
 place-requires : tie.Need-place-requires
 place-requires c κs =
-    let working = c .before .before .before .before .before .before .before .before .before in
+    let working = c .before .before .before .before .before .before .before .before .before .before in
     let (site, can) = working .before .before .before .before .pre in
     let valid = can .in-arrays .valid in
     let made = working .workload-of .ensures site valid (can .in-arrays .holds) in (
@@ -39,7 +39,7 @@ place-requires c κs =
 
 -- the placing follows on the making of the workload
 abbrev making : tie.After-place → tie.After-workload-of
-making c = c .before .before .before .before .before .before .before .before .before .before
+making c = c .before .before .before .before .before .before .before .before .before .before .before
 
 -- the workload that is placed, and that some prices fit
 abbrev workload : tie.After-place → Workload
