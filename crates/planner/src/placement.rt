@@ -3,8 +3,9 @@ ghost use mathlib.Core.Path.{_≡_};
 ghost use Prim.Native.Nat.{ℕ, _*_, _<_, _≤_};
 ghost use lib.ListN.{length};
 ghost use Rattle.model.specs.Limits.{maxJobs};
+ghost use Rattle.model.specs.Plans.{sharesIn};
 ghost use Rattle.workloads.specs.RangesFit.{RangesFit};
-ghost use Rattle.workloads.specs.Arrays.{numbersIn, problemIn, workloadWith, SoundWorkload, KeptPast};
+ghost use Rattle.workloads.specs.Arrays.{numbersIn, problemIn, workloadWith, SoundWorkload, Holding, KeptPast};
 ghost use Rattle.planner.specs.PlacedTables.{PlacedTables};
 use crate::filling::fill_jobs;
 use crate::moving::move_jobs;
@@ -18,6 +19,7 @@ use model::MAX_POINTS;
 
 // Places all jobs, from an empty table. Prices are bands, counted from 0. At each band the jobs go into their own windows as
 // far as these have room, and what is still left of them goes along paths. Until the end the array of the loads has the room.
+// Beside the shares stand for each interval its load, its price and the set of the jobs with a share there.
 // The arrays of a workload are lent at one lifetime, so that they can be fields of one struct.
 pub fn place<'a>(
     jobs: usize,
@@ -31,6 +33,7 @@ pub fn place<'a>(
     shares: &mut [u32],
     loads: &mut [u64; MAX_INTERVALS],
     prices: &mut [u64; MAX_INTERVALS],
+    holders: &mut [u64; SET_WORDS],
 )
     requires { ⌜ SoundWorkload (workloadWith (now cycles) jobs intervals bands (now first) (now last) (now size) (now frequency)) ⌝ }
     requires { ⌜ RangesFit (problemIn (workloadWith (now cycles) jobs intervals bands (now first) (now last) (now size) (now frequency))) ⌝ }
@@ -38,34 +41,27 @@ pub fn place<'a>(
     requires { ⌜ length (now cycles) ≡ maxJobs ⌝ }
     ensures { λ _. ⌜ PlacedTables (workloadWith (now (cycles .entry)) jobs intervals bands (now (first .entry)) (now (last .entry)) (now (size .entry)) (now (frequency .entry)))
         (now (shares .exit)) (now (loads .exit)) (now (prices .exit))
-        × KeptPast (intervals * jobs) (now (shares .entry)) (now (shares .exit)) ⌝ }
+        × KeptPast (intervals * jobs) (now (shares .entry)) (now (shares .exit))
+        × Holding (problemIn (workloadWith (now (cycles .entry)) jobs intervals bands (now (first .entry)) (now (last .entry)) (now (size .entry)) (now (frequency .entry))))
+        (sharesIn jobs (now (shares .exit))) (now (holders .exit)) ⌝ }
 {
     clear(shares, intervals * jobs);
     *loads = [0; MAX_INTERVALS];
     *prices = [0; MAX_INTERVALS];
-    let mut holders = [0u64; SET_WORDS];
+    *holders = [0; SET_WORDS];
     let mut left = *cycles;
     let order = by_deadline(last, jobs);
     let mut band = 0;
     while band < bands {
         let gap = frequency[band + 1] - frequency[band];
         add_band(size, intervals, gap, loads);
-        fill_jobs(
-            first,
-            last,
-            &order,
-            shares,
-            loads,
-            &mut holders,
-            &mut left,
-            jobs,
-        );
+        fill_jobs(first, last, &order, shares, loads, holders, &mut left, jobs);
         move_jobs(
             first,
             last,
             shares,
             loads,
-            &mut holders,
+            holders,
             prices,
             &mut left,
             jobs,

@@ -8,7 +8,7 @@ use native.Mathlib.Omega.{arith}
 use lib.ListN.{length, getD, take, drop, length-take}
 use lib.Seq.{take-at, drop-at, getD-take}
 use Rattle.model.specs.declared.Job.{Job}
-use Rattle.model.specs.Limits.{maxIntervals, maxBounds}
+use Rattle.model.specs.Limits.{maxBounds}
 use Rattle.model.specs.Points.{Point}
 use Rattle.model.specs.Processors.{workingOf, topOf}
 use Rattle.model.specs.Intervals.{boundAt, intervalCount, openPairs}
@@ -16,7 +16,6 @@ use Rattle.model.specs.Sites.{Site, ValidSite}
 use Rattle.model.specs.Demands.{LongEnough}
 use Rattle.model.specs.Plans.{Gives, load, sharesIn}
 use Rattle.model.specs.Prices.{PriceList, FittingPrices}
-use Rattle.tables.specs.Column.{columnOf}
 use Rattle.tables.proofs.Column.{column-at}
 use Rattle.levels.specs.PointTables.{pointsOf}
 use Rattle.site.specs.declared.SiteTable.{SiteTable}
@@ -78,27 +77,26 @@ module _ {site : Site} {work : Workload} (valid : ValidSite site) (made : SiteWo
   unfolding load
   loaded i below = rw jobs-are at (tables .stored .loads-are i (omega (arith, intervals-are)))
 
-  module _ (numbers : List ℕ) (smallest : SmallestPriced (problemIn work) (sharesIn (work .jobs) table) (numbersIn numbers))
-      (counted : List ℕ) (counted-are : counted ≡ columnOf maxIntervals (work .intervals) (λ i. getD numbers i 0 + 1)) where
-    fitting : FittingPrices ws jobs (site .bounds) (sharesIn (length jobs) table) (λ i. suc (getD numbers i 0))
+  module _ (numbers : List ℕ) (smallest : SmallestPriced (problemIn work) (sharesIn (work .jobs) table) (numbersIn numbers)) where
+    -- as band numbers prices count from 1
+    abbrev counted : PriceList
+    counted i = suc (getD numbers i 0)
+
+    fitting : FittingPrices ws jobs (site .bounds) (sharesIn (length jobs) table) counted
     fitting = rw jobs-are at (smallest-prices-fit valid made smallest)
 
     least : (others : PriceList) → FittingPrices ws jobs (site .bounds) (sharesIn (length jobs) table) others
-        → (i : ℕ) → i < intervalCount (site .bounds) → suc (getD numbers i 0) ≤ others i
+        → (i : ℕ) → i < intervalCount (site .bounds) → counted i ≤ others i
     least = rw jobs-are at (smallest-prices-least valid made smallest)
 
-    counted-at : (i : ℕ) → i < intervalCount (site .bounds) → (getD counted i 0 ≡ suc (getD numbers i 0)) × (getD counted i 0 < 256)
-    counted-at i below =
-        let is : getD counted i 0 ≡ getD numbers i 0 + 1 =
-        rw counted-are
-        (column-at maxIntervals _ (work .intervals) i (omega (arith, intervals-are, made .sound .intervals-most)) (omega (arith, intervals-are))) in
-        (omega arith, omega (arith, made .sound .bands-most, smallest .priced .band i (omega (arith, intervals-are))))
+    byte : (i : ℕ) → i < intervalCount (site .bounds) → counted i < 256
+    byte i below = omega (arith, made .sound .bands-most, smallest .priced .band i (omega (arith, intervals-are)))
 
     module _ {held : SiteTable} {releases deadlines cycles times : List ℕ} (holds : HoldsSite site held releases deadlines cycles times) (steps energy : ℕ)
         (plan₀ prices₀ shares₀ plan prices : List ℕ) (kept : KeptPast (work .intervals * work .jobs) shares₀ table)
         (steps-are : steps ≡ length (stepsOf (work .jobs) (work .intervals) (sharesIn (work .jobs) table)))
         (plan-is : plan ≡ planOf (work .jobs) (work .intervals) (sharesIn (work .jobs) table) ++ drop (4 + 6 * steps) plan₀)
-        (prices-are : prices ≡ encodePrices (work .intervals) (λ i. getD times (suc i) 0) (λ i. getD counted i 0)
+        (prices-are : prices ≡ encodePrices (work .intervals) (λ i. getD times (suc i) 0) counted
         ++ drop (2 + 5 * work .intervals) prices₀)
         (energy-is : energy ≡ figureOfLoads (pointsOf (held .working)) (take (held .bounds) times) loads) where
       plan-size : length (planOf (work .jobs) (work .intervals) (sharesIn (work .jobs) table)) ≡ 4 + 6 * steps
@@ -107,11 +105,11 @@ module _ {site : Site} {work : Workload} (valid : ValidSite site) (made : SiteWo
       plan-first : take (4 + 6 * steps) plan ≡ planOf (length jobs) (intervalCount (site .bounds)) (sharesIn (length jobs) table)
       plan-first = rw (plan-is, take-at _ (drop (4 + 6 * steps) plan₀) (4 + 6 * steps) plan-size, jobs-are, intervals-are)
 
-      list-size : length (encodePrices (work .intervals) (λ i. getD times (suc i) 0) (λ i. getD counted i 0)) ≡ 2 + 5 * work .intervals
-      list-size = length-price-list (work .intervals) (λ i. getD times (suc i) 0) (λ i. getD counted i 0)
+      list-size : length (encodePrices (work .intervals) (λ i. getD times (suc i) 0) counted) ≡ 2 + 5 * work .intervals
+      list-size = length-price-list (work .intervals) (λ i. getD times (suc i) 0) counted
 
       list-first : take (2 + 5 * work .intervals) prices
-          ≡ encodePrices (intervalCount (site .bounds)) (λ i. getD times (suc i) 0) (λ i. getD counted i 0)
+          ≡ encodePrices (intervalCount (site .bounds)) (λ i. getD times (suc i) 0) counted
       list-first =
           rw (prices-are, take-at _ (drop (2 + 5 * work .intervals) prices₀) (2 + 5 * work .intervals) list-size, intervals-are)
 
@@ -127,7 +125,7 @@ module _ {site : Site} {work : Workload} (valid : ValidSite site) (made : SiteWo
         written = record {
           planned =
               rw (plan-first, list-first, intervals-are)
-              (plan-planned site valid (sharesIn (length jobs) table) gives (λ i. getD numbers i 0) (λ i. getD counted i 0) counted-at
+              (plan-planned site valid (sharesIn (length jobs) table) gives counted byte
               fitting least (λ i. getD times (suc i) 0) (ends-held valid holds) loads loaded steps energy
               (take (length jobs * intervalCount (site .bounds)) table) (rw (jobs-are, intervals-are) at steps-are) figure-is table-size table-at);
           plan-kept =
@@ -135,7 +133,7 @@ module _ {site : Site} {work : Workload} (valid : ValidSite site) (made : SiteWo
               (drop-at (planOf (work .jobs) (work .intervals) (sharesIn (work .jobs) table)) (drop (4 + 6 * steps) plan₀) (4 + 6 * steps) plan-size);
           prices-kept =
               rw prices-are
-              (drop-at (encodePrices (work .intervals) (λ i. getD times (suc i) 0) (λ i. getD counted i 0)) (drop (2 + 5 * work .intervals) prices₀) (2 + 5 * work .intervals) list-size);
+              (drop-at (encodePrices (work .intervals) (λ i. getD times (suc i) 0) counted) (drop (2 + 5 * work .intervals) prices₀) (2 + 5 * work .intervals) list-size);
           shares-kept = rw size at (kept .same-rest);
         };
         intervals-fit = omega (arith, made .sound .intervals-most);

@@ -55,9 +55,8 @@ module _ (site : Site) (valid : ValidSite site) where
       omega (arith, sum-term (N) (λ k. shares k j) i below, gives .whole j inside, valid .jobs .cycles-high j inside)
 
   module _ (shares : Shares) (gives : Gives (topOf (site .processor)) jobs bounds shares)
-      (numbers : ℕ → ℕ) (prices : PriceList) (are : (i : ℕ) → i < N → (prices i ≡ suc (numbers i)) × (prices i < 256))
-      (fitting : FittingPrices ws jobs bounds shares (λ i. suc (numbers i)))
-      (least : (others : PriceList) → FittingPrices ws jobs bounds shares others → (i : ℕ) → i < N → suc (numbers i) ≤ others i)
+      (prices : PriceList) (byte : (i : ℕ) → i < N → prices i < 256) (fitting : FittingPrices ws jobs bounds shares prices)
+      (least : (others : PriceList) → FittingPrices ws jobs bounds shares others → (i : ℕ) → i < N → prices i ≤ others i)
       (ends : ℕ → ℕ) (are-ends : (i : ℕ) → i < N → (ends i ≡ boundAt bounds (suc i)) × (ends i < 2 ^ 32))
       (loads : List ℕ) (loaded : (i : ℕ) → i < N → getD loads i 0 ≡ load jobs shares i) where
     abbrev plan : List ℕ
@@ -72,8 +71,8 @@ module _ (site : Site) (valid : ValidSite site) where
     same : (i j : ℕ) → i < N → j < length jobs → sharesOf plan i j ≡ shares i j
     same = written-shares (length jobs) (N) shares few intervals-few fit
 
-    read-prices : (i : ℕ) → i < N → pricesOf list i ≡ suc (numbers i)
-    read-prices i below = written-prices (N) ends prices intervals-few i below (are i below .1) ∙ are i below .0
+    read-prices : (i : ℕ) → i < N → pricesOf list i ≡ prices i
+    read-prices i below = written-prices (N) ends prices intervals-few i below (byte i below)
 
     accepted : Accepted site plan list
     accepted =

@@ -1,13 +1,9 @@
 // The plan where a site was read, no window of it is overfull, and the buffers are long enough.
-ghost use mathlib.Core.Path.{_≡_};
-ghost use Prim.Native.Nat.{ℕ, _+_, _<_, _≤_};
-ghost use lib.ListN.{getD};
-ghost use Rattle.model.specs.Limits.{maxIntervals};
 ghost use Rattle.model.specs.Sites.{Site};
-ghost use Rattle.tables.specs.Column.{columnOf};
 ghost use Rattle.planning.specs.MadePlans.{CanMake, MadePlan};
 use crate::workload::workload_of;
 use energy::energy_figure;
+use job_sets::SET_WORDS;
 use model::MAX_BOUNDS;
 use model::MAX_INTERVALS;
 use model::MAX_JOBS;
@@ -44,6 +40,7 @@ pub(crate) fn make_plan(
     let work = workload_of(site, releases, deadlines, cycles, times);
     let mut loads = [0u64; MAX_INTERVALS];
     let mut numbers = [0u64; MAX_INTERVALS];
+    let mut holders = [0u64; SET_WORDS];
     let intervals = work.intervals;
     place(
         work.jobs,
@@ -57,6 +54,7 @@ pub(crate) fn make_plan(
         shares,
         &mut loads,
         &mut numbers,
+        &mut holders,
     );
     smallest_prices(
         work.jobs,
@@ -70,27 +68,12 @@ pub(crate) fn make_plan(
         &loads,
         &mut numbers,
     );
-    let counted = from_one(&numbers, intervals);
-    let steps = write_plan(shares, work.jobs, intervals, plan);
-    write_prices(times, &counted, intervals, prices);
+    let steps = write_plan(shares, &holders, work.jobs, intervals, plan);
+    write_prices(times, &numbers, intervals, prices);
     let energy = energy_figure(site.working, times, site.bounds, &loads);
     Figures {
         intervals,
         steps,
         energy,
     }
-}
-
-// Prices as band numbers, which count from 1; zeros past the last.
-fn from_one(prices: &[u64; MAX_INTERVALS], count: usize) -> [u64; MAX_INTERVALS]
-    requires { ⌜ (count ≤ maxIntervals) × ((i : ℕ) → i < count → getD (now prices) i 0 < 256) ⌝ }
-    ensures { λ r. ⌜ r ≡ columnOf maxIntervals count (λ i. getD (now (prices .entry)) i 0 + 1) ⌝ }
-{
-    let mut numbers = [0u64; MAX_INTERVALS];
-    let mut i = 0;
-    while i < count {
-        numbers[i] = prices[i] + 1;
-        i += 1;
-    }
-    numbers
 }

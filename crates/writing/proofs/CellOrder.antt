@@ -1,7 +1,7 @@
 -- Laws of the steps of a table of shares: each is that of a share, their cells rise, they add up as the shares do, and
 -- there is one for each share that is not 0.
 -- Assumes nothing.
-use mathlib.Core.Path.{_≡_, refl, sym, _∙_}
+use mathlib.Core.Path.{_≡_, refl, _∙_}
 use mathlib.Core.Logic.{_⊎_, inl, inr}
 use mathlib.Core.List.{List, [], _∷_, _++_}
 use Prim.Native.Nat.{ℕ, zero, suc, _-_, _*_, _<_, _≤_}
@@ -11,12 +11,12 @@ use lib.ListN.{length, getD, length-append, List·getD-append}
 use borrow.Author.Tests.{lt-ltb}
 use Rattle.model.specs.Limits.{maxJobs}
 use Rattle.model.specs.Sum.{sum, onlyIf}
-use Rattle.model.specs.Plans.{Shares, sharesIn}
+use Rattle.model.specs.Plans.{Shares}
 use Rattle.model.specs.Steps.{Step, cellOf}
 use Rattle.model.proofs.Numbers.{lt-or-le}
-use Rattle.model.proofs.Sum.{sum-cong, sum-stretches}
-use Rattle.writing.specs.StepList.{joined, stepOf, stepsIn, stepsOf, positives}
-use Rattle.writing.proofs.Joined.{length-joined, joined-cong, getD-past, Each, each-append, each-joined, sumOver, sum-joined}
+use Rattle.model.proofs.Sum.{sum-cong}
+use Rattle.writing.specs.StepList.{joined, stepOf, stepsIn, stepsOf}
+use Rattle.writing.proofs.Joined.{length-joined, getD-past, Each, each-append, each-joined, sumOver, sum-joined}
 
 -- what stands past the last step
 abbrev pub noStep : Step
@@ -147,17 +147,3 @@ module _ (jobs intervals : ℕ) (shares : Shares) where
       length-joined intervals (stepsIn jobs shares)
       ∙ sum-cong intervals
       (λ i below. length-joined jobs (λ j. stepOf i j (shares i j)) ∙ sum-cong jobs (λ j inside. length-stepOf i j (shares i j)))
-
--- equal shares have equal steps
-pub steps-cong : (jobs intervals : ℕ) (a b : Shares) → ((i j : ℕ) → i < intervals → j < jobs → a i j ≡ b i j)
-    → stepsOf jobs intervals a ≡ stepsOf jobs intervals b
-unfolding stepsOf
-steps-cong jobs intervals a b same =
-    joined-cong intervals _ _ (λ i below. joined-cong jobs _ _ (λ j inside. rw (same i j below inside)))
-
--- the steps of a table of shares are as many as its numbers that are not 0
-pub step-total-in : (jobs intervals : ℕ) (table : List ℕ)
-    → positives (intervals * jobs) table ≡ length (stepsOf jobs intervals (sharesIn jobs table))
-step-total-in jobs intervals table =
-    sym (sum-stretches intervals (λ i. i * jobs) (λ k. onlyIf (ltb 0 (getD table k 0)) 1) (omega arith) (λ i. jobs) (λ i below. omega arith))
-    ∙ sym (step-total jobs intervals (sharesIn jobs table))

@@ -3,7 +3,7 @@
 -- Assumes nothing.
 use mathlib.Core.Path.{_≡_, refl, _∙_, ap}
 use mathlib.Core.Logic.{_⊎_, inl, inr}
-use mathlib.Core.List.{List, _++_}
+use mathlib.Core.List.{List, [], _++_, append-nil}
 use Prim.Native.Nat.{ℕ, zero, suc, _+_, _-_, _<_, _≤_}
 use native.Mathlib.Omega.{arith}
 use native.Mathlib.Numerals.{add-one}
@@ -31,6 +31,16 @@ module _ {A : Type 0} where
 
   pub joined-longer : (f : ℕ → List A) (k n : ℕ) → k ≤ n → length (joined k f) ≤ length (joined n f)
   joined-longer f k n h = rw (length-joined k f, length-joined n f) (sum-longer (λ i. length (f i)) h)
+
+  -- lists of no element at the end
+  pub joined-shorter : (f : ℕ → List A) (k n : ℕ) → k ≤ n → ((i : ℕ) → k ≤ i → i < n → f i ≡ []) → joined n f ≡ joined k f
+  unfolding joined
+  joined-shorter f k zero h none = let e : k ≡ 0 = omega arith in rw e
+  joined-shorter f k (suc n) h none = go (lt-or-le n k) (λ low. joined-shorter f k n low (λ i past below. none i past (omega arith)))
+    where
+      go : (n < k) ⊎ (k ≤ n) → (k ≤ n → joined n f ≡ joined k f) → joined (suc n) f ≡ joined k f
+      go (inl all) same = let e : k ≡ suc n = omega arith in rw e
+      go (inr low) same = rw (none n low (omega arith), append-nil (joined n f)) (same low)
 
   module _ (d : A) where
     -- past the first of two lists

@@ -5,6 +5,8 @@ pub mod Joined
 pub mod CellOrder
 pub mod EncodedPlan
 pub mod PlanStores
+pub mod HeldShares
+pub mod MemberSteps
 pub mod WrittenPlan
 pub mod WrittenPrices
 pub mod PriceStores

@@ -15,12 +15,12 @@ use Rattle.writing.specs.StepList.{joined}
 use Rattle.writing.specs.PlanBytes.{cellBytes, cycleBytes, encodePlan, withSteps}
 use Rattle.writing.proofs.Stores.{sets-after, sets-two, sets-front}
 use Rattle.writing.proofs.Encoded.{encodeEach-append}
-use Rattle.writing.proofs.Joined.{joined-next, joined-longer}
+use Rattle.writing.proofs.Joined.{joined-next, joined-longer, joined-shorter}
 use Rattle.writing.proofs.CellOrder.{cellOfStep}
 use Rattle.writing.proofs.EncodedPlan.{length-cells, length-cycles, length-plan}
 
 module _ (count first : ℕ) where
-  pub with-none : (plan : List ℕ) → plan ≡ withSteps count first [] plan
+  with-none : (plan : List ℕ) → plan ≡ withSteps count first [] plan
   unfolding withSteps encodeEach
   with-none plan = refl
 
@@ -86,6 +86,12 @@ module _ (count first : ℕ) (lists : ℕ → List Step) (before : List ℕ) whe
     -- after the last list
     pub put-whole : (total : ℕ) → n ≤ total → total ≤ n → StepsPut count first lists before total next plan
     put-whole total low high = let e : total ≡ n = omega arith in rw e put
+
+    -- past lists of no step
+    pub put-past : (m : ℕ) → n ≤ m → ((k : ℕ) → n ≤ k → k < m → lists k ≡ []) → StepsPut count first lists before m next plan
+    put-past m low none =
+        let same : joined m lists ≡ joined n lists = joined-shorter lists n m low none in
+        record { next-is = rw same (put .next-is); plan-is = rw same (put .plan-is) }
 
     module _ (total : ℕ) (more : n < total) (room : first + length (joined total lists) ≤ count) where
       -- the next list has room

@@ -1,9 +1,6 @@
 -- The steps of all shares that are not 0, in cell order: interval by interval, within it by job number.
 use Prim.Native.Nat.{ℕ, zero, suc}
 use mathlib.Core.List.{List, [], _∷_, _++_}
-use lib.Dec.{ltb}
-use lib.ListN.{getD}
-use Rattle.model.specs.Sum.{sum, onlyIf}
 use Rattle.model.specs.Plans.{Shares}
 use Rattle.model.specs.Steps.{Step}
 
@@ -23,7 +20,3 @@ stepsIn jobs shares i = joined jobs (λ j. stepOf i j (shares i j))
 
 unfoldable pub stepsOf : (jobs intervals : ℕ) → Shares → List Step
 stepsOf jobs intervals shares = joined intervals (stepsIn jobs shares)
-
--- How many of the first `size` numbers of a table are not 0.
-abbrev pub positives : (size : ℕ) → List ℕ → ℕ
-positives size table = sum size (λ k. onlyIf (ltb 0 (getD table k 0)) 1)

@@ -1,7 +1,7 @@
 // Writing a price list.
 ghost use mathlib.Core.Path.{_≡_};
 ghost use mathlib.Core.List.{_++_};
-ghost use Prim.Native.Nat.{suc, _+_, _*_, _≤_};
+ghost use Prim.Native.Nat.{ℕ, suc, _+_, _*_, _<_, _≤_};
 ghost use lib.ListN.{length, getD, drop};
 ghost use lib.Seq.{sets};
 ghost use Rattle.model.specs.Limits.{maxIntervals};
@@ -11,7 +11,8 @@ use crate::numbers::put32;
 use model::MAX_BOUNDS;
 use model::MAX_INTERVALS;
 
-// Writes the price list at the start of the buffer. Interval i goes from time i to time i + 1.
+// Writes the price list at the start of the buffer. Interval i goes from time i to time i + 1. The prices that are lent
+// count from 0, those of a price list from 1.
 pub fn write_prices(
     times: &[u64; MAX_BOUNDS],
     prices: &[u64; MAX_INTERVALS],
@@ -19,7 +20,8 @@ pub fn write_prices(
     out: &mut [u8],
 )
     requires { ⌜ (intervals ≤ maxIntervals) × (2 + 5 * intervals ≤ length (now out)) ⌝ }
-    ensures { λ _. ⌜ now (out .exit) ≡ encodePrices intervals (λ i. getD (now (times .entry)) (suc i) 0) (λ i. getD (now (prices .entry)) i 0) ++ drop (2 + 5 * intervals) (now (out .entry)) ⌝ }
+    requires { ⌜ ((i : ℕ) → i < intervals → getD (now prices) i 0 < 255) ⌝ }
+    ensures { λ _. ⌜ now (out .exit) ≡ encodePrices intervals (λ i. getD (now (times .entry)) (suc i) 0) (λ i. suc (getD (now (prices .entry)) i 0)) ++ drop (2 + 5 * intervals) (now (out .entry)) ⌝ }
 {
     put16(out, 0, intervals as u64);
     write_ends(times, intervals, out);
@@ -38,14 +40,15 @@ fn write_ends(times: &[u64; MAX_BOUNDS], intervals: usize, out: &mut [u8])
     }
 }
 
-// Writes the prices of the intervals after the ends.
+// Writes the prices of the intervals, counted from 1, after the ends.
 fn write_price_bytes(prices: &[u64; MAX_INTERVALS], intervals: usize, out: &mut [u8])
     requires { ⌜ (intervals ≤ maxIntervals) × (2 + 5 * intervals ≤ length (now out)) ⌝ }
-    ensures { λ _. ⌜ now (out .exit) ≡ sets (now (out .entry)) (2 + 4 * intervals) (priceBytes intervals (λ i. getD (now (prices .entry)) i 0)) ⌝ }
+    requires { ⌜ ((i : ℕ) → i < intervals → getD (now prices) i 0 < 255) ⌝ }
+    ensures { λ _. ⌜ now (out .exit) ≡ sets (now (out .entry)) (2 + 4 * intervals) (priceBytes intervals (λ i. suc (getD (now (prices .entry)) i 0))) ⌝ }
 {
     let mut i = 0;
     while i < intervals {
-        out[2 + 4 * intervals + i] = (prices[i] % 256) as u8;
+        out[2 + 4 * intervals + i] = (prices[i] + 1) as u8;
         i += 1;
     }
 }

@@ -33,11 +33,11 @@ clear-requires : tie.Need-clear-requires Inv-loop μ-loop
 clear-requires c κs = c .before .before .pre .1 .1 .0
 
 by-deadline-requires : tie.Need-by-deadline-requires Inv-loop μ-loop
-by-deadline-requires c κs = c .before .before .before .before .before .before .before .before .pre .0 .jobs-most
+by-deadline-requires c κs = c .before .before .before .before .before .before .before .before .before .pre .0 .jobs-most
 
 -- the function's entry
 abbrev entry : tie.At-loop Inv-loop μ-loop → tie.Start Inv-loop μ-loop
-entry c = c .before .before .before .before .before .before .before .before .before .before
+entry c = c .before .before .before .before .before .before .before .before .before .before .before
 
 -- the workload that is lent
 abbrev lent : tie.Start Inv-loop μ-loop → Workload
@@ -47,8 +47,8 @@ lent c =
 
 loop-holds : tie.Need-loop-holds Inv-loop μ-loop
 loop-holds c =
-    let start = c .before .before .before .before .before .before .before .before .before in
-    let clear = c .before .before .before .before .before .before .clear in (
+    let start = c .before .before .before .before .before .before .before .before .before .before in
+    let clear = c .before .before .before .before .before .before .before .clear in (
       omega arith,
       kept-refl _ _,
       refl,
@@ -166,7 +166,7 @@ loads-of-requires c κs =
 kept : (c : tie.After-loop Inv-loop μ-loop)
     → let a = entry (c .before) .args in
     KeptPast (a .intervals * a .jobs) (now (a .shares)) (c .before .loop .shares)
-kept c = kept-trans (c .before .before .before .before .before .before .before .before .clear .ensures .0) (c .before .loop .inv .1)
+kept c = kept-trans (c .before .before .before .before .before .before .before .before .before .clear .ensures .0) (c .before .loop .inv .1)
 
 same-length : tie.Need-same-length Inv-loop μ-loop
 same-length c = kept (c .before .before .before) .same-length
@@ -176,7 +176,7 @@ returns c =
     let done = c .before .before .before in
     let inv = done .before .loop .inv in
     let loads = c .loads-of .ensures in
-    (tables-end (inv .3) (all-bands done) (inv .2) (loads .0) (loads .1) (loads .2), kept done)
+    (tables-end (inv .3) (all-bands done) (inv .2) (loads .0) (loads .1) (loads .2), kept done, inv .3 .stored .holding)
 
 pub place-spec : {M : Type 1} → statement M
 place-spec =

@@ -29,7 +29,7 @@ cycles-length c = search needs
 
 place-requires : tie.Need-place-requires
 place-requires c κs =
-    let working = c .before .before .before .before .before .before .before .before .before in
+    let working = c .before .before .before .before .before .before .before .before .before .before in
     let (site, can) = working .before .before .before .before .pre in
     let valid = can .in-arrays .valid in
     let made = working .workload-of .ensures site valid (can .in-arrays .holds) in (
@@ -39,7 +39,7 @@ place-requires c κs =
 
 -- the placing follows on the making of the workload
 abbrev making : tie.After-place → tie.After-workload-of
-making c = c .before .before .before .before .before .before .before .before .before .before
+making c = c .before .before .before .before .before .before .before .before .before .before .before
 
 -- the workload that is placed, and that some prices fit
 abbrev workload : tie.After-place → Workload
@@ -73,41 +73,39 @@ smallest : (c : tie.After-smallest-prices)
     (numbersIn (c .smallest-prices .last .1 .1 .1 .1 .1 .1 .1 .1 .1 .0))
 smallest c = let placed = placing c in c .smallest-prices .ensures .0 (workload placed .cycles) (can-price placed)
 
-from-one-requires : tie.Need-from-one-requires
-from-one-requires c κs =
-    let priced = c .before in
-    let made = made-of (making (placing priced)) in (
-      made .sound .intervals-most,
-      λ i below. omega (arith, made .sound .bands-most, smallest priced .priced .band i below),
-    )
-
 write-plan-requires : tie.Need-write-plan-requires
 write-plan-requires c κs =
-    let priced = c .before .before .before .before in
+    let priced = c .before .before .before in
     let placed = placing priced in
     let working = making placed in
     let (site, can) = working .before .before .before .before .pre in
     let made = made-of working in
-    let tables = placed .place .ensures .0 in (
+    let tables = placed .place .ensures .0 in
+    let holding = placed .place .ensures .2 in (
       (made .sound .jobs-most, made .sound .intervals-most, tables .stored .table-length),
-      omega (arith, can .long .plan-room, steps-few (can .in-arrays .valid) made _ _ _ tables),
+      (
+        λ i below. record { held = λ j inside. holding .held i j below inside; held-past = λ j past. holding .held-past i j below past },
+        omega (arith, can .long .plan-room, steps-few (can .in-arrays .valid) made _ _ _ tables),
+      ),
     )
 
 write-prices-requires : tie.Need-write-prices-requires
 write-prices-requires c κs =
     let written = c .before .before .before .before in
-    let priced = written .before .before .before .before .before in
+    let priced = written .before .before .before .before in
     let placed = placing priced in
     let working = making placed in
     let (site, can) = working .before .before .before .before .pre in
-    let made = made-of working in
-    (made .sound .intervals-most, rooms (can .in-arrays .valid) made (can .long) .1)
+    let made = made-of working in (
+      (made .sound .intervals-most, rooms (can .in-arrays .valid) made (can .long) .1),
+      λ i below. omega (arith, made .sound .bands-most, smallest priced .priced .band i below),
+    )
 
 energy-figure-requires : tie.Need-energy-figure-requires
 energy-figure-requires c κs =
     let listed = c .before .before .before in
     let written = listed .before .before .before .before .before in
-    let priced = written .before .before .before .before .before in
+    let priced = written .before .before .before .before in
     let placed = placing priced in
     let (site, can) = making placed .before .before .before .before .pre in
     let valid = can .in-arrays .valid in
@@ -124,20 +122,19 @@ same-length-3 : tie.Need-same-length-3
 same-length-3 c =
     let listed = c .before .before .before .before in
     let written = listed .before .before .before .before .before in
-    let priced = written .before .before .before .before .before in
+    let priced = written .before .before .before .before in
     placing priced .place .ensures .1 .same-length
 
 returns : tie.Need-returns
 returns c = λ site can.
     let listed = c .before .before .before .before in
     let written = listed .before .before .before .before .before in
-    let counted = written .before .before .before in
-    let priced = counted .before .before in
+    let priced = written .before .before .before .before in
     let placed = placing priced in
     let valid = can .in-arrays .valid in
     let holds = can .in-arrays .holds in
     made-plan valid (making placed .workload-of .ensures site valid holds) _ _ _ (placed .place .ensures .0)
-    (priced .smallest-prices .last .1 .1 .1 .1 .1 .1 .1 .1 .1 .0) (smallest priced) _ (counted .from-one .ensures) holds _ _
+    (priced .smallest-prices .last .1 .1 .1 .1 .1 .1 .1 .1 .1 .0) (smallest priced) holds _ _
     _ _ _ _ _ (placed .place .ensures .1) (written .write-plan .ensures .0) (written .write-plan .ensures .1)
     (listed .write-prices .ensures) (c .energy-figure .ensures)
 
@@ -148,7 +145,6 @@ make-plan-spec =
     workload-of-requires
     place-requires
     smallest-prices-requires
-    from-one-requires
     write-plan-requires
     write-prices-requires
     energy-figure-requires

@@ -1,5 +1,5 @@
--- `plan::write_plan` meets its contract. The count is the number of steps (proofs/CellOrder.antt), and counts and steps
--- make the whole plan (proofs/PlanStores.antt). Assumes nothing.
+-- `plan::write_plan` meets its contract. The members of the sets are as many as the steps (proofs/HeldShares.antt), and
+-- counts and steps make the whole plan (proofs/PlanStores.antt). Assumes nothing.
 use mathlib.Core.Path.{_≡_, _∙_}
 use native.Mathlib.Omega.{arith}
 use lib.ListN.{length}
@@ -7,7 +7,7 @@ use borrow.Author.Needs.{needs}
 use denote.Ref.{now}
 use Rattle.model.specs.Plans.{sharesIn}
 use Rattle.writing.specs.StepList.{stepsOf}
-use Rattle.writing.proofs.CellOrder.{step-total-in}
+use Rattle.writing.proofs.HeldShares.{members-are-steps}
 use Rattle.writing.proofs.PlanStores.{whole-plan}
 use Rattle.writing.proofs.plan.write_plan.Statement.{statement}
 use Rattle.writing.proofs.plan.write_plan.Tie as tie
@@ -16,10 +16,9 @@ use Rattle.writing.proofs.plan.write_plan.Tie as tie
 counted : (c : tie.After-count-steps)
     → let a = c .before .before .before .args in
     c .count-steps .result ≡ length (stepsOf (a .jobs) (a .intervals) (sharesIn (a .jobs) (now (a .shares))))
-counted c = c .count-steps .ensures ∙ step-total-in _ _ (now (c .before .before .before .args .shares))
-
-mul-count-steps : tie.Need-mul-count-steps
-mul-count-steps c = search needs
+counted c =
+    let start = c .before .before .before in
+    c .count-steps .ensures ∙ members-are-steps _ _ _ _ (start .pre .0 .0) (start .pre .1 .0)
 
 count-steps-requires : tie.Need-count-steps-requires
 count-steps-requires c κs = search needs
@@ -33,7 +32,8 @@ put16-requires-2 c κs = search needs
 write-steps-requires : tie.Need-write-steps-requires
 write-steps-requires c κs =
     let counting = c .before .before .before .before .before .before .before .before .before in
-    (counting .before .before .before .pre .0, (counted counting, omega (arith, counted counting)))
+    let pre = counting .before .before .before .pre in
+    (pre .0, (pre .1 .0, (counted counting, omega (arith, counted counting))))
 
 same-length : tie.Need-same-length
 same-length c = search needs
@@ -53,7 +53,6 @@ pub write-plan-spec : {M : Type 1} → statement M
 write-plan-spec =
     tie.close
     (tie.spec
-    mul-count-steps
     count-steps-requires
     put16-requires
     put16-requires-2

@@ -1,38 +1,27 @@
--- `plan::write_share` meets its contract. A share that is not 0 has one step, whose cell and cycles are written; a share
--- of 0 has none, and nothing is written. Assumes nothing.
+-- `plan::write_share` meets its contract. A share that is not 0 has one step, whose cell and cycles are written.
+-- Assumes nothing.
 use mathlib.Core.Path.{_≡_}
 use mathlib.Core.List.{List}
-use Prim.Native.Nat.{ℕ, _+_, _*_, _<_, _≤_}
+use Prim.Native.Nat.{ℕ, _+_, _*_, _<_}
 use native.Mathlib.Omega.{arith}
-use lib.ListN.{length}
 use lib.Seq.{sets}
 use borrow.Author.Needs.{needs}
-use denote.Ref.{now}
 use Rattle.model.specs.Bytes.{bytes16, bytes32}
 use Rattle.model.specs.Steps.{cellOf}
-use Rattle.model.specs.Plans.{sharesIn}
 use Rattle.writing.specs.StepList.{stepOf}
 use Rattle.writing.specs.PlanBytes.{withSteps}
-use Rattle.writing.proofs.CellOrder.{stepOf-none, stepOf-some}
-use Rattle.writing.proofs.PlanStores.{with-none, with-one}
+use Rattle.writing.proofs.CellOrder.{stepOf-some}
+use Rattle.writing.proofs.PlanStores.{with-one}
 use Rattle.writing.proofs.plan.write_share.Statement.{statement}
 use Rattle.writing.proofs.plan.write_share.Tie as tie
 
-module _ (count next interval job share : ℕ) (plan : List ℕ) where
-  no-step : share ≤ 0 → (next ≡ next + length (stepOf interval job share)) × (plan ≡ withSteps count next (stepOf interval job share) plan)
-  no-step no-share = rw (stepOf-none interval job share no-share) (omega arith, with-none count next plan)
-
-  one-step : 0 < share → (with-cell after : List ℕ) → with-cell ≡ sets plan (4 + 2 * next) (bytes16 (cellOf interval job))
-      → after ≡ sets with-cell (4 + 2 * count + 4 * next) (bytes32 share)
-      → (next + 1 ≡ next + length (stepOf interval job share)) × (after ≡ withSteps count next (stepOf interval job share) plan)
-  one-step some-share with-cell after first second =
-      rw (second, first, stepOf-some interval job share some-share) (omega arith, with-one count next _ plan)
-
--- a share that is not 0 has a step
-has-step : (c : tie.Then1)
-    → let a = c .before .before .before .before .args in
-    length (stepOf (a .interval) (a .job) (sharesIn (a .jobs) (now (a .shares)) (a .interval) (a .job))) ≡ 1
-has-step c = rw (stepOf-some _ _ _ (c .if1 .taken))
+-- the one step of a share that is not 0
+one-step : (count next interval job share : ℕ) (plan with-cell after : List ℕ)
+    → with-cell ≡ sets plan (4 + 2 * next) (bytes16 (cellOf interval job))
+    → after ≡ sets with-cell (4 + 2 * count + 4 * next) (bytes32 share)
+    → 0 < share → after ≡ withSteps count next (stepOf interval job share) plan
+one-step count next interval job share plan with-cell after first second some-share =
+    rw (second, first, stepOf-some interval job share some-share) (with-one count next _ plan)
 
 mul-share : tie.Need-mul-share
 mul-share c = search needs
@@ -59,7 +48,7 @@ add-put16-2 : tie.Need-add-put16-2
 add-put16-2 c = search needs
 
 put16-requires : tie.Need-put16-requires
-put16-requires c κs = omega (arith, has-step (c .before))
+put16-requires c κs = search needs
 
 mul-put32 : tie.Need-mul-put32
 mul-put32 c = search needs
@@ -75,26 +64,19 @@ add-put32-2 c = search needs
 
 cast-put32 : tie.Need-cast-put32
 cast-put32 c =
-    let read = c .before .before .before .before .before .before in
+    let read = c .before .before .before .before .before in
     let a = read .before .before .before .args in
     omega (arith, read .shared-slice-known2 .given (a .interval * a .jobs + a .job))
 
 put32-requires : tie.Need-put32-requires
-put32-requires c κs = omega (arith, has-step (c .before .before .before .before .before))
-
-add-result : tie.Need-add-result
-add-result c = search needs
+put32-requires c κs = search needs
 
 same-length : tie.Need-same-length
 same-length c = search needs
 
 returns : tie.Need-returns
 returns c =
-    let taken = c .before .before .before .before .before .before .before .before in
-    one-step _ _ _ _ _ _ (taken .if1 .taken) _ _ (c .before .before .before .before .before .before .put16 .ensures) (c .before .before .put32 .ensures)
-
-returns-2 : tie.Need-returns-2
-returns-2 c = no-step _ _ _ _ _ _ (c .if1 .left)
+    one-step _ _ _ _ _ _ _ _ (c .before .before .before .before .before .before .put16 .ensures) (c .before .before .put32 .ensures) (omega arith)
 
 pub write-share-spec : {M : Type 1} → statement M
 write-share-spec =
@@ -115,7 +97,5 @@ write-share-spec =
     add-put32-2
     cast-put32
     put32-requires
-    add-result
     same-length
-    returns
-    returns-2)
+    returns)

@@ -1,4 +1,4 @@
--- `plan::write_steps` meets its contract. The loop's invariant: the steps of the first `i` intervals are written
+-- `plan::write_steps` meets its contract. The loop's invariant: the steps of the first intervals are written
 -- (proofs/PlanStores.antt). Assumes nothing.
 use mathlib.Core.Path.{_≡_}
 use Prim.Native.Nat.{_+_, _-_, _≤_}
@@ -13,11 +13,11 @@ use Rattle.writing.proofs.plan.write_steps.Statement.{statement}
 use Rattle.writing.proofs.plan.write_steps.Tie as tie
 
 abbrev Inv-loop : tie.InvT-loop
-Inv-loop shares jobs intervals count plan₀ next₀ i₀ plan next i =
-    (i ≤ intervals) × StepsPut count 0 (stepsIn jobs (sharesIn jobs shares)) plan₀ i next plan
+Inv-loop shares sets jobs intervals count plan₀ next₀ interval₀ plan next interval =
+    (interval ≤ intervals) × StepsPut count 0 (stepsIn jobs (sharesIn jobs shares)) plan₀ interval next plan
 
 abbrev μ-loop : tie.MeasureT-loop
-μ-loop shares jobs intervals count plan₀ next₀ i₀ plan next i = intervals - i
+μ-loop shares sets jobs intervals count plan₀ next₀ interval₀ plan next interval = intervals - interval
 
 -- what is written keeps the buffer's length
 long : (c : tie.At-loop Inv-loop μ-loop) → length (c .loop .plan) ≡ length (now (c .before .before .before .args .plan))
@@ -28,27 +28,32 @@ room : (c : tie.At-loop Inv-loop μ-loop)
     → let a = c .before .before .before .args in
     0 + length (joined (a .intervals) (stepsIn (a .jobs) (sharesIn (a .jobs) (now (a .shares))))) ≤ a .count
 unfolding stepsOf
-room c = omega (arith, c .before .before .before .pre .1 .0)
+room c = omega (arith, c .before .before .before .pre .1 .1 .0)
 
 loop-holds : tie.Need-loop-holds Inv-loop μ-loop
 loop-holds c = (omega arith, put-none _ _ _ _)
 
+set-at-requires : tie.Need-set-at-requires Inv-loop μ-loop
+set-at-requires c κs = omega arith
+
 write-interval-requires : tie.Need-write-interval-requires Inv-loop μ-loop
 write-interval-requires c κs =
-    let turn = c .before in
-    let jobs = turn .before .before .before .before .args .jobs in
-    let fits = put-room _ _ _ _ _ _ _ (turn .before .loop .inv .1) _ (turn .loop-test .taken) (room (turn .before)) in
-    ((omega arith, omega arith, omega (arith, mul-le-mul-right jobs (turn .loop-test .taken))), (fits, omega (arith, long (turn .before))))
+    let turn = c .before .before in
+    let start = turn .before .before .before .before in
+    let fits = put-room _ _ _ _ _ _ _ (turn .before .loop .inv .1) _ (turn .loop-test .taken) (room (turn .before)) in (
+      (omega arith, omega arith, omega (arith, mul-le-mul-right (start .args .jobs) (turn .loop-test .taken))),
+      (rw (c .before .set-at .ensures) (start .pre .1 .0 _ (turn .loop-test .taken)), (fits, omega (arith, long (turn .before)))),
+    )
 
-add-i : tie.Need-add-i Inv-loop μ-loop
-add-i c = omega arith
+add-interval : tie.Need-add-interval Inv-loop μ-loop
+add-interval c = omega arith
 
 loop-less : tie.Need-loop-less Inv-loop μ-loop
 loop-less c = omega arith
 
 loop-again : tie.Need-loop-again Inv-loop μ-loop
 loop-again c =
-    let turn = c .before .before .before .before in
+    let turn = c .before .before .before .before .before in
     let called = c .before .before .write-interval in (
       omega arith,
       put-next _ _ _ _ _ _ _ (turn .before .loop .inv .1) _ (turn .loop-test .taken) (room (turn .before)) _ _ (called .ensures .0) (called .ensures .1),
@@ -68,8 +73,9 @@ write-steps-spec =
     Inv-loop
     μ-loop
     loop-holds
+    set-at-requires
     write-interval-requires
-    add-i
+    add-interval
     loop-less
     loop-again
     same-length

@@ -2,7 +2,7 @@
 -- (proofs/PriceStores.antt). Assumes nothing.
 use mathlib.Core.Path.{_≡_}
 use mathlib.Core.List.{List}
-use Prim.Native.Nat.{ℕ, _+_, _*_, _-_, _%_, _≤_}
+use Prim.Native.Nat.{ℕ, suc, _+_, _*_, _-_, _%_, _<_, _≤_}
 use native.Mathlib.Omega.{arith}
 use lib.ListN.{length, getD, set}
 use lib.Seq.{sets}
@@ -15,18 +15,25 @@ use Rattle.writing.proofs.prices.write_price_bytes.Statement.{statement
 use Rattle.writing.proofs.prices.write_price_bytes.Tie as tie
 
 abbrev Inv-loop : tie.InvT-loop
-Inv-loop prices intervals out₀ i₀ out i = (i ≤ intervals) × (out ≡ sets out₀ (2 + 4 * intervals) (priceBytes i (λ k. getD prices k 0)))
+Inv-loop prices intervals out₀ i₀ out i = (i ≤ intervals) × (out ≡ sets out₀ (2 + 4 * intervals) (priceBytes i (λ k. suc (getD prices k 0))))
 
 abbrev μ-loop : tie.MeasureT-loop
 μ-loop prices intervals out₀ i₀ out i = intervals - i
 
-one-byte : (out : List ℕ) (start i price : ℕ) → set out (start + i) (price % 256) ≡ sets out (start + 1 * i) (bytesOf 1 price)
+one-byte : (out : List ℕ) (start i price : ℕ) → price < 255 → set out (start + i) (price + 1) ≡ sets out (start + 1 * i) (bytesOf 1 (suc price))
 unfolding bytesOf
-one-byte out start i price = let place : start + 1 * i ≡ start + i = omega arith in rw place
+one-byte out start i price small =
+    let place : start + 1 * i ≡ start + i = omega arith in
+    let byte : suc price % 256 ≡ price + 1 = omega arith in
+    rw (place, byte)
 
 -- what is written keeps the buffer's length
 long : (c : tie.At-loop Inv-loop μ-loop) → length (c .loop .out) ≡ length (now (c .before .args .out))
 long c = length-numbers (bytesOf 1) 1 (length-bytesOf 1) _ _ _ _ _ (c .loop .inv .1)
+
+-- a price fits its byte
+small : (c : tie.In-loop Inv-loop μ-loop) → let a = c .before .before .args in getD (now (a .prices)) (c .before .loop .i) 0 < 255
+small c = c .before .before .pre .1 _ (c .loop-test .taken)
 
 loop-holds : tie.Need-loop-holds Inv-loop μ-loop
 loop-holds c = (omega arith, numbers-none (bytesOf 1) 1 (length-bytesOf 1) _ _ _)
@@ -37,17 +44,20 @@ mul-out c = omega arith
 element-copy-out-out : tie.Need-element-copy-out-out Inv-loop μ-loop
 element-copy-out-out c = omega arith
 
+add-out : tie.Need-add-out Inv-loop μ-loop
+add-out c = omega (arith, small (c .before))
+
 cast-out : tie.Need-cast-out Inv-loop μ-loop
-cast-out c = omega arith
+cast-out c = omega (arith, small (c .before))
 
 mul-out-2 : tie.Need-mul-out-2 Inv-loop μ-loop
 mul-out-2 c = omega arith
 
-add-out : tie.Need-add-out Inv-loop μ-loop
-add-out c = omega arith
-
 add-out-2 : tie.Need-add-out-2 Inv-loop μ-loop
 add-out-2 c = omega arith
+
+add-out-3 : tie.Need-add-out-3 Inv-loop μ-loop
+add-out-3 c = omega arith
 
 slice-write-out : tie.Need-slice-write-out Inv-loop μ-loop
 slice-write-out c = omega (arith, long (c .before .before))
@@ -61,7 +71,7 @@ loop-less c = omega arith
 loop-again : tie.Need-loop-again Inv-loop μ-loop
 loop-again c =
     let head = c .before .before in
-    (omega arith, numbers-next (bytesOf 1) 1 (length-bytesOf 1) _ _ _ _ _ _ (head .loop .inv .1) (one-byte _ _ _ _))
+    (omega arith, numbers-next (bytesOf 1) 1 (length-bytesOf 1) _ _ _ _ _ _ (head .loop .inv .1) (one-byte _ _ _ _ (small (c .before))))
 
 same-length : tie.Need-same-length Inv-loop μ-loop
 same-length c = long (c .before)
@@ -78,10 +88,11 @@ write-price-bytes-spec =
     loop-holds
     mul-out
     element-copy-out-out
+    add-out
     cast-out
     mul-out-2
-    add-out
     add-out-2
+    add-out-3
     slice-write-out
     add-i
     loop-less

@@ -19,7 +19,7 @@ same-length c = search needs
 
 returns : tie.Need-returns
 returns c =
-    whole-price-list _ _ _ _ _ _ _ (c .before .before .before .before .before .before .before .before .before .before .before .before .before .pre .1)
+    whole-price-list _ _ _ _ _ _ _ (c .before .before .before .before .before .before .before .before .before .before .before .before .before .pre .0 .1)
     (c .before .before .before .before .before .before .before .before .before .before .put16 .ensures)
     (c .before .before .before .before .before .before .write-ends .ensures)
     (c .before .before .write-price-bytes .ensures)
