@@ -52,7 +52,7 @@ room-most {band = band} tables i inside =
     )
 
 module _ {work : Workload} {table room holders : List ℕ} {found : SearchState} {band left : ℕ} (can : CanFill work table room holders found band left) where
-  pub target-inside : found .target < work .intervals
+  target-inside : found .target < work .intervals
   target-inside = omega (arith, can .has-room .to, can .reaching .now .end-below)
 
   pub fill-room : 0 < numbersIn room (found .target)

@@ -94,19 +94,19 @@ module _ {work : Workload} {before holders-before : List ℕ} {found : SearchSta
 
     -- a step
     module _ (more : 0 < s) where
-      pub mover-below : numbersIn (found .reached) s < work .jobs
+      mover-below : numbersIn (found .reached) s < work .jobs
       mover-below = can .to-move .reaching .now .job-below s move-listed
 
       pub source-below : numbersIn (found .source) s < work .intervals
       source-below = can .to-move .reaching .now .source-below s more move-listed
 
-      pub source-place : placeOf work found (numbersIn (found .source) s) s < work .intervals * work .jobs
+      source-place : placeOf work found (numbersIn (found .source) s) s < work .intervals * work .jobs
       source-place =
           let reached = can .to-move .reaching .now in
           place-below (reached .source-below s more move-listed) (reached .job-below s move-listed)
 
       -- the source has the amount
-      pub source-enough : amount ≤ getD table (placeOf work found (numbersIn (found .source) s) s) 0
+      source-enough : amount ≤ getD table (placeOf work found (numbersIn (found .source) s) s) 0
       source-enough =
           let kept = own .1 .kept (numbersIn (found .source) s) s (can .to-move .reaching .now .source-below s more move-listed) (first (own .1) .0) in
           omega (arith, passes-next (now .passes) (sym (now .is-first)) more .0)

@@ -47,7 +47,7 @@ module _ {p : Problem} (sound : SoundProblem p) {before after : Shares} {prices 
 
 module _ {work : Workload} {table room holders : List ℕ} {prices lefts : ℕ → ℕ} {job left band : ℕ}
     (tables : PlacingTables work table room holders prices lefts job left band) {interval : ℕ} (is-open : Open (problemIn work) interval job) where
-  pub own-inside : interval < work .intervals
+  own-inside : interval < work .intervals
   own-inside = open-below (tables .stored .sound .sound) (tables .placing .job-below) is-open
 
   pub own-small : interval < maxIntervals

@@ -145,7 +145,7 @@ module _ {work : Workload} {table room holders left : List ℕ} {prices : ℕ �
       rw add-one (record { stored = tables .stored; left-length = tables .left-length; filling = filling-next (tables .filling) all })
 
   -- one job more has had its turn along paths
-  pub turn-passed : ((i : ℕ) → i < work .intervals → 0 < numbersIn left count → Open (problemIn work) i count → band < prices i)
+  turn-passed : ((i : ℕ) → i < work .intervals → 0 < numbersIn left count → Open (problemIn work) i count → band < prices i)
       → FillingTables work table room holders left prices band (count + 1)
   turn-passed here =
       record {

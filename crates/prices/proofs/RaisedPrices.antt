@@ -32,7 +32,7 @@ module _ {start end price : ℕ} {before after : ℕ → ℕ} (raised : Raised s
       go (inr (from, to, up)) = omega arith
 
   -- one interval more
-  pub raised-next : {next : ℕ → ℕ} → start ≤ end → next end ≡ max (after end) price → ((i : ℕ) → (i ≡ end → ⊥) → next i ≡ after i)
+  raised-next : {next : ℕ → ℕ} → start ≤ end → next end ≡ max (after end) price → ((i : ℕ) → (i ≡ end → ⊥) → next i ≡ after i)
       → Raised start (suc end) price before next
   raised-next {next} order here others =
       record {

@@ -88,13 +88,13 @@ module _ {p : Problem} (sound : SoundProblem p) (most : p .jobs ≤ maxJobs) {sh
     (reaching : Reaching p shares job found) {interval j : ℕ} (from : found .start ≤ interval) (to : interval < found .end)
     (below : j < p .jobs) (share : 0 < shares interval j) (new : isMember (found .unlisted) j ≡ true) where
   -- there is room for it in the list
-  pub reach-room : found .count < maxJobs
+  reach-room : found .count < maxJobs
   reach-room =
       let more = reached-more sound (reaching .now) shut from to below share (reaching .unmarked j below new) (appended _ (found .count) j)
       (appended _ (found .count) interval) in
       omega (arith, reached-few more)
 
-  pub reaching-more : Reaching p shares job (withReached found j interval (p .first j) (p .last j))
+  reaching-more : Reaching p shares job (withReached found j interval (p .first j) (p .last j))
   reaching-more =
       record {
         now =

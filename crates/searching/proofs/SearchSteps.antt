@@ -54,7 +54,7 @@ withTarget found target =
       target = target;
     }
 
-pub reaching-target : {p : Problem} {shares : Shares} {job : ℕ} {found : SearchState} → Reaching p shares job found
+reaching-target : {p : Problem} {shares : Shares} {job : ℕ} {found : SearchState} → Reaching p shares job found
     → (target : ℕ) → Reaching p shares job (withTarget found target)
 reaching-target reaching target =
     record {

@@ -13,7 +13,7 @@ use Rattle.workloads.specs.Placement.{Problem, SoundProblem, Open, loadO
 use Rattle.workloads.specs.Arrays.{numbersIn, SoundWorkload}
 
 module _ {p : Problem} (sound : SoundProblem p) where
-  pub frequency-mono : (k l : ℕ) → k ≤ l → l ≤ p .bands → p .frequency k ≤ p .frequency l
+  frequency-mono : (k l : ℕ) → k ≤ l → l ≤ p .bands → p .frequency k ≤ p .frequency l
   frequency-mono k l order inside = go (eq-or-lt-of-le order)
     where
       go : (k ≡ l) ⊎ (k < l) → p .frequency k ≤ p .frequency l
