@@ -3,5 +3,4 @@ mod reached;
 mod room;
 
 pub use reached::Found;
-pub use reached::only;
 pub use room::search;

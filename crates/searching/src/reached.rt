@@ -10,9 +10,8 @@ use model::MAX_INTERVALS;
 use model::MAX_JOBS;
 
 // What is reached: `count` jobs, and the intervals from `start` up to, not including, `end`. `unlisted` is the set of the
-// other jobs. The target is an interval with room, MAX_INTERVALS where none was
-// found. The jobs stand in an array beside this, and in another one each but the first has an interval, its source, where
-// it has a share.
+// other jobs. The target is an interval with room, MAX_INTERVALS where none was found. The jobs stand in an array beside
+// this, and in another one each but the first has an interval, its source, where it has a share.
 pub struct Found {
     pub count: usize,
     pub start: usize,
@@ -22,7 +21,7 @@ pub struct Found {
 }
 
 // Only the job being placed is reached.
-pub fn only(job: usize, first: usize, last: usize) -> Found
+pub(crate) fn only(job: usize, first: usize, last: usize) -> Found
     requires { ⌜ job < maxJobs ⌝ }
     ensures { λ r. ⌜ ((reached source : List ℕ) → stateOf r reached source ≡ onlyJob job first last reached source) ⌝ }
 {
