@@ -1,18 +1,16 @@
--- Laws of placing jobs band after band: at the start nothing is placed, and every price is the lowest; a job with cycles left
--- can be placed, and after its turn the next job can; after the turns of all jobs the next band starts; past the last band
--- all jobs are placed.
+-- Laws of placing jobs band after band: at the start nothing is placed, and every price is the lowest; after the turns of all
+-- jobs the next band starts; past the last band all jobs are placed.
 -- Assumes nothing.
 use mathlib.Core.Path.{_≡_}
 use mathlib.Core.Logic.{_⊎_, inl, inr}
-use Prim.Native.Nat.{ℕ, suc, _+_, _<_, _≤_}
-use native.Mathlib.Decide.{ℕ-discrete}
+use Prim.Native.Nat.{ℕ, suc, _<_, _≤_}
 use native.Mathlib.Nat.{eq-or-lt-of-le, eq-zero-or-pos, le-of-suc-le-suc}
 use native.Mathlib.Omega.{arith}
 use Rattle.model.specs.Plans.{Shares}
 use Rattle.model.proofs.Sum.{sum-zero}
 use Rattle.workloads.specs.Placement.{Problem, SoundProblem, Open, placedOf, Placed}
 use Rattle.paths.specs.Placing.{Placing}
-use Rattle.planner.specs.Filling.{Filling}
+use Rattle.filling.specs.Filling.{Filling}
 
 -- nothing is placed, and all prices are 0
 pub filling-none : {p : Problem} → SoundProblem p → (shares : Shares) (prices : ℕ → ℕ)
@@ -34,18 +32,6 @@ filling-none {p} sound shares prices no-share lowest =
     }
 
 module _ {p : Problem} {shares : Shares} {prices lefts : ℕ → ℕ} {band count : ℕ} (filling : Filling p shares prices lefts band count) where
-  -- a job with cycles left
-  pub placing-start : {job : ℕ} → job < p .jobs → band < p .bands → 0 < lefts job → Placing p shares prices lefts job (lefts job) band
-  placing-start {job} below more has =
-      record {
-        priced = filling .priced;
-        job-below = below;
-        here = filling .rest job below;
-        others = λ j inside other. filling .rest j inside;
-        band-below = more;
-        reaches = λ i inside is-open. filling .reaches i job inside below has is-open;
-      }
-
   -- one job more has no cycles left, or no price of its window is the band
   pub filling-passed : ((i : ℕ) → i < p .intervals → 0 < lefts count → Open p i count → band < prices i)
       → Filling p shares prices lefts band (suc count)
@@ -83,31 +69,6 @@ module _ {p : Problem} {shares : Shares} {prices lefts : ℕ → ℕ} {band coun
           let inside : start < p .intervals = omega (arith, sound .inside j below) in
           let is-open : Open p start j = record { from = omega arith; to = window } in
           absurd (omega (arith, filling .reaches start j inside below has is-open, filling .priced .band start inside))
-
-  -- after a job's turn
-  pub filling-turn : {job rest : ℕ} → count ≤ job → {after : Shares} {prices-after : ℕ → ℕ} → ((i : ℕ) → prices i ≤ prices-after i)
-      → Placing p after prices-after lefts job rest band
-      → (next : ℕ → ℕ) → next job ≡ rest → ((j : ℕ) → (j ≡ job → ⊥) → next j ≡ lefts j)
-      → Filling p after prices-after next band count
-  filling-turn {job} {rest} turn {after} {prices-after} rises placing next own same =
-      record {
-        priced = placing .priced;
-        rest = λ j below. rest-of j below (ℕ-discrete j job);
-        reaches = λ i j inside below has is-open. reaches i j inside below has is-open (ℕ-discrete j job);
-        passed = λ i j inside early has is-open.
-            let e = same j (λ e. omega arith) in
-            omega (arith, rises i, filling .passed i j inside early (omega arith) is-open);
-      }
-    where
-      rest-of : (j : ℕ) → j < p .jobs → Dec (j ≡ job) → placedOf p after j + next j ≡ p .cycles j
-      rest-of j below (yes its) = rw (its, own) (placing .here)
-      rest-of j below (no other) = rw (same j other) (placing .others j below other)
-
-      reaches : (i j : ℕ) → i < p .intervals → j < p .jobs → 0 < next j → Open p i j → Dec (j ≡ job) → band ≤ prices-after i
-      reaches i j inside below has is-open (yes its) = placing .reaches i inside (rw its at is-open)
-      reaches i j inside below has is-open (no other) =
-          let e = same j other in
-          omega (arith, rises i, filling .reaches i j inside below (omega arith) is-open)
 
 -- what holds at a band holds at the one below
 pub placing-lower : {p : Problem} {shares : Shares} {prices lefts : ℕ → ℕ} {job left band : ℕ} → Placing p shares prices lefts job left (suc band)

@@ -2,5 +2,4 @@
 pub mod BandOrder
 pub mod ClosedRange
 pub mod FullRange
-pub mod OwnIntervals
 pub mod PlaceSteps

@@ -6,8 +6,8 @@ use mathlib.Core.List.{List}
 use Prim.Native.Nat.{ℕ, suc, _+_, _-_, _*_, _<_, _≤_}
 use native.Mathlib.Numerals.{add-one}
 use native.Mathlib.Omega.{arith}
-use lib.ListN.{length, replicate, set, length-replicate, length-set}
-use lib.Seq.{getD-set-same, getD-set-other, set-getD}
+use lib.ListN.{length, replicate, set, length-replicate}
+use lib.Seq.{getD-set-same}
 use Rattle.model.specs.Limits.{maxJobs, maxDeadline, maxFrequency, maxIntervals}
 use Rattle.model.specs.Plans.{sharesIn}
 use Rattle.model.proofs.Sum.{sum-zero}
@@ -25,9 +25,11 @@ use Rattle.paths.specs.Placing.{Placing}
 use Rattle.paths.specs.FilledTargets.{PlacingTables, CanFill, Filled}
 use Rattle.paths.proofs.HeldJobs.{holding-start}
 use Rattle.prices.specs.RisingPrices.{Raised}
-use Rattle.planner.specs.PlacedTables.{PlacedTables, BandStart, FillingTables}
+use Rattle.filling.specs.Filling.{FillingTables}
+use Rattle.filling.proofs.Turns.{turn-end, left-same}
+use Rattle.planner.specs.PlacedTables.{PlacedTables, BandStart}
 use Rattle.planner.specs.BandPasses.{CanRaise}
-use Rattle.planner.proofs.BandOrder.{filling-none, placing-start, filling-passed, filling-next, filling-end, filling-turn, placing-lower}
+use Rattle.planner.proofs.BandOrder.{filling-none, filling-passed, filling-next, filling-end, placing-lower}
 use Rattle.planner.proofs.ClosedRange.{placing-raised}
 use Rattle.planner.proofs.FullRange.{range-order, next-band}
 
@@ -154,32 +156,6 @@ module _ {work : Workload} {table room holders left : List ℕ} {prices : ℕ �
         left-length = tables .left-length;
         filling = rw add-one (filling-passed (tables .filling) here);
       }
-
-  module _ {job : ℕ} (below : job < work .jobs) where
-    -- a job with cycles left
-    pub turn-start : 0 < numbersIn left job → PlacingTables work table room holders prices (numbersIn left) job (numbersIn left job) band
-    turn-start has =
-        record { stored = tables .stored; placing = placing-start (tables .filling) below (tables .band-below) has }
-
-    -- after its turn
-    pub turn-end : count ≤ job → {rest : ℕ} {after room-after holders-after : List ℕ} {prices-after : ℕ → ℕ}
-        → ((i : ℕ) → prices i ≤ prices-after i)
-        → PlacingTables work after room-after holders-after prices-after (numbersIn left) job rest band
-        → FillingTables work after room-after holders-after (set left job rest) prices-after band count
-    turn-end turn {rest} rises placing =
-        record {
-          stored = placing .stored;
-          band-below = tables .band-below;
-          left-length = length-set left job rest ∙ tables .left-length;
-          filling =
-              filling-turn (tables .filling) turn rises (placing .placing) (numbersIn (set left job rest))
-              (getD-set-same left job rest 0 (omega (arith, tables .left-length, tables .stored .sound .jobs-most)))
-              (λ j other. getD-set-other left job j rest 0 other);
-        }
-
--- what is left of a job is stored anew
-pub left-same : (left : List ℕ) (job : ℕ) {rest : ℕ} → numbersIn left job ≡ rest → set left job rest ≡ left
-left-same left job is = rw (← is) (set-getD left job 0)
 
 module _ {work : Workload} {table room holders : List ℕ} {prices lefts : ℕ → ℕ} {job left band : ℕ}
     (tables : PlacingTables work table room holders prices lefts job left band) where

@@ -12,8 +12,8 @@ use Rattle.workloads.specs.Arrays.{numbersIn, problemIn, lentWindows, KeptPast}
 use Rattle.searching.specs.Reached.{Closed}
 use Rattle.paths.specs.declared.Turn.{Turn}
 use Rattle.paths.specs.FilledTargets.{PlacingTables}
+use Rattle.filling.specs.Filling.{FillingTables}
 use Rattle.planner.specs.declared.moving.Rest.{Rest}
-use Rattle.planner.specs.PlacedTables.{FillingTables}
 
 -- All but what is left of a job's cycles are placed; where some are left, the search from it is closed.
 pub record JobMoved (work : Workload) (before table room holders : List ℕ) (prices lefts : ℕ → ℕ) (job band : ℕ) (rest : Rest) : Type 0 where

@@ -1,5 +1,5 @@
 -- The invariants of placing jobs, of shares, room and prices in plain arrays.
-use Prim.Native.Nat.{ℕ, suc, _<_}
+use Prim.Native.Nat.{ℕ}
 use mathlib.Core.Path.{_≡_}
 use mathlib.Core.List.{List}
 use lib.ListN.{length}
@@ -9,7 +9,7 @@ use Rattle.workloads.specs.declared.Workload.{Workload}
 use Rattle.workloads.specs.Placement.{Placed}
 use Rattle.workloads.specs.Arrays.{numbersIn, problemIn, Stored}
 use Rattle.paths.specs.FilledTargets.{StoredShares}
-use Rattle.planner.specs.Filling.{Filling}
+use Rattle.filling.specs.Filling.{Filling}
 
 -- All jobs are placed.
 pub record PlacedTables (work : Workload) (table loads prices : List ℕ) : Type 0 where
@@ -23,10 +23,3 @@ pub record BandStart (work : Workload) (table room holders left : List ℕ) (pri
   pub stored : StoredShares work table room holders (numbersIn (work .frequency) band)
   pub left-length : length left ≡ maxJobs
   pub filling : Filling (problemIn work) (sharesIn (work .jobs) table) prices (numbersIn left) band 0
-
--- Between two jobs at a band, with the room up to its end.
-pub record FillingTables (work : Workload) (table room holders left : List ℕ) (prices : ℕ → ℕ) (band count : ℕ) : Type 0 where
-  pub stored : StoredShares work table room holders (numbersIn (work .frequency) (suc band))
-  pub band-below : band < work .bands
-  pub left-length : length left ≡ maxJobs
-  pub filling : Filling (problemIn work) (sharesIn (work .jobs) table) prices (numbersIn left) band count

@@ -10,8 +10,9 @@ use Rattle.workloads.specs.Arrays.{numbersIn, lentWindows}
 use Rattle.workloads.proofs.SharesTable.{kept-refl}
 use Rattle.paths.specs.FilledTargets.{PlacingTables}
 use Rattle.prices.proofs.RaisedPrices.{raised-up}
+use Rattle.filling.proofs.Turns.{turn-start}
 use Rattle.planner.specs.BandPasses.{JobMoved, CanRaiseJob}
-use Rattle.planner.proofs.PlaceSteps.{turn-start, closed-range, raised-tables, raised-past, raise-passed, raise-moved}
+use Rattle.planner.proofs.PlaceSteps.{closed-range, raised-tables, raised-past, raise-passed, raise-moved}
 use Rattle.planner.proofs.moving.move_job.Statement.{statement}
 use Rattle.planner.proofs.moving.move_job.Tie as tie
 

@@ -9,7 +9,8 @@ use Rattle.model.specs.Limits.{maxLevels, maxIntervals}
 use Rattle.workloads.specs.declared.Workload.{Workload}
 use Rattle.workloads.specs.Arrays.{numbersIn, workloadWith, KeptPast}
 use Rattle.workloads.proofs.SharesTable.{kept-refl, kept-trans}
-use Rattle.planner.specs.PlacedTables.{BandStart, FillingTables}
+use Rattle.filling.specs.Filling.{FillingTables}
+use Rattle.planner.specs.PlacedTables.{BandStart}
 use Rattle.planner.specs.BandPasses.{CanRaise}
 use Rattle.planner.proofs.PlaceSteps.{tables-start, band-order, band-fits, band-opens, band-next, end-fits, tables-end}
 use Rattle.planner.proofs.placement.place.Statement.{statement}

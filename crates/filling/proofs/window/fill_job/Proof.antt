@@ -1,4 +1,4 @@
--- `filling::fill_job` meets its contract (proofs/PlaceSteps.antt). Assumes nothing.
+-- `window::fill_job` meets its contract (proofs/Turns.antt). Assumes nothing.
 use mathlib.Core.Path.{_∙_}
 use Prim.Native.Nat.{ℕ, _<_}
 use mathlib.Core.List.{List}
@@ -8,10 +8,10 @@ use denote.Ref.{now}
 use Rattle.workloads.specs.declared.Workload.{Workload}
 use Rattle.workloads.specs.Arrays.{numbersIn, lentWindows}
 use Rattle.workloads.proofs.SharesTable.{kept-refl}
-use Rattle.planner.specs.OwnWindows.{CanFillRange, CanFillJob}
-use Rattle.planner.proofs.PlaceSteps.{turn-start, turn-end, left-same}
-use Rattle.planner.proofs.filling.fill_job.Statement.{statement}
-use Rattle.planner.proofs.filling.fill_job.Tie as tie
+use Rattle.filling.specs.OwnWindows.{CanFillRange, CanFillJob}
+use Rattle.filling.proofs.Turns.{turn-start, turn-end, left-same}
+use Rattle.filling.proofs.window.fill_job.Statement.{statement}
+use Rattle.filling.proofs.window.fill_job.Tie as tie
 
 -- a workload with what is lent
 abbrev lent : tie.Start → Workload → Workload

@@ -1,7 +1,7 @@
 // Filling the jobs' own windows at a band: cycles go into each interval that has room, as far as they reach.
 ghost use Prim.Native.Nat.{ℕ, _+_, _<_};
 ghost use Rattle.workloads.specs.Arrays.{numbersIn};
-ghost use Rattle.planner.specs.OwnWindows.{RangeFill, RangeFilled, TurnFill, TurnFilled, WindowsPass, WindowsPassed};
+ghost use Rattle.filling.specs.OwnWindows.{RangeFill, RangeFilled, TurnFill, TurnFilled, WindowsPass, WindowsPassed};
 use job_sets::SET_WORDS;
 use model::MAX_INTERVALS;
 use model::MAX_JOBS;
@@ -9,8 +9,8 @@ use paths::Turn;
 use paths::put;
 
 // Fills the windows of the jobs in an order. This is for speed: a cycle that goes into its job's own window needs no search.
-// Whatever is put there, `move_jobs` then places what is left at least price.
-pub(crate) fn fill_jobs(
+// Whatever is put there, the planner then places what is left at least price.
+pub fn fill_jobs(
     first: &[usize; MAX_JOBS],
     last: &[usize; MAX_JOBS],
     order: &[usize; MAX_JOBS],

@@ -1,4 +1,4 @@
--- `filling::fill_range` meets its contract. The loop's invariant: the job is being placed, with `left` of its cycles left.
+-- `window::fill_range` meets its contract. The loop's invariant: the job is being placed, with `left` of its cycles left.
 -- Assumes nothing.
 use Prim.Native.Nat.{ℕ, _+_, _-_, _*_, _≤_}
 use native.Mathlib.Omega.{arith}
@@ -7,9 +7,9 @@ use Rattle.workloads.specs.declared.Workload.{Workload}
 use Rattle.workloads.specs.Arrays.{lentJobs, KeptPast}
 use Rattle.workloads.proofs.SharesTable.{kept-refl, kept-trans}
 use Rattle.paths.specs.FilledTargets.{PlacingTables}
-use Rattle.planner.specs.OwnWindows.{CanFillRange, RangeFilled}
-use Rattle.planner.proofs.filling.fill_range.Statement.{statement}
-use Rattle.planner.proofs.filling.fill_range.Tie as tie
+use Rattle.filling.specs.OwnWindows.{CanFillRange, RangeFilled}
+use Rattle.filling.proofs.window.fill_range.Statement.{statement}
+use Rattle.filling.proofs.window.fill_range.Tie as tie
 
 abbrev Inv-loop : tie.InvT-loop
 Inv-loop shares₀ room₀ holders₀ turn start end left₀ interval₀ shares room holders left interval =

@@ -1,4 +1,4 @@
--- `filling::fill_jobs` meets its contract. The loop's invariant: some cycles are placed. Assumes nothing.
+-- `window::fill_jobs` meets its contract. The loop's invariant: some cycles are placed. Assumes nothing.
 use mathlib.Core.Path.{refl}
 use Prim.Native.Nat.{_-_, _*_, _<_}
 use native.Mathlib.Omega.{arith}
@@ -6,10 +6,10 @@ use denote.Ref.{now}
 use Rattle.model.specs.Limits.{maxJobs}
 use Rattle.workloads.specs.Arrays.{numbersIn, lentWindows, KeptPast}
 use Rattle.workloads.proofs.SharesTable.{kept-refl, kept-trans}
-use Rattle.planner.specs.PlacedTables.{FillingTables}
-use Rattle.planner.specs.OwnWindows.{WindowsPassed}
-use Rattle.planner.proofs.filling.fill_jobs.Statement.{statement}
-use Rattle.planner.proofs.filling.fill_jobs.Tie as tie
+use Rattle.filling.specs.Filling.{FillingTables}
+use Rattle.filling.specs.OwnWindows.{WindowsPassed}
+use Rattle.filling.proofs.window.fill_jobs.Statement.{statement}
+use Rattle.filling.proofs.window.fill_jobs.Tie as tie
 
 abbrev Inv-loop : tie.InvT-loop
 Inv-loop first last order shares₀ room₀ holders₀ left₀ jobs k₀ shares room holders left k =

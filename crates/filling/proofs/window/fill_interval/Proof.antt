@@ -1,4 +1,4 @@
--- `filling::fill_interval` meets its contract (proofs/OwnIntervals.antt). Assumes nothing.
+-- `window::fill_interval` meets its contract (proofs/OwnIntervals.antt). Assumes nothing.
 use mathlib.Core.Logic.{⊎-elim}
 use Prim.Native.Nat.{ℕ, _+_, _<_, _≤_}
 use native.Mathlib.Omega.{arith}
@@ -9,10 +9,10 @@ use Rattle.workloads.specs.declared.Workload.{Workload}
 use Rattle.workloads.specs.Placement.{Open}
 use Rattle.workloads.specs.Arrays.{numbersIn, problemIn, lentJobs}
 use Rattle.workloads.proofs.SharesTable.{kept-refl}
-use Rattle.planner.specs.OwnWindows.{CanFillRange}
-use Rattle.planner.proofs.OwnIntervals.{own-small, own-job, own-place, own-room, own-share, own-kept, own-filled}
-use Rattle.planner.proofs.filling.fill_interval.Statement.{statement}
-use Rattle.planner.proofs.filling.fill_interval.Tie as tie
+use Rattle.filling.specs.OwnWindows.{CanFillRange}
+use Rattle.filling.proofs.OwnIntervals.{own-small, own-job, own-place, own-room, own-share, own-kept, own-filled}
+use Rattle.filling.proofs.window.fill_interval.Statement.{statement}
+use Rattle.filling.proofs.window.fill_interval.Tie as tie
 
 -- the job is being placed
 abbrev Places : tie.Start → (work : Workload) → (band : ℕ) → (prices lefts : ℕ → ℕ) → Type 0

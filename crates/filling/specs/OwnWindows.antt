@@ -9,7 +9,7 @@ use Rattle.workloads.specs.Placement.{Open}
 use Rattle.workloads.specs.Arrays.{numbersIn, problemIn, lentJobs, lentWindows, KeptPast}
 use Rattle.paths.specs.declared.Turn.{Turn}
 use Rattle.paths.specs.FilledTargets.{PlacingTables}
-use Rattle.planner.specs.PlacedTables.{FillingTables}
+use Rattle.filling.specs.Filling.{FillingTables}
 
 -- A job is being placed, and is open in each interval from start up to, not including, end.
 pub record CanFillRange (work : Workload) (table room holders : List ℕ) (prices lefts : ℕ → ℕ) (band : ℕ) (turn : Turn) (start end : ℕ) : Type 0 where
@@ -54,7 +54,7 @@ WindowsPass jobs first last table room holders left =
     (work : Workload) × (band : ℕ) × (prices : ℕ → ℕ) × FillingTables (lentWindows work jobs first last) table room holders left prices band 0
 
 -- They still can: what was put into the windows is a right start for what goes along paths at this band. More is not promised, so
--- that a function that puts nothing there would meet it too: least energy rests on the paths alone (`WindowsRaised`), and filled
+-- that a function that puts nothing there would meet it too: least energy rests on the paths alone (`WindowsRaised` of the planner), and filled
 -- windows only save searches.
 abbrev pub WindowsPassed : (jobs : ℕ) → (first last before room-before holders-before left-before table room holders left : List ℕ) → Type 0
 WindowsPassed jobs first last before room-before holders-before left-before table room holders left =
