@@ -8,8 +8,8 @@
  * number is 0 for an answer, and otherwise the number of the refusal, with its place (0 where none is named); README.md
  * lists them. Fields that a case does not fill are 0.
  *
- * No function uses a heap or writable static data. The deepest stack that was measured, on x86-64, is 14 kB for planning and for
- * checking, 6 kB for the spare and 2 kB for the setting (docs/BENCHMARK.md). */
+ * No function uses a heap or writable static data. The deepest stack that was measured, on x86-64, is 15 kB for planning, 10 kB
+ * for checking, 5 kB for the spare and 2 kB for the setting (docs/BENCHMARK.md). */
 #ifndef RAMYEARLY_H
 #define RAMYEARLY_H
 
