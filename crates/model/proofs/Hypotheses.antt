@@ -6,6 +6,7 @@ use Prim.Native.Nat.{ℕ, zero, suc, _<_}
 use native.Mathlib.Omega.{arith}
 use lib.ListN.{length}
 use Rattle.model.specs.Points.{points, pointAt}
+use Rattle.model.specs.Sites.{readSite}
 use Rattle.model.specs.Schedules.{Slot, idles, runs, IsGiven}
 use Rattle.model.specs.Hypotheses.{
   EveryLevelTable,
@@ -17,6 +18,7 @@ use Rattle.model.specs.Hypotheses.{
   EveryTableHasBounds,
   EverySchedule,
   EverySiteRead,
+  EveryValidTable,
   EveryBuffer,
 }
 use Rattle.model.proofs.Sites.{valid-tables, sites-are-valid}
@@ -101,6 +103,10 @@ every-schedule levels jobs q low slot named = (record { q = q; q-low = low; slot
 
 pub every-site-read : EverySiteRead
 every-site-read = (sites-are-valid, valid-tables)
+
+pub every-valid-table : EveryValidTable
+unfolding readSite
+every-valid-table levelBytes jobBytes levels jobs levels-read jobs-read = rw (levels-read, jobs-read)
 
 pub every-buffer : EveryBuffer
 every-buffer site planRoom priceRoom shareRoom plan-room price-room share-room =

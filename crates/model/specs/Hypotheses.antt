@@ -16,7 +16,7 @@ use Rattle.model.specs.Intervals.{boundsOf, intervalCount, boundAt, earl
 use Rattle.model.specs.Sites.{Site, siteOf, ValidSite, SitesAreValid}
 use Rattle.model.specs.Schedules.{Slot, idles, runs, horizon, Schedule}
 use Rattle.model.specs.LeastEnergy.{SoundSite}
-use Rattle.model.specs.Demands.{LongEnough}
+use Rattle.model.specs.Demands.{ValidTables, LongEnough}
 
 -- "1 to 8 levels, frequencies 1 to 1,000 and strictly rising, voltages 1 to 500 and never falling": all such levels are valid.
 abbrev pub EveryLevelTable : Type 0
@@ -89,6 +89,12 @@ EverySchedule =
 abbrev pub EverySiteRead : Type 0
 EverySiteRead =
     SitesAreValid × ((levels : List Level) (jobs : List Job) → ValidLevels levels → ValidJobs jobs → ValidSite (siteOf levels jobs))
+
+-- "valid tables": wherever levels and jobs are read, their bytes are valid tables of the site that they make.
+abbrev pub EveryValidTable : Type 0
+EveryValidTable =
+    (levelBytes jobBytes : List ℕ) (levels : List Level) (jobs : List Job) → readLevels levelBytes ≡ answer levels
+    → readJobs jobBytes ≡ answer jobs → ValidTables levelBytes jobBytes (siteOf levels jobs)
 
 -- "Buffers [are] long enough when none of 12 to 14" holds: 4 + 6K bytes, 2 + 5N bytes and n × N shares are enough.
 abbrev pub EveryBuffer : Type 0
