@@ -4,7 +4,7 @@ use mathlib.Core.Path.{_≡_, refl, sym, _∙_, ap}
 use mathlib.Core.List.{List}
 use Prim.Native.Nat.{ℕ}
 use lib.ListN.{length}
-use Rattle.model.specs.Sites.{Site, siteOf, readSite, ValidSite}
+use Rattle.model.specs.Sites.{Site, siteOf, ValidSite}
 use Rattle.model.specs.Steps.{sharesOf}
 use Rattle.model.specs.Checking.{figureOf}
 use Rattle.model.specs.Accepted.{Accepted}
@@ -13,6 +13,7 @@ use Rattle.model.proofs.Sites.{sites-are-valid, sound-site}
 use Rattle.model.proofs.LeastEnergy.{plans-are-schedules}
 use Rattle.model.proofs.Accepted.{check-accepts, check-read, check-reads}
 use Rattle.model.proofs.Demands.{long-enough-decides}
+use Rattle.model.proofs.Hypotheses.{every-valid-table}
 use Rattle.model.proofs.RefusalNumbers.{levels-by, jobs-by, setting-by, spare-by, walk-by, check-by, planning-by}
 use Rattle.planning.specs.declared.operation.PlanAnswer.{PlanAnswer}
 use Rattle.planning.specs.declared.operation.PlanAnswer.the-variants.{Plan, Overfull, Refused}
@@ -122,7 +123,6 @@ demand-three =
         (sym (planned-as _ _ site tables _ _ _) ∙ sym (call .contract .outcome) ∙ ap outcomeOf is))
 
 pub nothing-shut-out : NothingShutOut
-unfolding readSite
 nothing-shut-out =
     record {
       every-call = λ levelBytes jobBytes before after answered contract. (
@@ -133,5 +133,6 @@ nothing-shut-out =
         refl,
         refl,
       );
-      every-table = λ levelBytes jobBytes levels jobs levels-read jobs-read. (siteOf levels jobs, rw (levels-read, jobs-read), refl, refl);
+      every-table = λ levelBytes jobBytes levels jobs levels-read jobs-read.
+          (siteOf levels jobs, every-valid-table levelBytes jobBytes levels jobs levels-read jobs-read, refl, refl);
     }
