@@ -1,5 +1,4 @@
-#!/usr/bin/env python3
-"""Turns a site's tables from text into bytes and back.
+"""A site's tables in text and in bytes.
 
 A site is a folder. In text its tables are jobs.txt or jobs.csv, and levels.txt or
 levels.csv; in bytes they are jobs.tbl and levels.tbl.
@@ -13,11 +12,16 @@ Numbers are not compared with the limits of a site: that is the planner's work, 
 refusal names the entry. Only what has no room in the bytes is an error here.
 """
 
-import argparse
 import os
 import re
-import sys
 from typing import NamedTuple
+
+from .errors import TableError
+
+SIZE_BYTES = 2
+MOST_ENTRIES = 2 ** (8 * SIZE_BYTES) - 1
+JOBS_IN_A_CELL = 64  # a plan's cell is interval × 64 + job
+TEXT_ENDINGS = (".txt", ".csv")
 
 
 class Table(NamedTuple):
@@ -31,6 +35,14 @@ class Table(NamedTuple):
     def columns(self):
         return [column for array in self.arrays for column in array]
 
+    def head(self):
+        """The bytes that the sizes take."""
+        return SIZE_BYTES * len(self.sizes)
+
+    def length(self, count):
+        """The bytes that so many entries take."""
+        return self.head() + count * sum(bits // 8 for _, bits in self.columns())
+
 
 LEVELS = Table("levels", "level", ("levels",), ((("frequency", 16),), (("voltage", 16),)))
 JOBS = Table("jobs", "job", ("jobs",), ((("release", 32), ("deadline", 32)), (("cycles", 32),)))
@@ -39,14 +51,6 @@ PRICES = Table("prices", "interval", ("intervals",), ((("end", 32),), (("price",
 
 SITE_TABLES = (JOBS, LEVELS)
 ALL_TABLES = (JOBS, LEVELS, PLAN, PRICES)
-TEXT_ENDINGS = (".txt", ".csv")
-SIZE_BYTES = 2
-MOST_ENTRIES = 2 ** (8 * SIZE_BYTES) - 1
-JOBS_IN_A_CELL = 64  # a plan's cell is interval × 64 + job
-
-
-class TableError(Exception):
-    """What is wrong with a table, as one line that names its file."""
 
 
 # Text to entries.
@@ -62,8 +66,12 @@ def read_number(word, column, bits):
     digits = word.replace("_", "").lstrip("-0")[:20]
     number = int(digits or "0")
     if number >= 2**bits or (word.startswith("-") and number > 0):
-        raise ValueError(f"{column} '{word}' does not fit in {bits} bits (0 to {2**bits - 1})")
+        raise ValueError(f"{column} '{word}' {no_room(bits)}")
     return number
+
+
+def no_room(bits):
+    return f"does not fit in {bits} bits (0 to {2**bits - 1})"
 
 
 def read_entry(words, table):
@@ -81,8 +89,8 @@ def is_header(words, table):
 
 
 def parse_text(text, table, name):
-    """The entries of a text. An error names the file and the line."""
-    entries = []
+    """The entries of a text, and the line of each. An error names the file and the line."""
+    entries, lines = [], []
     first = True
     for number, line in enumerate(text.split("\n"), start=1):
         line = line.split("#")[0].strip()
@@ -94,68 +102,104 @@ def parse_text(text, table, name):
         if header:
             continue
         if len(entries) == MOST_ENTRIES:
-            raise TableError(f"{name}:{number}: more than {MOST_ENTRIES} entries do not fit in the count's 16 bits")
+            raise TableError(f"{name} line {number}: more than {MOST_ENTRIES} entries do not fit in the count's 16 bits")
         try:
             entries.append(read_entry(words, table))
         except ValueError as error:
-            raise TableError(f"{name}:{number}: {error}") from None
-    return entries
+            raise TableError(f"{name} line {number}: {error}") from None
+        lines.append(number)
+    return entries, lines
 
 
 def read_text(path, table):
-    """The entries of a text file. Spreadsheets put a mark before UTF-8 text, which is passed over."""
+    """The entries of a text file, with their lines. Spreadsheets put a mark before UTF-8 text, which is passed over."""
     with open(path, "rb") as file:
         data = file.read()
     try:
         text = data.decode("utf-8-sig")
     except UnicodeDecodeError as error:
         line = data.count(b"\n", 0, error.start) + 1
-        raise TableError(f"{path}:{line}: this is not text") from None
+        raise TableError(f"{path} line {line}: this is not text") from None
     return parse_text(text, table, path)
 
 
 # Entries to bytes and back.
 
 
-def to_bytes(entries, table):
-    """The bytes of a table that has one size, the number of its entries."""
-    data = bytearray(len(entries).to_bytes(SIZE_BYTES, "little"))
+def to_bytes(entries, table, sizes=()):
+    """The bytes of a table: its sizes before the number of entries, and the entries. A ValueError names what has no room."""
+    counts = (*sizes, len(entries))
+    data = bytearray()
+    for name, count in zip(table.sizes, counts):
+        data += number_bytes(count, name, 8 * SIZE_BYTES)
     start = 0
     for array in table.arrays:
         for entry in entries:
-            for number, (_, bits) in zip(entry[start:], array):
-                data += number.to_bytes(bits // 8, "little")
+            for number, (name, bits) in zip(entry[start:], array):
+                data += number_bytes(number, name, bits)
         start += len(array)
     return bytes(data)
 
 
+def number_bytes(number, name, bits):
+    if not 0 <= number < 2**bits:
+        raise ValueError(f"{name} {number} {no_room(bits)}")
+    return number.to_bytes(bits // 8, "little")
+
+
+def sizes_of(data, table):
+    """The sizes that stand at the beginning of a table's bytes, which has them all."""
+    return [int.from_bytes(data[at : at + SIZE_BYTES], "little") for at in range(0, table.head(), SIZE_BYTES)]
+
+
+def length_fault(data, table):
+    """Why these bytes are no table, as words, or nothing where their length is right."""
+    have = "1 byte" if len(data) == 1 else f"{len(data)} bytes"
+    if len(data) < table.head():
+        return f"{have}, but the sizes alone take {table.head()}"
+    count = sizes_of(data, table)[-1]
+    if len(data) != table.length(count):
+        return f"{have}, but {table.sizes[-1]} number {count}, which takes {table.length(count)}"
+    return None
+
+
 def from_bytes(data, table, name):
     """The sizes and the entries of a table in bytes. An error names the file."""
-    have = "1 byte" if len(data) == 1 else f"{len(data)} bytes"
-    head = SIZE_BYTES * len(table.sizes)
-    if len(data) < head:
-        raise TableError(f"{name}: {have}, but the sizes alone take {head}")
-    sizes = [int.from_bytes(data[at : at + SIZE_BYTES], "little") for at in range(0, head, SIZE_BYTES)]
-    count = sizes[-1]
-    want = head + count * sum(bits // 8 for _, bits in table.columns())
-    if len(data) != want:
-        raise TableError(f"{name}: {have}, but {table.sizes[-1]} number {count}, which takes {want}")
-    entries = [()] * count
-    at = head
+    fault = length_fault(data, table)
+    if fault:
+        raise TableError(f"{name}: {fault}")
+    sizes = sizes_of(data, table)
+    entries = [()] * sizes[-1]
+    at = table.head()
     for array in table.arrays:
-        for i in range(count):
+        for i in range(len(entries)):
             for _, bits in array:
                 entries[i] += (int.from_bytes(data[at : at + bits // 8], "little"),)
                 at += bits // 8
     return sizes, entries
 
 
-# Entries to text.
-
-
 def split_cells(entries):
     """A plan's steps with the interval and the job of their cells."""
     return [(cell // JOBS_IN_A_CELL, cell % JOBS_IN_A_CELL, cycles) for cell, cycles in entries]
+
+
+def spans(jobs, prices):
+    """From and to of each interval: a price list has the ends, and the first interval begins at the earliest release."""
+    ends = [end for end, _ in prices]
+    starts = [min(release for release, _, _ in jobs), *ends[:-1]] if ends else []
+    return list(zip(starts, ends))
+
+
+def join_cells(steps):
+    """The entries of a plan in bytes, from steps of interval, job and cycles. A ValueError names a job without a cell."""
+    for _, job, _ in steps:
+        if not 0 <= job < JOBS_IN_A_CELL:
+            raise ValueError(f"job {job} has no place in a cell (0 to {JOBS_IN_A_CELL - 1})")
+    return [(interval * JOBS_IN_A_CELL + job, cycles) for interval, job, cycles in steps]
+
+
+# Entries to text.
 
 
 def to_text(sizes, entries, table, csv=False):
@@ -171,14 +215,6 @@ def to_text(sizes, entries, table, csv=False):
     return "\n".join(lines) + "\n"
 
 
-# Folders.
-
-
-def check_folder(path):
-    if not os.path.isdir(path):
-        raise TableError(f"{path}: not a folder")
-
-
 def text_file(folder, table):
     """The path of a table's text form, or None. Two text forms may disagree, so they are an error."""
     paths = [os.path.normpath(os.path.join(folder, table.name + ending)) for ending in TEXT_ENDINGS]
@@ -186,80 +222,3 @@ def text_file(folder, table):
     if len(found) > 1:
         raise TableError(f"{found[1]}: {os.path.basename(found[0])} is there too; keep one of them")
     return found[0] if found else None
-
-
-def encode_folder(site, out):
-    """Writes the .tbl form of each table that has a text form. Nothing is written where one has an error."""
-    check_folder(site)
-    check_folder(out)
-    sources = [(table, text_file(site, table)) for table in SITE_TABLES]
-    made = [(table, to_bytes(read_text(path, table), table)) for table, path in sources if path]
-    if not made:
-        raise TableError(f"{site}: no job list and no level list in text (jobs.txt, jobs.csv, levels.txt, levels.csv)")
-    for table, data in made:
-        with open(os.path.join(out, table.name + ".tbl"), "wb") as file:
-            file.write(data)
-
-
-def decode_file(path, table, csv):
-    with open(path, "rb") as file:
-        data = file.read()
-    sizes, entries = from_bytes(data, table, path)
-    return to_text(sizes, entries, table, csv)
-
-
-def decode_folder(site, out, csv):
-    """Prints each table in bytes as text, or writes it to a folder. A text form that is there stays as it is."""
-    check_folder(site)
-    made = []
-    for table in ALL_TABLES:
-        path = os.path.normpath(os.path.join(site, table.name + ".tbl"))
-        if os.path.exists(path):
-            made.append((table, decode_file(path, table, csv)))
-    if not made:
-        raise TableError(f"{site}: no table in bytes (jobs.tbl, levels.tbl, plan.tbl, prices.tbl)")
-    if out is None:
-        for table, text in made:
-            print(f"# {table.name}.tbl\n{text}", end="")
-        return
-    check_folder(out)
-    for table, _ in made:
-        there = text_file(out, table)
-        if there:
-            raise TableError(f"{there}: is there already, and is not written over")
-    for table, text in made:
-        with open(os.path.join(out, table.name + (".csv" if csv else ".txt")), "w", encoding="utf-8") as file:
-            file.write(text)
-
-
-def parse_arguments(arguments):
-    parser = argparse.ArgumentParser(description=__doc__, formatter_class=argparse.RawDescriptionHelpFormatter)
-    commands = parser.add_subparsers(dest="command", required=True, metavar="encode | decode")
-    encode = commands.add_parser("encode", help="text to bytes: writes jobs.tbl and levels.tbl")
-    encode.add_argument("site", metavar="SITE-DIR", help="the folder with the text forms")
-    encode.add_argument("out", metavar="OUT-DIR", nargs="?", help="where to write (SITE-DIR if left out)")
-    decode = commands.add_parser("decode", help="bytes to text: jobs.tbl, levels.tbl, plan.tbl, prices.tbl")
-    decode.add_argument("site", metavar="SITE-DIR", help="the folder with the .tbl files")
-    decode.add_argument("out", metavar="OUT-DIR", nargs="?", help="where to write (standard output if left out)")
-    decode.add_argument("--csv", action="store_true", help="commas between the columns, and their names in a line")
-    return parser.parse_args(arguments)
-
-
-def main(arguments):
-    options = parse_arguments(arguments)
-    try:
-        if options.command == "encode":
-            encode_folder(options.site, options.out or options.site)
-        else:
-            decode_folder(options.site, options.out, options.csv)
-    except TableError as error:
-        print(error, file=sys.stderr)
-        return 1
-    except OSError as error:
-        print(f"{error.filename}: {error.strerror}", file=sys.stderr)
-        return 1
-    return 0
-
-
-if __name__ == "__main__":
-    sys.exit(main(sys.argv[1:]))

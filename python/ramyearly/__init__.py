@@ -1,0 +1,16 @@
+"""Least-energy clock plans, over the proved archive.
+
+    >>> import ramyearly
+    >>> ramyearly.plan(levels=[(2, 10), (4, 20)], jobs=[(0, 4, 6), (2, 3, 4)]).energy
+    2200
+
+plan, check, setting and spare take plain values and answer plain values; refusals are exceptions with number, place and
+words. Every answer is the archive's: the package decides nothing.
+"""
+
+from .errors import Trouble
+from .operations import Planned, Setting, check, plan, setting, spare
+from .refusals import Overfull, Refused
+
+__all__ = ["Overfull", "Planned", "Refused", "Setting", "Trouble", "check", "plan", "setting", "spare"]
+__version__ = "1.0.0"

@@ -1,0 +1,113 @@
+"""The operations on plain values.
+
+A level is (frequency, voltage), a job (release, deadline, cycles), a step (interval, job, cycles) and a price
+(end, price). A refusal is raised as Refused, or as Overfull where no schedule meets all deadlines. A number that has
+no room in the tables is a ValueError.
+"""
+
+from typing import NamedTuple
+
+from . import archive, tables
+from .refusals import Call, entries_of, overfull, refused
+
+
+class Planned(NamedTuple):
+    """A plan of least energy."""
+
+    energy: int  # the energy figure
+    steps: list  # (interval, job, cycles), in the order written
+    spans: list  # for each interval (from, to)
+    prices: list  # for each interval (end, price)
+    shares: list  # for each interval the cycles of each job there
+    plan_bytes: bytes  # the plan as the kernel loads it
+    price_bytes: bytes  # the price list as the check reads it
+
+
+class Setting(NamedTuple):
+    """The clock of one interval: extra / gap ticks on the upper level of the band, then the lower one."""
+
+    band: int
+    extra: int
+    gap: int
+
+
+def level_table(levels):
+    return tables.to_bytes(levels, tables.LEVELS)
+
+
+def job_table(jobs):
+    return tables.to_bytes(jobs, tables.JOBS)
+
+
+def number(value, name, bits):
+    """A number that the archive takes as so many bits."""
+    if not 0 <= value < 2**bits:
+        raise ValueError(f"{name} {value} {tables.no_room(bits)}")
+    return value
+
+
+def plan(levels, jobs):
+    """A plan that no schedule beats which meets all deadlines, with the prices that show it."""
+    return plan_tables(level_table(levels), job_table(jobs))
+
+
+def plan_tables(levels, jobs):
+    """Plans a site whose tables are bytes."""
+    answer, plan_buffer, price_buffer, shares = archive.plan(levels, jobs)
+    call = Call(levels=levels, jobs=jobs)
+    if answer.number == 11:
+        raise overfull(answer, call)
+    if answer.number:
+        raise refused(answer.number, answer.place, call)
+    plan_bytes = bytes(plan_buffer)[: tables.PLAN.length(answer.steps)]
+    price_bytes = bytes(price_buffer)[: tables.PRICES.length(answer.intervals)]
+    job_entries = entries_of(jobs, tables.JOBS)
+    prices = entries_of(price_bytes, tables.PRICES)
+    count = len(job_entries)
+    return Planned(
+        energy=answer.energy,
+        steps=tables.split_cells(entries_of(plan_bytes, tables.PLAN)),
+        spans=tables.spans(job_entries, prices),
+        prices=prices,
+        shares=[list(shares[count * interval : count * (interval + 1)]) for interval in range(answer.intervals)],
+        plan_bytes=plan_bytes,
+        price_bytes=price_bytes,
+    )
+
+
+def check(levels, jobs, steps, prices):
+    """The energy figure of a plan that is accepted with its prices. A plan has as many intervals as there are prices."""
+    plan_bytes = tables.to_bytes(tables.join_cells(steps), tables.PLAN, sizes=(len(prices),))
+    return check_tables(level_table(levels), job_table(jobs), plan_bytes, tables.to_bytes(prices, tables.PRICES))
+
+
+def check_tables(levels, jobs, plan_bytes, price_bytes):
+    """Checks a plan and its price list that are bytes."""
+    answer = archive.check(levels, jobs, plan_bytes, price_bytes)
+    if answer.number:
+        raise refused(answer.number, answer.place, Call(levels, jobs, plan_bytes, price_bytes))
+    return answer.energy
+
+
+def setting(levels, length, load):
+    """The setting of one interval of this length with this load; zeros for load 0."""
+    return setting_of(level_table(levels), number(length, "length", 32), number(load, "load", 64))
+
+
+def setting_of(levels, length, load):
+    answer = archive.setting(levels, length, load)
+    if answer.number:
+        raise refused(answer.number, answer.place, Call(levels=levels, length=length, load=load))
+    return Setting(answer.band, answer.extra, answer.gap)
+
+
+def spare(levels, jobs, start, end):
+    """The spare of a window, negative where it is overfull."""
+    return spare_of(level_table(levels), job_table(jobs), number(start, "start", 32), number(end, "end", 32))
+
+
+def spare_of(levels, jobs, start, end):
+    answer = archive.spare(levels, jobs, start, end)
+    if answer.number:
+        raise refused(answer.number, answer.place, Call(levels=levels, jobs=jobs, start=start, end=end))
+    return answer.spare

@@ -1,0 +1,277 @@
+"""The refusals of document 01 in words.
+
+The archive decides which refusal holds and at which place. What stands here only finds words for it: it looks up the
+numbers that the refusal speaks of, and where a refusal has two reasons it says the one that these numbers show.
+"""
+
+from typing import NamedTuple
+
+from . import archive, tables
+
+
+class Call(NamedTuple):
+    """What an operation was lent. A refusal's words look up in it what they speak of."""
+
+    levels: bytes = b""
+    jobs: bytes = b""
+    plan: bytes = b""
+    prices: bytes = b""
+    length: int = 0
+    load: int = 0
+    start: int = 0
+    end: int = 0
+
+
+class Refused(Exception):
+    """A refusal: its number, its place, and words; the table that it is about and, where it names one, the entry."""
+
+    def __init__(self, number, place, table, entry, words):
+        super().__init__(number, place)
+        self.number, self.place, self.table, self.entry, self.words = number, place, table, entry, words
+
+    def reference(self):
+        noun = PLACES.get(self.number)
+        return f"refusal {self.number}" + (f", {noun} {self.place}" if noun else "")
+
+    def __str__(self):
+        about = f"{self.table.name}: " if self.table else ""
+        return f"{about}{self.words} ({self.reference()})"
+
+
+class Overfull(Refused):
+    """Refusal 11: the earliest overfull window, its spare, and the numbers of its own jobs."""
+
+    def __init__(self, start, end, spare, inside):
+        more = f"{-spare} cycle{'s' if spare < -1 else ''} more"
+        words = f"overfull: from {start} to {end} {own_jobs(inside)} {more} than the top frequency gives"
+        super().__init__(11, 0, tables.JOBS, None, words)
+        self.start, self.end, self.spare, self.inside = start, end, spare, inside
+
+    def reference(self):
+        return f"refusal 11, window {self.start} to {self.end}, spare {self.spare}"
+
+
+def listed(numbers):
+    """Numbers as words: 1, 2 and 3."""
+    *first, last = map(str, numbers)
+    return f"{', '.join(first)} and {last}" if first else last
+
+
+def own_jobs(inside):
+    return f"job {inside[0]} needs" if len(inside) == 1 else f"jobs {listed(inside)} need"
+
+
+# What the place of a refusal counts, where it has one.
+PLACES = {
+    **dict.fromkeys((4, 5, 9, 10), "entry"),
+    **dict.fromkeys((12, 13, 14), "length wanted"),
+    **dict.fromkeys((17, 18, 24), "step"),
+    **dict.fromkeys((20, 22, 23), "interval"),
+    19: "job",
+}
+
+
+def refused(number, place, call):
+    """The exception for a refusal other than 11."""
+    table, says, by_entry = REASONS[number]
+    entry = place if by_entry else None
+    return Refused(number, place, table, entry, says(call, place))
+
+
+def overfull(answer, call):
+    """The exception for refusal 11."""
+    return Overfull(answer.start, answer.end, answer.spare, inside(call, answer.start, answer.end))
+
+
+def inside(call, start, end):
+    """The jobs inside a window. The archive says which: alone in a table, such a job takes of the window's spare."""
+
+    def spare(entries):
+        return archive.spare(call.levels, tables.to_bytes(entries, tables.JOBS), start, end).spare
+
+    empty = spare([])
+    return [number for number, job in enumerate(entries_of(call.jobs, tables.JOBS)) if spare([job]) < empty]
+
+
+def entries_of(data, table):
+    return tables.from_bytes(data, table, table.name)[1]
+
+
+def entry_and_before(data, table, place):
+    """An entry, and the one before it or None."""
+    entries = entries_of(data, table)
+    return entries[place], (entries[place - 1] if place else None)
+
+
+# Levels and jobs.
+
+
+def count_of_levels(call, place):
+    return f"{tables.sizes_of(call.levels, tables.LEVELS)[0]} levels, but a table has 1 to 8"
+
+
+def frequency(call, place):
+    (value, _), before = entry_and_before(call.levels, tables.LEVELS, place)
+    if before and value <= before[0]:
+        return f"frequency {value} is not above {before[0]} before it"
+    return f"frequency {value} is not in range (1 to 1,000)"
+
+
+def voltage(call, place):
+    (_, value), before = entry_and_before(call.levels, tables.LEVELS, place)
+    if before and value < before[1]:
+        return f"voltage {value} is below {before[1]} before it"
+    return f"voltage {value} is not in range (1 to 500)"
+
+
+def count_of_jobs(call, place):
+    return f"{tables.sizes_of(call.jobs, tables.JOBS)[0]} jobs, but a table has at most 64"
+
+
+def window(call, place):
+    release, deadline, _ = entries_of(call.jobs, tables.JOBS)[place]
+    if release >= deadline:
+        return f"release {release} is not before deadline {deadline}"
+    return f"deadline {deadline} is above 1,000,000"
+
+
+def cycles(call, place):
+    return f"cycles {entries_of(call.jobs, tables.JOBS)[place][2]} are not in range (1 to 1,000,000,000)"
+
+
+def too_short(call, place):
+    return "a buffer is too short"
+
+
+# Plans.
+
+
+def steps_of(call):
+    return tables.split_cells(entries_of(call.plan, tables.PLAN))
+
+
+def number_of_intervals(call, place):
+    return f"{tables.sizes_of(call.plan, tables.PLAN)[0]} intervals, but the jobs make another number"
+
+
+def cell(call, place):
+    cells = [step[:2] for step in steps_of(call)]
+    interval, job = cells[place]
+    first = cells.index(cells[place])
+    if first < place:
+        return f"job {job} in interval {interval} stands in step {first} already"
+    return f"job {job} is not open in interval {interval}"
+
+
+def step_cycles(call, place):
+    interval, job, value = steps_of(call)[place]
+    if value == 0:
+        return f"0 cycles of job {job} in interval {interval}"
+    return f"{value} cycles of job {job} in interval {interval}, but the job has {entries_of(call.jobs, tables.JOBS)[job][2]}"
+
+
+def sum_of_job(call, place):
+    given = sum(value for _, job, value in steps_of(call) if job == place)
+    return f"the plan gives job {place} {given} cycles, but it has {entries_of(call.jobs, tables.JOBS)[place][2]}"
+
+
+def overloaded(call, place):
+    return f"interval {place} has {load_of(call, place)} cycles, more than the top frequency gives in it"
+
+
+def load_of(call, place):
+    return sum(value for interval, _, value in steps_of(call) if interval == place)
+
+
+# Price lists. The plan fits where one of these holds, so that its number of intervals is right and a plan of the site
+# comes out, whose price list has the true ends.
+
+
+def price_list(call, place):
+    fault = tables.length_fault(call.prices, tables.PRICES)
+    wanted = tables.sizes_of(call.plan, tables.PLAN)[0]
+    if len(call.prices) < tables.PRICES.head() or tables.sizes_of(call.prices, tables.PRICES)[0] == wanted:
+        return fault
+    return f"{tables.sizes_of(call.prices, tables.PRICES)[0]} intervals, but the plan has {wanted}"
+
+
+def true_spans(call):
+    answer, _, prices, _ = archive.plan(call.levels, call.jobs)
+    written = bytes(prices)[: tables.PRICES.length(answer.intervals)]
+    return tables.spans(entries_of(call.jobs, tables.JOBS), entries_of(written, tables.PRICES))
+
+
+def end_or_price(call, place):
+    end, price = entries_of(call.prices, tables.PRICES)[place]
+    _, true_end = true_spans(call)[place]
+    if end != true_end:
+        return f"interval {place} ends at {true_end}, not at {end}"
+    return f"price {price} of interval {place} is not the number of a band"
+
+
+def price_and_load(call, place):
+    start, end = true_spans(call)[place]
+    load = load_of(call, place)
+    price = entries_of(call.prices, tables.PRICES)[place][1]
+    band = archive.setting(call.levels, end - start, load).band
+    beside = f"which is in band {band}" if band else "which wants price 1"
+    return f"price {price} does not fit the load {load} of interval {place}, {beside}"
+
+
+def dearer(call, place):
+    interval, job, _ = steps_of(call)[place]
+    price = entries_of(call.prices, tables.PRICES)[interval][1]
+    return f"job {job} runs in interval {interval} at price {price}, but is open in one of a smaller price"
+
+
+# Setting and spare.
+
+
+def length(call, place):
+    return f"length {call.length} is not in range (1 to 1,000,000)"
+
+
+def load(call, place):
+    return f"load {call.load} is more than the top frequency gives in {call.length} ticks"
+
+
+def span(call, place):
+    if call.start >= call.end:
+        return f"start {call.start} is not before end {call.end}"
+    return f"end {call.end} is above 1,000,000"
+
+
+def length_of(table):
+    """Words for a table whose length is wrong. The table is the field of that name in the call."""
+    return lambda call, place: tables.length_fault(getattr(call, table.name), table)
+
+
+# For each refusal the table that it is about, its words, and whether its place is an entry of that table.
+REASONS = {
+    1: (tables.LEVELS, length_of(tables.LEVELS), False),
+    2: (tables.LEVELS, count_of_levels, False),
+    3: (tables.LEVELS, length_of(tables.LEVELS), False),
+    4: (tables.LEVELS, frequency, True),
+    5: (tables.LEVELS, voltage, True),
+    6: (tables.JOBS, length_of(tables.JOBS), False),
+    7: (tables.JOBS, count_of_jobs, False),
+    8: (tables.JOBS, length_of(tables.JOBS), False),
+    9: (tables.JOBS, window, True),
+    10: (tables.JOBS, cycles, True),
+    12: (None, too_short, False),
+    13: (None, too_short, False),
+    14: (None, too_short, False),
+    15: (tables.PLAN, length_of(tables.PLAN), False),
+    16: (tables.PLAN, number_of_intervals, False),
+    17: (tables.PLAN, cell, True),
+    18: (tables.PLAN, step_cycles, True),
+    19: (tables.JOBS, sum_of_job, True),
+    20: (tables.PLAN, overloaded, False),
+    21: (tables.PRICES, price_list, False),
+    22: (tables.PRICES, end_or_price, True),
+    23: (tables.PRICES, price_and_load, True),
+    24: (tables.PLAN, dearer, True),
+    25: (None, length, False),
+    26: (None, load, False),
+    27: (None, span, False),
+}
