@@ -1,11 +1,12 @@
 """A site's folder: its tables as bytes, each with the file and the lines that they came from."""
 
+import contextlib
 import os
 from typing import NamedTuple
 
 from . import tables
-from .errors import TableError
-from .refusals import Overfull, listed
+from .errors import SiteError, TableError
+from .refusals import Overfull, Refused, listed
 
 
 class Source(NamedTuple):
@@ -81,3 +82,12 @@ def explain(refusal, site):
         entries = [] if refusal.entry is None else [refusal.entry]
     empty = f"{source.trouble}, so it counts as empty: " if source.trouble else ""
     return f"{place_in(source, entries)}: {empty}{refusal.words} ({refusal.reference()})"
+
+
+@contextlib.contextmanager
+def explained(site):
+    """Turns a refusal into the line that explains it."""
+    try:
+        yield
+    except Refused as refusal:
+        raise SiteError(explain(refusal, site)) from None

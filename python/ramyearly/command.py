@@ -1,0 +1,69 @@
+"""The command: its verbs, what it says of itself, and how it ends."""
+
+import functools
+import signal
+
+from . import __version__
+from .errors import Trouble
+from .files import Stopped, stop_in_order
+from .terminal import NAME, accept_any_name, put, say
+from .verbs import check, decode, encode, listing, plan, report
+from .verbs.folders import DONE, FAILED, STATUSES
+
+VERBS = {"plan": plan, "check": check, "report": report, "encode": encode, "decode": decode}
+
+SITES = """\
+ramyearly VERB --help says more of each. A folder with the name of a verb is given as ./plan.
+
+DIR is the folder of a site. It holds a job list and a level list, each as
+
+  jobs.txt   or jobs.csv     release, deadline and cycles, a job to a line
+  levels.txt or levels.csv   frequency and voltage, a level to a line
+  jobs.tbl, levels.tbl       the same in bytes
+
+Where a table is there in text and in bytes, the text is used: people edit the text, and the
+bytes are made from it. A table in bytes that can't be read counts as empty.
+
+The listing is the site's least-energy plan, the window that is overfull, or the refusal; with
+several folders a line with '#' and the folder stands before each.
+"""
+
+
+def overview():
+    """What --help prints."""
+    lines = [f"{NAME} {arguments:<24} {does}" for arguments, does in (verb.USAGE for verb in (listing, *VERBS.values()))]
+    return "usage: " + "\n       ".join(lines) + "\n\n" + SITES + "\n" + STATUSES
+
+
+def run(arguments, prepare):
+    """Answers the exit status."""
+    first = arguments[0] if arguments else None
+    if first in ("-h", "--help"):
+        put(overview())
+        return DONE
+    if first == "--version":
+        put(f"{NAME} {__version__}\n")
+        return DONE
+    if first is None:
+        say("give the folder of a site (--help says more)")
+        return FAILED
+    if first in VERBS:
+        return VERBS[first].run(arguments[1:], prepare)
+    return listing.run(arguments, prepare)
+
+
+def main(arguments, prepare=lambda: None):
+    """Runs the command. prepare is called before the archive is first used, and may raise Trouble."""
+    accept_any_name()
+    stop_in_order()
+    # A reader that has seen enough, as head, ends the command quietly.
+    signal.signal(signal.SIGPIPE, signal.SIG_DFL)
+    try:
+        return run(arguments, functools.cache(prepare))
+    except Trouble as error:
+        say(error)
+        return FAILED
+    except Stopped as stop:
+        # The shell is to see that a signal ended the command.
+        signal.signal(stop.number, signal.SIG_DFL)
+        signal.raise_signal(stop.number)

@@ -1,0 +1,2 @@
+def page(title, site, outcome):
+    return f"{title} {outcome}\n"

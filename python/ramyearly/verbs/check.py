@@ -1,0 +1,26 @@
+"""Checks the plans that stand beside the tables of sites."""
+
+from .. import tables
+from ..operations import check_tables
+from ..sites import explained, read_plan, read_site
+from .folders import on_sites, parser_of
+
+USAGE = ("check DIR...", "check plan.tbl and prices.tbl")
+
+
+def run(arguments, prepare):
+    parser = parser_of(
+        "check",
+        "Checks plan.tbl and prices.tbl against the tables of each site: a plan that is accepted gives\n"
+        "each job its cycles between release and deadline, and no schedule needs less energy.",
+        several=True,
+    )
+
+    def work(folder):
+        site = read_plan(read_site(folder))
+        prepare()
+        with explained(site):
+            energy = check_tables(*map(site.data, (tables.LEVELS, tables.JOBS, tables.PLAN, tables.PRICES)))
+        return f"{folder}: accepted, energy {energy}\n", None
+
+    return on_sites(parser.parse_args(arguments).folders, work)

@@ -1,0 +1,69 @@
+"""What all verbs have in common: their arguments, and their work on one folder after another."""
+
+import argparse
+import errno
+import os
+
+from ..errors import SiteError
+from ..terminal import NAME, Progress, put, say
+
+# Exit statuses. With several folders the worst one is the command's.
+DONE, REFUSED, FAILED = 0, 1, 2
+
+STATUSES = """\
+exit status: 0 done; 1 a site is overfull or refused, or its text is no table; 2 wrong usage, or a
+file could not be written. With several folders the worst one.
+"""
+
+
+def parser_of(verb, description, several=False):
+    """The parser of a verb, with its folders."""
+    prog = f"{NAME} {verb}" if verb else NAME
+    parser = argparse.ArgumentParser(
+        prog=prog, description=description, epilog=STATUSES, allow_abbrev=False,
+        formatter_class=argparse.RawDescriptionHelpFormatter,
+    )  # fmt: skip
+    if several:
+        parser.add_argument("folders", metavar="DIR", nargs="+", help="the folder of a site")
+    else:
+        parser.add_argument("folder", metavar="DIR", help="the folder of a site")
+    return parser
+
+
+def check_folder(path):
+    if not os.path.exists(path):
+        raise FileNotFoundError(errno.ENOENT, "no such folder", path)
+    if not os.path.isdir(path):
+        raise NotADirectoryError(errno.ENOTDIR, "not a folder", path)
+    if not os.access(path, os.R_OK | os.X_OK):
+        raise PermissionError(errno.EACCES, "cannot be read", path)
+
+
+def on_site(folder, work, progress=None):
+    """Does a verb's work on a site, and prints the text that it gives and the message that it ends with, or None. Answers
+    the status."""
+    text, message, status = "", None, REFUSED
+    try:
+        check_folder(folder)
+        text, message = work(folder)
+        status = REFUSED if message else DONE
+    except SiteError as error:
+        message = error
+    except OSError as error:
+        message, status = (f"{error.filename}: {error.strerror}" if error.filename else error.strerror), FAILED
+    if progress:
+        progress.clear()
+    put(text)
+    if message:
+        say(message)
+    return status
+
+
+def on_sites(folders, work):
+    """Does a verb's work on each site, and goes on after one that is refused. Answers the worst status."""
+    progress = Progress(len(folders))
+    worst = DONE
+    for number, folder in enumerate(folders, start=1):
+        progress.show(number, folder)
+        worst = max(worst, on_site(folder, work, progress))
+    return worst

@@ -1,0 +1,40 @@
+"""Writes a page with pictures of a site."""
+
+import os
+
+from .. import report, tables
+from ..errors import SiteError
+from ..files import write_file
+from ..operations import plan_tables
+from ..refusals import Refused
+from ..sites import explain, read_site
+from .folders import on_site, parser_of
+
+USAGE = ("report DIR [-o FILE]", "write a page with pictures")
+
+
+def run(arguments, prepare):
+    parser = parser_of(
+        "report",
+        "Writes a page with pictures of a site: its jobs, its clock and its loads, the figure and the\n"
+        "tightest windows; or the overfull window; or the refused entry. A browser opens it, from the\n"
+        "file alone.",
+    )
+    parser.add_argument("-o", dest="out", metavar="FILE.html", help="the file to write (report.html beside the tables if left out)")
+    options = parser.parse_args(arguments)
+
+    def work(folder):
+        prepare()
+        site, message = None, None
+        try:
+            site = read_site(folder)
+            outcome = plan_tables(site.data(tables.LEVELS), site.data(tables.JOBS))
+        except Refused as refusal:
+            outcome, message = refusal, explain(refusal, site)
+        except SiteError as error:
+            outcome, message = error, str(error)
+        out = os.path.normpath(os.path.join(folder, "report.html")) if options.out is None else options.out
+        write_file(out, report.page(os.path.basename(os.path.abspath(folder)), site, outcome).encode())
+        return f"{folder}: wrote {out}\n", message
+
+    return on_site(options.folder, work)
