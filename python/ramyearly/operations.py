@@ -9,6 +9,7 @@ from typing import NamedTuple
 
 from . import archive, tables
 from .refusals import Call, entries_of, overfull, refused
+from .tables import check_room
 
 
 class Planned(NamedTuple):
@@ -37,13 +38,6 @@ def level_table(levels):
 
 def job_table(jobs):
     return tables.to_bytes(jobs, tables.JOBS)
-
-
-def number(value, name, bits):
-    """A number that the archive takes as so many bits."""
-    if not 0 <= value < 2**bits:
-        raise ValueError(f"{name} {value} {tables.no_room(bits)}")
-    return value
 
 
 def plan(levels, jobs):
@@ -91,7 +85,7 @@ def check_tables(levels, jobs, plan_bytes, price_bytes):
 
 def setting(levels, length, load):
     """The setting of one interval of this length with this load; zeros for load 0."""
-    return setting_of(level_table(levels), number(length, "length", 32), number(load, "load", 64))
+    return setting_of(level_table(levels), check_room(length, "length", 32), check_room(load, "load", 64))
 
 
 def setting_of(levels, length, load):
@@ -103,7 +97,7 @@ def setting_of(levels, length, load):
 
 def spare(levels, jobs, start, end):
     """The spare of a window, negative where it is overfull."""
-    return spare_of(level_table(levels), job_table(jobs), number(start, "start", 32), number(end, "end", 32))
+    return spare_of(level_table(levels), job_table(jobs), check_room(start, "start", 32), check_room(end, "end", 32))
 
 
 def spare_of(levels, jobs, start, end):

@@ -12,6 +12,7 @@ Numbers are not compared with the limits of a site: that is the planner's work, 
 refusal names the entry. Only what has no room in the bytes is an error here.
 """
 
+import operator
 import os
 import re
 from typing import NamedTuple
@@ -76,12 +77,17 @@ def no_room(bits):
 
 def read_entry(words, table):
     """The numbers of a line's words; a ValueError says why they are no entry."""
+    check_width(words, table)
+    return tuple(read_number(word, name, bits) for word, (name, bits) in zip(words, table.columns()))
+
+
+def check_width(entry, table):
+    """A ValueError where an entry has more columns than its table, or fewer."""
     columns = table.columns()
-    if len(words) != len(columns):
+    if len(entry) != len(columns):
         names = ", ".join(name for name, _ in columns)
-        have = "1 column" if len(words) == 1 else f"{len(words)} columns"
+        have = "1 column" if len(entry) == 1 else f"{len(entry)} columns"
         raise ValueError(f"{have}, but a {table.entry} has {len(columns)}: {names}")
-    return tuple(read_number(word, name, bits) for word, (name, bits) in zip(words, columns))
 
 
 def is_header(words, table):
@@ -135,6 +141,7 @@ def to_bytes(entries, table, sizes=()):
     start = 0
     for array in table.arrays:
         for entry in entries:
+            check_width(entry, table)
             for number, (name, bits) in zip(entry[start:], array):
                 data += number_bytes(number, name, bits)
         start += len(array)
@@ -142,9 +149,15 @@ def to_bytes(entries, table, sizes=()):
 
 
 def number_bytes(number, name, bits):
+    return check_room(number, name, bits).to_bytes(bits // 8, "little")
+
+
+def check_room(number, name, bits):
+    """A whole number that fits in so many bits; otherwise a ValueError, or a TypeError for what is no whole number."""
+    number = operator.index(number)
     if not 0 <= number < 2**bits:
         raise ValueError(f"{name} {number} {no_room(bits)}")
-    return number.to_bytes(bits // 8, "little")
+    return number
 
 
 def sizes_of(data, table):

@@ -81,6 +81,8 @@ class Refusals(unittest.TestCase):
         for function, values, said in (
             (ramyearly.plan, ([(65536, 1)], []), "frequency 65536 does not fit in 16 bits (0 to 65535)"),
             (ramyearly.plan, (T, [(-1, 1, 1)]), "release -1 does not fit in 32 bits (0 to 4294967295)"),
+            (ramyearly.plan, ([(2, 10, 3)], []), "3 columns, but a level has 2: frequency, voltage"),
+            (ramyearly.plan, (T, [(0, 4)]), "2 columns, but a job has 3: release, deadline, cycles"),
             (ramyearly.setting, (T, 2**32 + 3, 1), "length 4294967299 does not fit in 32 bits (0 to 4294967295)"),
             (ramyearly.setting, (T, 3, 2**64), "load 18446744073709551616 does not fit in 64 bits (0 to 18446744073709551615)"),
             (ramyearly.spare, (T, [], 2**32, 5), "start 4294967296 does not fit in 32 bits (0 to 4294967295)"),
@@ -91,6 +93,10 @@ class Refusals(unittest.TestCase):
             with self.assertRaises(ValueError) as caught:
                 function(*values)
             self.assertEqual(str(caught.exception), said)
+
+    def test_values_that_are_no_whole_numbers(self):
+        for function, values in ((ramyearly.plan, ([(2.5, 1)], [])), (ramyearly.setting, (T, "3", 1))):
+            self.assertRaises(TypeError, function, *values)
 
 
 class Header(InFolder):
