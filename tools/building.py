@@ -19,6 +19,7 @@ ROOT = os.path.dirname(os.path.dirname(os.path.realpath(__file__)))
 sys.path.insert(0, os.path.join(ROOT, "python"))
 
 from ramyearly.errors import Trouble
+from ramyearly.terminal import NAME, say
 
 TARGET = os.path.join(ROOT, "target")
 PROGRAM = os.path.join(TARGET, "bin", "listing")
@@ -31,10 +32,6 @@ LOG = os.path.join(TARGET, "ramyearly.log")
 LOCK = os.path.join(TARGET, "ramyearly.lock")
 RECORD = os.path.join(TARGET, "ramyearly.built")
 SHOWN_LINES = 40  # of the log, where something failed
-
-
-def say(text):
-    print(f"ramyearly: {text}", file=sys.stderr, flush=True)
 
 
 # What is up to date.
@@ -117,6 +114,18 @@ def proving_order(wanted, crates):
     return sorted(levels, key=levels.get)
 
 
+def clear_line():
+    """Removes a line that is rewritten, of this build or of the command, where there is one."""
+    if sys.stderr.isatty():
+        sys.stderr.write("\r\x1b[K")
+        sys.stderr.flush()
+
+
+def announce(text):
+    clear_line()
+    say(text)
+
+
 class Progress:
     """Shows how many crates are proved: a line that is rewritten on a terminal, a line for each crate elsewhere.
 
@@ -150,14 +159,9 @@ class Progress:
     def show(self):
         left = [crate for crate in self.crates if crate not in self.proved]
         if self.rewrites and left:
-            self.clear()
-            text = f"ramyearly: proving crate {len(self.proved) + 1} of {len(self.crates)}: {left[0]}"
+            clear_line()
+            text = f"{NAME}: proving crate {len(self.proved) + 1} of {len(self.crates)}: {left[0]}"
             sys.stderr.write(text[: shutil.get_terminal_size().columns - 1])
-            sys.stderr.flush()
-
-    def clear(self):
-        if self.rewrites:
-            sys.stderr.write("\r\x1b[K")
             sys.stderr.flush()
 
 
@@ -222,7 +226,7 @@ def prove(rt, lock, log):
         if has_archive:
             progress.count("capi")  # rt does not speak of it here
     finally:
-        progress.clear()
+        clear_line()
     if not has_program:
         fail("the listing program", "rt")
     if not has_archive:
@@ -258,13 +262,13 @@ def building_alone():
         try:
             fcntl.flock(file, fcntl.LOCK_EX | fcntl.LOCK_NB)
         except BlockingIOError:
-            say("another call is building; waiting for it")
+            announce("another call is building; waiting for it")
             fcntl.flock(file, fcntl.LOCK_EX)
         yield file.fileno()
 
 
 def make_all(rt, compiler, lock):
-    say("building the proved archive and the listing program, which takes minutes the first time")
+    announce("building the proved archive and the listing program, which takes minutes the first time")
     with contextlib.suppress(FileNotFoundError):
         os.remove(RECORD)
     # Taken before the build, so that a file that changes meanwhile is not taken for one that was read.
