@@ -70,7 +70,7 @@ def is_up_to_date(compare_toolchain):
     before it runs it, and leaves one alone whose sources have not changed.
     """
     try:
-        with open(RECORD, encoding="utf-8") as file:
+        with open(RECORD, encoding="utf-8", errors="surrogateescape") as file:
             version, _, sources = file.read().partition("\n")
     except FileNotFoundError:
         return False
@@ -81,7 +81,8 @@ def is_up_to_date(compare_toolchain):
 
 
 def write_record(version, sources):
-    with open(RECORD + ".new", "w", encoding="utf-8") as file:
+    # A file's name may have bytes that are no text.
+    with open(RECORD + ".new", "w", encoding="utf-8", errors="surrogateescape") as file:
         file.write(f"{version}\n{sources}")
     os.replace(RECORD + ".new", RECORD)
 
@@ -98,7 +99,7 @@ def read_crate_list():
 
 
 def proving_order(wanted, crates):
-    """A crate and all that it needs, as rt goes through them: a crate stands one level above the highest it needs."""
+    """Crates and all that they need, as rt goes through them: a crate stands one level above the highest it needs."""
     levels, visited = {}, set()
 
     def visit(name):
@@ -110,7 +111,8 @@ def proving_order(wanted, crates):
             visit(other)
         levels[name] = max((levels.get(other, 0) + 1 for other in needed), default=0)
 
-    visit(wanted)
+    for name in wanted:
+        visit(name)
     return sorted(levels, key=levels.get)
 
 
@@ -133,10 +135,8 @@ class Progress:
     shows the first crate that rt has not spoken of yet, and a log those that it has.
     """
 
-    def __init__(self):
-        crates = read_crate_list()
-        order = proving_order("listing", crates) + proving_order("capi", crates)
-        self.crates = list(dict.fromkeys(order))
+    def __init__(self, crates):
+        self.crates = crates
         self.proved = set()
         self.rewrites = sys.stderr.isatty()
         self.show()
@@ -208,7 +208,7 @@ def fail(what, who):
     """Shows the end of the log, and stops."""
     with open(LOG, encoding="utf-8", errors="replace") as file:
         sys.stderr.write("".join(file.readlines()[-SHOWN_LINES:]))
-    raise Trouble(f"{what} was not built; {os.path.relpath(LOG, ROOT)} has all that {who} said")
+    raise Trouble(f"{what} not built; {os.path.relpath(LOG, ROOT)} has all that {who} said")
 
 
 def prove(rt, lock, log):
@@ -217,20 +217,19 @@ def prove(rt, lock, log):
         # rt goes by its stamp, and would not link anew a program that was removed.
         with contextlib.suppress(FileNotFoundError):
             os.remove(os.path.join(TARGET, "stamp", "listing"))
-    has_program = has_archive = False
-    progress = Progress()
+    crates = read_crate_list()
+    # What the archive needs is proved with the program: rt check proves crates side by side, rt staticlib one by one.
+    wanted = ["listing", *crates.get("capi", [])]
+    steps = ["check", *wanted], ["staticlib", "capi"]
+    progress = Progress(proving_order(wanted, crates) + ["capi"])
     try:
-        has_program = run([rt, "check", "listing"], lock, log, progress.read) and os.access(PROGRAM, os.X_OK)
-        if has_program:
-            has_archive = run([rt, "staticlib", "capi"], lock, log, progress.read) and os.path.exists(ARCHIVE)
-        if has_archive:
-            progress.count("capi")  # rt does not speak of it here
+        is_done = all(run([rt, *words], lock, log, progress.read) for words in steps)
+        if is_done:
+            progress.count("capi")  # rt does not speak of it
     finally:
         clear_line()
-    if not has_program:
-        fail("the listing program", "rt")
-    if not has_archive:
-        fail("the proved archive", "rt")
+    if not (is_done and os.access(PROGRAM, os.X_OK) and os.path.exists(ARCHIVE)):
+        fail("the proved archive and the listing program were", "rt")
 
 
 def link(compiler, lock, log):
@@ -241,7 +240,7 @@ def link(compiler, lock, log):
     words += [f"-Wl,--version-script={os.path.relpath(EXPORTS, ROOT)}", "-Wl,-z,defs", "-Wl,-z,now"]
     words += ["-Wl,--whole-archive", ARCHIVE, "-Wl,--no-whole-archive"]
     if not run(words, lock, log):
-        fail("the shared object", "the C compiler")
+        fail("the shared object was", "the C compiler")
     os.replace(new, SHARED_OBJECT)
 
 
@@ -295,7 +294,8 @@ def build(compare_toolchain=False):
             if not is_up_to_date(compare_toolchain):
                 make_all(rt, compiler, lock)
     except OSError as error:
-        raise Trouble(f"the build stopped: {error.filename}: {error.strerror}") from error
+        place = f"{error.filename}: " if error.filename else ""
+        raise Trouble(f"the build stopped: {place}{error.strerror}") from error
 
 
 def main(arguments):
