@@ -24,7 +24,9 @@ def stop_in_order():
         raise Stopped(number)
 
     for number in STOPS:
-        signal.signal(number, stop)
+        # nohup and background jobs ignore some of them, and so it stays.
+        if signal.getsignal(number) != signal.SIG_IGN:
+            signal.signal(number, stop)
 
 
 @contextlib.contextmanager

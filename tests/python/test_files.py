@@ -67,6 +67,16 @@ class Stopped(InFolder):
             self.assertEqual(self.contents(site), (PLAN, PRICES))
             self.assertEqual(len(os.listdir(site)), 4)
 
+    def test_a_signal_that_is_ignored(self):
+        """As nohup has it: the run goes on."""
+        site = self.planned()
+        script = 'trap "" HUP; exec "$@"'
+        hangup = STOPPED.format(function="fsync", call=1, stop=f"os.kill(os.getpid(), {int(signal.SIGHUP)})")
+        words = ["sh", "-c", script, "sh", sys.executable, "-B", "-c", hangup, "plan", site]
+        ended = subprocess.run(words, capture_output=True, text=True, env={**os.environ, "PYTHONPATH": PACKAGES})
+        self.assertEqual(ended.returncode, 0)
+        self.assertEqual(self.contents(site), (PLAN, PRICES))
+
     def test_a_rename_fails(self):
         site = self.site(jobs_tbl=TWO_JOBS, levels_tbl=PAIR)
         os.mkdir(os.path.join(site, "plan.tbl"))
