@@ -30,8 +30,10 @@ def jobs(entries, intervals=(), overfull=None, rows=None, name="jobs"):
     draw_grid(drawing, time, top, bottom)
     for row, job in enumerate(rows):
         draw_row(drawing, time, job, entries[job], top + ROW * row, overfull)
-        if not overfull:
-            draw_runs(drawing, time, job, entries[job], top + ROW * row, intervals)
+    for interval in intervals:
+        for run in interval.runs():
+            if run.job in rows:
+                draw_run(drawing, time, interval, run, top + ROW * rows.index(run.job))
     draw_axis(drawing, time, bottom, wanted)
     return drawing.svg(bottom + AXIS)
 
@@ -41,14 +43,14 @@ def job_words(entries, rows, overfull):
     part = "" if len(rows) == len(entries) else f", {rows[0]} to {rows[-1]}"
     title = f"Jobs{part}: windows and the cycles that run in each interval"
     description = (
-        "A row for each job. The outlined bar is its window from release to deadline, with its cycles in all before it. A "
-        "shaded cell is an interval in which it runs, with its cycles there; the dark strip in it is when it runs."
+        "A row for each job, with its cycles in all. The outlined bar is its window from release to deadline. A shaded "
+        "cell is an interval in which it runs, with its cycles there; the dark strip in it is when it runs."
     )
     if overfull:
         title = f"Jobs{part}: windows, and the window that is overfull"
         description = (
-            "A row for each job. The outlined bar is its window from release to deadline, with its cycles before it. The "
-            f"hatched stretch from {from_to(overfull.start, overfull.end)} is overfull; its own jobs have a thick outline."
+            "A row for each job, with its cycles. The outlined bar is its window from release to deadline. The hatched "
+            f"stretch from {from_to(overfull.start, overfull.end)} is overfull; its own jobs have a thick outline."
         )
     return title, description
 
@@ -67,22 +69,14 @@ def draw_row(drawing, time, job, entry, y, overfull):
     drawing.box(left, y + (ROW - BAR) / 2, right - left, BAR, hint(said), fill="#ffffff", **outline)
 
 
-def draw_runs(drawing, time, job, entry, y, intervals):
-    """The intervals in which a job runs, inside its window."""
-    top = y + (ROW - BAR) / 2
-    for interval in intervals:
-        for run in interval.runs():
-            if run.job == job:
-                draw_run(drawing, time, interval, run, top)
-
-
-def draw_run(drawing, time, interval, run, top):
-    left, right = time.at(interval.start), time.at(interval.end)
+def draw_run(drawing, time, interval, run, y):
+    """An interval in which a job runs, inside its window, with the cycles and the time that they take."""
+    left, right, top = time.at(interval.start), time.at(interval.end), y + (ROW - BAR) / 2
     said = (
         f"job {run.job} in interval {interval.number} ({from_to(interval.start, interval.end)}): "
         f"{counted(run.cycles, 'cycle')}"
     )
-    drawing.box(left, top, right - left, BAR, hint(said), fill=TINT, stroke=FRAME, stroke_width=0.5)
+    drawing.box(left, top, right - left, BAR, hint(said), fill=TINT, stroke=FRAME, stroke_width=0.6)
     start, end = time.at(run.start), time.at(run.end)
     # A run that is too short to see gets the width of a thin line.
     drawing.box(start, top + BAR - STRIP, max(end - start, 1.2), STRIP, fill=STRONG, pointer_events="none")

@@ -64,11 +64,11 @@ dl.terms dd { margin: 0 0 0.5rem; color: var(--muted); }
   h1 { font-size: 17pt; margin-bottom: 0.5rem; }
   h2 { font-size: 12pt; margin: 1rem 0 0.4rem; }
   h1, h2, summary { break-after: avoid; }
-  figure, tr, .short, .verdict, .facts { break-inside: avoid; }
+  figure, tr, .short, .verdict, .facts, dl.terms { break-inside: avoid; }
   .verdict { font-size: 11pt; padding: 0.4rem 0.8rem; margin-bottom: 0.6rem; }
   .facts { grid-template-columns: repeat(8, auto); gap: 0 1rem; }
   .facts dd { font-size: 10pt; overflow-wrap: normal; }
-  .facts dt, .facts small, figcaption { font-size: 8.5pt; }
+  .facts dt, .facts small, figcaption, .note { font-size: 8.5pt; }
   p, figcaption { max-width: none; }
   .scroll { overflow: visible; max-height: none; border: 0; }
   svg { width: 100%; }

@@ -12,7 +12,7 @@ from .sites import explain
 from .timeline import scale
 from .wording import counted, from_to, signed, thousands
 
-MOST_ROWS = 24  # of one picture of jobs, so that it fits on a printed page
+MOST_ROWS = 20  # of one picture of jobs, so that it fits on a printed page
 
 
 def page(title, site, outcome):
@@ -41,7 +41,7 @@ def planned_body(site, planned):
     steps = page_tables.step_table(planned.steps, intervals)
     return [
         verdict("Planned", "Every deadline is met, and no schedule does it with less energy."),
-        planned_facts(planned, entries, level_list, windows[0]),
+        planned_facts(planned, entries, levels, windows[0]),
         sections(
             ("jobs", "Jobs", job_pictures(entries, JOB_WORDS, intervals=intervals)),
             ("clock", "Clock", clock_picture(entries, intervals, level_list)),
@@ -54,15 +54,14 @@ def planned_body(site, planned):
     ]
 
 
-def planned_facts(planned, entries, level_list, window):
+def planned_facts(planned, entries, levels, window):
     return facts(
         ("Energy figure", thousands(planned.energy)),
         time_fact(entries),
         ("Jobs", thousands(len(entries))),
         ("Intervals", thousands(len(planned.spans))),
         ("Steps", thousands(len(planned.steps))),
-        levels_fact(level_list),
-        top_fact(level_list),
+        *level_facts(levels),
         ("Least spare", counted(window.spare, "cycle"), f"from {from_to(window.start, window.end)}"),
     )
 
@@ -73,19 +72,18 @@ def time_fact(entries):
     return "Time", from_to(start, end), counted(end - start, "tick")
 
 
-def levels_fact(level_list):
+def level_facts(levels):
+    level_list = figures.level_list(levels)
     unused = sum(not level.works for level in level_list)
-    return ("Levels", len(level_list), *([f"{unused} never used"] if unused else []))
-
-
-def top_fact(level_list):
-    return "Top frequency", thousands(level_list[-1].frequency), "cycles per tick"
+    remark = [f"{unused} never used"] if unused else []
+    top = thousands(figures.top_frequency(levels))
+    return ("Levels", len(level_list), *remark), ("Top frequency", top, "cycles per tick")
 
 
 JOB_WORDS = (
-    "An outlined bar is a job's window, with its cycles in all before it. A shaded cell is an interval in which it runs, "
-    "with its cycles there where they fit (the job list has them all). The dark strip in the cell is when it runs: the "
-    "jobs of an interval go in order of number."
+    "An outlined bar is a job's window; at the left stand its cycles in all. A shaded cell is an interval in which it "
+    "runs, with its cycles there where they fit (the job list has them all). The dark strip in the cell is when it runs: "
+    "the jobs of an interval go in order of number."
 )
 
 
@@ -148,12 +146,12 @@ def overfull_body(site, refusal):
     window = figures.window(levels, jobs, refusal.start, refusal.end)
     own = page_tables.own_job_table(site.sources[tables.JOBS], entries, refusal.inside)
     words = (
-        "An outlined bar is a job's window, with its cycles before it. The hatched stretch is the overfull window; its own "
-        "jobs have a thick outline and a sign before their number."
+        "An outlined bar is a job's window; at the left stand its cycles. The hatched stretch is the overfull window; its "
+        "own jobs have a thick outline and a sign before their number."
     )
     return [
         verdict("Overfull", overfull_sentence(window), alarm=True),
-        overfull_facts(window, entries, level_list),
+        overfull_facts(window, entries, levels),
         sections(
             ("overfull", "The overfull window", joined([overfull_words(window, explain(refusal, site)), own])),
             ("jobs", "Jobs", job_pictures(entries, words, overfull=refusal)),
@@ -168,7 +166,7 @@ def overfull_sentence(window):
     return f"No schedule meets every deadline: from {from_to(window.start, window.end)} {own_jobs(window.inside)} {more}."
 
 
-def overfull_facts(window, entries, level_list):
+def overfull_facts(window, entries, levels):
     return facts(
         ("Overfull window", from_to(window.start, window.end), counted(window.end - window.start, "tick")),
         ("Its jobs need", counted(window.need, "cycle")),
@@ -176,8 +174,7 @@ def overfull_facts(window, entries, level_list):
         ("Spare", signed(window.spare), "cycles"),
         time_fact(entries),
         ("Jobs", thousands(len(entries)), f"{len(window.inside)} inside the window"),
-        levels_fact(level_list),
-        top_fact(level_list),
+        *level_facts(levels),
     )
 
 
@@ -208,7 +205,7 @@ def empty_body(site):
     level_list = figures.level_list(site.data(tables.LEVELS))
     return [
         verdict("Nothing to run", "The job list is empty: the clock idles, and the energy figure is 0."),
-        facts(("Energy figure", 0), ("Jobs", 0), levels_fact(level_list), top_fact(level_list)),
+        facts(("Energy figure", 0), ("Jobs", 0), *level_facts(site.data(tables.LEVELS))),
         element("h2", "Level list"),
         page_tables.level_table(site.sources[tables.LEVELS], level_list),
         element("h2", "Files"),

@@ -21,8 +21,8 @@ function textsOf(svg) {
   return [...svg.querySelectorAll("text")].map(text => {
     const box = text.getBoundingClientRect();
     // A text's box is as high as its line; its figures take about the middle half of that.
-    const high = box.height / 4;
-    return {said: text.textContent, left: box.left + 0.3, right: box.right - 0.3, top: box.top + high, bottom: box.bottom - high};
+    const high = box.height / 4, top = box.top + high, bottom = box.bottom - high;
+    return {said: text.textContent, left: box.left + 0.3, right: box.right - 0.3, top, bottom};
   });
 }
 function faultsOf(svg) {
@@ -88,8 +88,8 @@ class InABrowser(unittest.TestCase):
             f'<iframe width="{width}" height="{height}" style="border: 0" srcdoc="{html.escape(page)}"></iframe>'
             for _, page, (width, height) in tried
         ]
-        whole = '<!DOCTYPE html><html><head><meta charset="utf-8"></head><body>' + "".join(frames) + MEASURE + "</body></html>"
-        printed = self.browse("--dump-dom", page=whole)
+        whole = ['<!DOCTYPE html><html><head><meta charset="utf-8"></head><body>', *frames, MEASURE, "</body></html>"]
+        printed = self.browse("--dump-dom", page="".join(whole))
         measured = json.loads(html.unescape(re.search(r'<pre id="measured">(.*?)</pre>', printed, re.DOTALL)[1]))
         self.assertEqual(len(measured), len(tried))
         for (folder, page, size), found in zip(tried, measured):

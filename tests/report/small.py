@@ -21,8 +21,8 @@ class Markup(unittest.TestCase):
             self.assertNotIn(lost, parsed.text)
 
     def test_elements(self):
-        inner = markup.element("b", 1)
-        self.assertEqual(markup.element("p", inner, "<", class_="x", data_y=1.50, z=None), '<p class="x" data-y="1.5"><b>1</b>&lt;</p>')
+        outer = markup.element("p", markup.element("b", 1), "<", class_="x", data_y=1.50, z=None)
+        self.assertEqual(outer, '<p class="x" data-y="1.5"><b>1</b>&lt;</p>')
         self.assertEqual(markup.element("meta", charset="utf-8"), '<meta charset="utf-8"/>')
         self.assertEqual(markup.element("td"), "<td></td>")
 
