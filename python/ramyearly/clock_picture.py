@@ -75,14 +75,14 @@ def draw_level_lines(drawing, time, levels, height):
         # From the label to its line, which may stand a little above or below it.
         path = f"M{time.left - 14:.2f} {label:.2f}L{time.left - 5:.2f} {y:.2f}H{time.left:.2f}"
         drawing.add("path", d=path, stroke=FRAME, fill="none")
-        drawing.text(time.left - 17, label + 4, said, text_anchor="end", class_="level")
+        drawing.text(time.left - 17, label + 4, said, text_anchor="end")
 
 
 def spread(heights):
-    """Heights for labels, from the lowest up, that keep them apart: each as near to its own as those below allow."""
+    """Heights for labels that keep them apart, from the lowest up: each as near to its own as the labels below it and the
+    room for those above it allow."""
     found = []
     for place, y in enumerate(heights):
-        above = heights[-1] + LABELS_APART * (len(heights) - 1 - place)
-        y = max(y, above) if place < len(heights) - 1 else y
+        y = max(y, heights[-1] + LABELS_APART * (len(heights) - 1 - place))
         found.append(min(y, found[-1] - LABELS_APART) if found else y)
     return found

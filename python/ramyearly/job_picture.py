@@ -61,8 +61,8 @@ def draw_row(drawing, time, job, entry, y, overfull):
     own = overfull is not None and job in overfull.inside
     left, right, middle = time.at(release), time.at(deadline), y + ROW / 2
     weight, sign = ("bold", "\u25b8 ") if own else (None, "")
-    drawing.text(MARGIN, middle + 4, f"{sign}job {job}", font_weight=weight, class_="row")
-    drawing.text(time.left - 8, middle + 4, thousands(cycles), text_anchor="end", font_weight=weight, class_="row")
+    drawing.text(MARGIN, middle + 4, f"{sign}job {job}", font_weight=weight)
+    drawing.text(time.left - 8, middle + 4, thousands(cycles), text_anchor="end", font_weight=weight)
     drawing.line(time.left, middle, left, middle, stroke_dasharray="1 3", stroke=FRAME)
     said = f"job {job}: {from_to(release, deadline)}, {counted(cycles, 'cycle')}"
     outline = {"stroke": INK, "stroke_width": 3} if own else {"stroke": FRAME, "stroke_width": 1.2}

@@ -55,6 +55,7 @@ dl.terms dd { margin: 0 0 0.5rem; color: var(--muted); }
   h1 { font-size: 1.5rem; }
   .facts { grid-template-columns: repeat(2, minmax(0, 1fr)); }
   .facts div:first-child { grid-column: span 2; }
+  th, td { padding: 0.3rem 0.5rem; }
 }
 @media print {
   @page { size: A4 landscape; margin: 12mm; }

@@ -70,7 +70,7 @@ def line_cell(source, entry):
 
 def interval_table(intervals):
     columns = numbers("Interval", "From", "To", "Ticks", "Load", "Capacity", "%", "Band")
-    columns += numbers("Upper level", "for ticks", "Lower level", "for ticks", "Price")
+    columns += numbers("Upper frequency", "Upper ticks", "Lower frequency", "Lower ticks", "Price")
     rows = [
         [
             interval.number,
@@ -90,8 +90,8 @@ def interval_table(intervals):
         for interval in intervals
     ]
     caption = (
-        "Load and capacity are in cycles; the capacity is what the top frequency gives. The clock is on the upper level "
-        "first, for so many ticks, then on the lower one. Percentages are rounded away from 100."
+        "Load and capacity are in cycles; the capacity is what the top frequency gives. The clock is on the upper "
+        "frequency first, for so many ticks, then on the lower one. Percentages are rounded away from 100."
     )
     return table("interval-table", caption, columns, rows)
 

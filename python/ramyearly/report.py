@@ -93,7 +93,7 @@ def job_pictures(entries, words, **shown):
     bounds = [len(entries) * part // count for part in range(count + 1)]
     found = []
     for part, (first, end) in enumerate(zip(bounds, bounds[1:])):
-        label = f"Jobs {first} to {end - 1}"
+        label = f"Jobs {first} to {end - 1}" if count > 1 else "Jobs"
         svg = pictures.jobs(entries, rows=range(first, end), name=f"jobs-{part}", **shown)
         caption = f"{words} {scale_words(entries)}" if part == count - 1 else f"{label}."
         found.append(picture(svg, label, caption))
@@ -184,7 +184,7 @@ def overfull_words(window, explanation):
             paragraph(
                 f"At least {counted(-window.spare, 'cycle')} must leave this window: fewer cycles in one of its jobs, a "
                 "later deadline, or an earlier release. It is the earliest overfull window; the tightest windows, below, "
-                "show others with a spare below 0."
+                "show whether others have a spare below 0 too."
             ),
             paragraph(explanation, look="note"),
         ]

@@ -87,9 +87,7 @@ def draw_grid(drawing, time, top, bottom):
 def draw_labels(drawing, time, y, wanted=()):
     """A row of labels of time, with its base line at y."""
     for bound in time.labels(wanted):
-        drawing.text(
-            time.at(bound), y, thousands(bound), text_anchor="middle", font_size=LABEL_SIZE, fill=MUTED, class_="tick"
-        )
+        drawing.text(time.at(bound), y, thousands(bound), text_anchor="middle", font_size=LABEL_SIZE, fill=MUTED)
 
 
 def draw_axis(drawing, time, y, wanted=()):
