@@ -4,7 +4,7 @@ The page is a function of the site and of what planning it gave, so it is the sa
 """
 
 from . import figures, page_tables, pictures, tables
-from .errors import TableError
+from .errors import SiteError
 from .markup import element, joined
 from .page_parts import document, facts, folding, paragraph, picture, sections, verdict
 from .refusals import Overfull, Refused, entries_of, own_jobs
@@ -16,9 +16,9 @@ MOST_ROWS = 20  # of one picture of jobs, so that it fits on a printed page
 
 
 def page(title, site, outcome):
-    """The report of a site. The outcome is a plan, a refusal, or the error of text that is no table; with an error the
+    """The report of a site. The outcome is a plan, a refusal, or the error that kept the tables from being read; with that the
     site may be None."""
-    if isinstance(outcome, TableError):
+    if isinstance(outcome, SiteError):
         body = [verdict("Not read", outcome, alarm=True)]
     elif isinstance(outcome, Overfull):
         body = overfull_body(site, outcome)

@@ -6,7 +6,7 @@ import shutil
 import tempfile
 
 from ramyearly import operations, report, sites, tables
-from ramyearly.errors import TableError
+from ramyearly.errors import SiteError
 from ramyearly.refusals import Refused
 
 ROOT = os.path.dirname(os.path.dirname(os.path.dirname(os.path.abspath(__file__))))
@@ -99,7 +99,7 @@ def outcome_of(folder):
     try:
         site = sites.read_site(folder)
         return site, operations.plan_tables(site.data(tables.LEVELS), site.data(tables.JOBS))
-    except (Refused, TableError) as error:
+    except (Refused, SiteError) as error:
         return site, error
 
 
