@@ -40,7 +40,8 @@ caption span { display: block; position: sticky; left: 0; width: fit-content; ma
 th, td { padding: 0.3rem 0.75rem; text-align: right; vertical-align: baseline; white-space: nowrap;
   border-top: 1px solid var(--line); font-variant-numeric: tabular-nums; }
 th { font-weight: 600; }
-thead th { position: sticky; top: 0; background: var(--soft); box-shadow: inset 0 -1px var(--line); vertical-align: bottom; }
+thead th { position: sticky; top: 0; background: var(--soft); box-shadow: inset 0 -1px var(--line); vertical-align: bottom;
+  white-space: normal; }
 .words { text-align: left; }
 .long { white-space: normal; min-width: 12rem; overflow-wrap: anywhere; }
 tr.marked th, tr.marked td { font-weight: 700; background: #f7e9e8; border-top: 2px solid var(--alarm);

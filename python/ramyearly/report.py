@@ -16,8 +16,8 @@ MOST_ROWS = 20  # of one picture of jobs, so that it fits on a printed page
 
 
 def page(title, site, outcome):
-    """The report of a site. The outcome is a plan, a refusal, or the error that kept the tables from being read; with that the
-    site may be None."""
+    """The report of a site. The outcome is a plan, a refusal, or the error that kept the tables from being read. With an
+    error the site may be None."""
     if isinstance(outcome, SiteError):
         body = [verdict("Not read", outcome, alarm=True)]
     elif isinstance(outcome, Overfull):
