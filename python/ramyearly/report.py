@@ -1,2 +1,213 @@
+"""A site's report: one page of HTML that needs no other file, no network and no script.
+
+The page is a function of the site and of what planning it gave, so it is the same each time.
+"""
+
+from . import figures, page_tables, pictures, tables
+from .errors import SiteError
+from .markup import element, joined
+from .page_parts import document, facts, folding, paragraph, picture, sections, verdict
+from .refusals import Overfull, Refused, entries_of, own_jobs
+from .sites import explain
+from .timeline import scale
+from .wording import counted, from_to, signed, thousands
+
+MOST_ROWS = 20  # of one picture of jobs, so that it fits on a printed page
+
+
 def page(title, site, outcome):
-    return f"{title} {outcome}\n"
+    """The report of a site. The outcome is a plan, a refusal, or the error that kept the tables from being read. With an
+    error the site may be None."""
+    if isinstance(outcome, SiteError):
+        body = [verdict("Not read", outcome, alarm=True)]
+    elif isinstance(outcome, Overfull):
+        body = overfull_body(site, outcome)
+    elif isinstance(outcome, Refused):
+        body = refused_body(site, outcome)
+    elif not outcome.spans:
+        body = empty_body(site)
+    else:
+        body = planned_body(site, outcome)
+    return document(title, body)
+
+
+# A plan.
+
+
+def planned_body(site, planned):
+    levels, jobs = site.data(tables.LEVELS), site.data(tables.JOBS)
+    entries, level_list = entries_of(jobs, tables.JOBS), figures.level_list(levels)
+    intervals, windows = figures.intervals(levels, planned), figures.tightest(levels, jobs)
+    steps = page_tables.step_table(planned.steps, intervals)
+    return [
+        verdict("Planned", "Every deadline is met, and no schedule does it with less energy."),
+        planned_facts(planned, entries, levels, windows[0]),
+        sections(
+            ("jobs", "Jobs", job_pictures(entries, JOB_WORDS, intervals=intervals)),
+            ("clock", "Clock", clock_picture(entries, intervals, level_list)),
+            ("load", "Load", load_picture(entries, intervals)),
+            ("windows", "Tightest windows", page_tables.window_table(windows)),
+            ("intervals", "Intervals", page_tables.interval_table(intervals)),
+            ("steps", "Steps", folding(f"The {counted(len(planned.steps), 'step')} of the plan", steps)),
+            *site_sections(site, entries, level_list, intervals),
+        ),
+    ]
+
+
+def planned_facts(planned, entries, levels, window):
+    return facts(
+        ("Energy figure", thousands(planned.energy)),
+        time_fact(entries),
+        ("Jobs", thousands(len(entries))),
+        ("Intervals", thousands(len(planned.spans))),
+        ("Steps", thousands(len(planned.steps))),
+        *level_facts(levels),
+        ("Least spare", counted(window.spare, "cycle"), f"from {from_to(window.start, window.end)}"),
+    )
+
+
+def time_fact(entries):
+    bounds = scale(entries).bounds
+    start, end = bounds[0], bounds[-1]
+    return "Time", from_to(start, end), counted(end - start, "tick")
+
+
+def level_facts(levels):
+    level_list = figures.level_list(levels)
+    unused = sum(not level.works for level in level_list)
+    remark = [f"{unused} never used"] if unused else []
+    top = thousands(figures.top_frequency(levels))
+    return ("Levels", len(level_list), *remark), ("Top frequency", top, "cycles per tick")
+
+
+JOB_WORDS = (
+    "An outlined bar is a job's window; at the left stand its cycles in all. A shaded cell is an interval in which it "
+    "runs, with its cycles there where they fit (the job list has them all). The dark strip in the cell is when it runs: "
+    "the jobs of an interval go in order of number."
+)
+
+
+def job_pictures(entries, words, **shown):
+    """The picture of the jobs, in several parts where there are many."""
+    count = -(-len(entries) // MOST_ROWS)
+    bounds = [len(entries) * part // count for part in range(count + 1)]
+    found = []
+    for part, (first, end) in enumerate(zip(bounds, bounds[1:])):
+        label = f"Jobs {first} to {end - 1}" if count > 1 else "Jobs"
+        svg = pictures.jobs(entries, rows=range(first, end), name=f"jobs-{part}", **shown)
+        caption = f"{words} {scale_words(entries)}" if part == count - 1 else f"{label}."
+        found.append(picture(svg, label, caption))
+    return joined(found)
+
+
+def clock_picture(entries, intervals, level_list):
+    words = (
+        "The frequency in cycles per tick. In each interval the clock is on the upper one of two neighbouring levels "
+        "first, then on the lower one. "
+    )
+    if not all(level.works for level in level_list):
+        words += "A level in brackets is never used: a mix of others costs no more. "
+    svg = pictures.clock(entries, intervals, level_list)
+    return picture(svg, "Clock", words + scale_words(entries))
+
+
+def load_picture(entries, intervals):
+    words = (
+        "A bar up to 100 is the top frequency all the time; it is then filled dark. Above each bar stands the load in "
+        "percent, under it the band that the load ends in and the price, where they fit (the intervals have them all). "
+    )
+    return picture(pictures.load(entries, intervals), "Load", words + scale_words(entries))
+
+
+def scale_words(entries):
+    if scale(entries).to_scale:
+        return "Time is to scale."
+    return (
+        "Time is not to scale: so that the shortest intervals can be seen, each interval gets a part of its width for its "
+        "length and an equal part for itself."
+    )
+
+
+def site_sections(site, entries, level_list, intervals=()):
+    """The two tables of a site that has no fault."""
+    jobs, levels = site.sources[tables.JOBS], site.sources[tables.LEVELS]
+    return [
+        ("job-list", "Job list", page_tables.job_table(jobs, entries, intervals)),
+        ("level-list", "Level list", page_tables.level_table(levels, level_list)),
+    ]
+
+
+# No plan.
+
+
+def overfull_body(site, refusal):
+    levels, jobs = site.data(tables.LEVELS), site.data(tables.JOBS)
+    entries, level_list = entries_of(jobs, tables.JOBS), figures.level_list(levels)
+    window = figures.window(levels, jobs, refusal.start, refusal.end)
+    own = page_tables.own_job_table(site.sources[tables.JOBS], entries, refusal.inside)
+    words = (
+        "An outlined bar is a job's window; at the left stand its cycles. The hatched stretch is the overfull window; its "
+        "own jobs have a thick outline and a sign before their number."
+    )
+    return [
+        verdict("Overfull", overfull_sentence(window), alarm=True),
+        overfull_facts(window, entries, levels),
+        sections(
+            ("overfull", "The overfull window", joined([overfull_words(window, explain(refusal, site)), own])),
+            ("jobs", "Jobs", job_pictures(entries, words, overfull=refusal)),
+            ("windows", "Tightest windows", page_tables.window_table(figures.tightest(levels, jobs))),
+            *site_sections(site, entries, level_list),
+        ),
+    ]
+
+
+def overfull_sentence(window):
+    more = f"{counted(-window.spare, 'cycle')} more than the top frequency gives"
+    return f"No schedule meets every deadline: from {from_to(window.start, window.end)} {own_jobs(window.inside)} {more}."
+
+
+def overfull_facts(window, entries, levels):
+    return facts(
+        ("Overfull window", from_to(window.start, window.end), counted(window.end - window.start, "tick")),
+        ("Its jobs need", counted(window.need, "cycle")),
+        ("The top frequency gives", counted(window.capacity, "cycle")),
+        ("Spare", signed(window.spare), "cycles"),
+        time_fact(entries),
+        ("Jobs", thousands(len(entries)), f"{len(window.inside)} inside the window"),
+        *level_facts(levels),
+    )
+
+
+def overfull_words(window, explanation):
+    return joined(
+        [
+            paragraph(
+                f"At least {counted(-window.spare, 'cycle')} must leave this window: fewer cycles in one of its jobs, a "
+                "later deadline, or an earlier release. It is the earliest overfull window; the tightest windows, below, "
+                "show whether others have a spare below 0 too."
+            ),
+            paragraph(explanation, look="note"),
+        ]
+    )
+
+
+def refused_body(site, refusal):
+    parts = [verdict("Refused", f"{explain(refusal, site)}.", alarm=True)]
+    if refusal.entry is not None:
+        source = site.sources[refusal.table]
+        entries = entries_of(source.data, refusal.table)
+        parts.append(element("h2", "The refused entry"))
+        parts.append(page_tables.refused_table(source, refusal.table, entries, refusal.entry))
+    return [*parts, element("h2", "Files"), page_tables.source_table(site.sources)]
+
+
+def empty_body(site):
+    level_list = figures.level_list(site.data(tables.LEVELS))
+    return [
+        verdict("Nothing to run", "The job list is empty: the clock idles, and the energy figure is 0."),
+        facts(("Energy figure", 0), ("Jobs", 0), *level_facts(site.data(tables.LEVELS))),
+        element("h2", "Level list"),
+        page_tables.level_table(site.sources[tables.LEVELS], level_list),
+        element("h2", "Files"),
+        page_tables.source_table(site.sources),
+    ]

@@ -1,0 +1,202 @@
+"""The tables of a report."""
+
+from typing import NamedTuple
+
+from . import tables
+from .markup import element
+from .refusals import listed
+from .wording import counted, mixed, percent, signed, thousands
+
+NOTHING = "\u2013"
+SHORT = 12  # a table of at most so many rows is kept on one page in print
+AROUND = 5  # so many entries are shown before and after a refused one
+
+
+class Column(NamedTuple):
+    name: str
+    look: str = None  # as the style has it; without one it is a number
+
+
+def numbers(*names):
+    return [Column(name) for name in names]
+
+
+def words(*names):
+    return [Column(name, "words") for name in names]
+
+
+def long_words(*names):
+    """Columns of words that may break."""
+    return [Column(name, "words long") for name in names]
+
+
+def cell(kind, value, column, **attributes):
+    shown = thousands(value) if isinstance(value, int) else value
+    return element(kind, shown, class_=column.look, **attributes)
+
+
+def table(name, caption, columns, rows, marked=None):
+    """A table in a box of its own that scrolls where it must. The first cell of a row is its head. The row whose number
+    is marked stands out."""
+    head = element("tr", *(cell("th", column.name, column, scope="col") for column in columns))
+    body = []
+    for number, row in enumerate(rows):
+        cells = [cell("th", row[0], columns[0], scope="row")]
+        cells += [cell("td", value, column) for value, column in zip(row[1:], columns[1:])]
+        body.append(element("tr", *cells, class_="marked" if number == marked else None))
+    return element(
+        "div",
+        element(
+            "table",
+            element("caption", element("span", caption), id=f"{name}-caption"),
+            element("thead", head),
+            element("tbody", *body),
+        ),
+        class_="scroll table short" if len(rows) <= SHORT else "scroll table",
+        role="region",
+        tabindex=0,
+        aria_labelledby=f"{name}-caption",
+    )
+
+
+def line_column(source):
+    """The column of the lines, where the table is text."""
+    return numbers("Line") if source.lines is not None else []
+
+
+def line_cell(source, entry):
+    return [source.lines[entry]] if source.lines is not None else []
+
+
+def interval_table(intervals):
+    columns = numbers("Interval", "From", "To", "Ticks", "Load", "Capacity", "%", "Band")
+    columns += numbers("Upper frequency", "Upper ticks", "Lower frequency", "Lower ticks", "Price")
+    rows = [
+        [
+            interval.number,
+            interval.start,
+            interval.end,
+            interval.ticks,
+            interval.load,
+            interval.capacity,
+            percent(interval.load, interval.capacity),
+            interval.setting.band or NOTHING,
+            interval.upper or NOTHING,
+            mixed(interval.upper_ticks) if interval.upper else NOTHING,
+            (interval.lower or "idle") if interval.lower_ticks else NOTHING,
+            mixed(interval.lower_ticks) if interval.lower_ticks else NOTHING,
+            interval.price,
+        ]
+        for interval in intervals
+    ]
+    caption = (
+        "Load and capacity are in cycles; the capacity is what the top frequency gives. The clock is on the upper "
+        "frequency first, for so many ticks, then on the lower one. Percentages are rounded away from 100."
+    )
+    return table("interval-table", caption, columns, rows)
+
+
+def step_table(steps, intervals):
+    rows = [
+        [number, interval, intervals[interval].start, intervals[interval].end, job, cycles]
+        for number, (interval, job, cycles) in enumerate(steps)
+    ]
+    caption = "Each step is the cycles of one job in one interval. The jobs of an interval run in order of number."
+    columns = numbers("Step", "Interval", "From", "To", "Job", "Cycles")
+    return table("step-table", caption, columns, rows)
+
+
+def window_table(windows):
+    columns = numbers("Rank", "From", "To", "Capacity", "Need", "Spare", "% full") + long_words("Own jobs")
+    rows = [
+        [
+            place,
+            window.start,
+            window.end,
+            window.capacity,
+            window.need,
+            signed(window.spare),
+            percent(window.need, window.capacity),
+            listed(window.inside),
+        ]
+        for place, window in enumerate(windows, start=1)
+    ]
+    caption = (
+        "From a release to a deadline, those with the least spare first. A window's own jobs are those that lie inside it; "
+        "spare is the cycles that the top frequency gives there beyond their need."
+    )
+    return table("window-table", caption, columns, rows)
+
+
+def job_table(source, entries, intervals):
+    """The job list and, where there is a plan, in which intervals each job runs."""
+    columns = numbers("Job") + line_column(source) + numbers("Release", "Deadline", "Ticks", "Cycles")
+    if intervals:
+        columns += long_words("Runs as interval: cycles")
+    rows = []
+    for job, (release, deadline, cycles) in enumerate(entries):
+        row = [job, *line_cell(source, job), release, deadline, deadline - release, cycles]
+        if intervals:
+            row.append(runs_of(job, intervals))
+        rows.append(row)
+    return table("job-table", file_words(source, len(entries), tables.JOBS), columns, rows)
+
+
+def runs_of(job, intervals):
+    """In which intervals a job runs. A line never breaks between an interval and its cycles."""
+    runs = [(interval.number, interval.shares[job]) for interval in intervals if interval.shares[job]]
+    return "; ".join(f"{number}:\u00a0{thousands(cycles)}" for number, cycles in runs)
+
+
+def own_job_table(source, entries, inside):
+    columns = numbers("Job") + line_column(source) + numbers("Release", "Deadline", "Cycles")
+    rows = [[job, *line_cell(source, job), *entries[job]] for job in inside]
+    caption = f"The {counted(len(inside), 'job')} inside the overfull window, from {source.path}."
+    return table("own-job-table", caption, columns, rows)
+
+
+def level_table(source, levels):
+    columns = numbers("Level") + line_column(source) + numbers("Frequency", "Voltage", "Band", "Price of a cycle")
+    columns += long_words("Use")
+    rows = []
+    for number, level in enumerate(levels):
+        row = [number, *line_cell(source, number), level.frequency, f"{level.voltage / 100:.2f} V"]
+        if level.works:
+            row += [level.band, mixed(level.price), "works"]
+        else:
+            row += [NOTHING, NOTHING, "never used: a mix of other levels costs no more"]
+        rows.append(row)
+    caption = file_words(source, len(levels), tables.LEVELS) + (
+        " Frequencies are in cycles per tick. A band goes from the level below that works, or from idling, up to this "
+        "level; a cycle in it costs its price."
+    )
+    return table("level-table", caption, columns, rows)
+
+
+def refused_table(source, table_kind, entries, refused):
+    """The entries around a refused one."""
+    first, end = max(refused - AROUND, 0), min(refused + AROUND + 1, len(entries))
+    columns = numbers(table_kind.entry.capitalize()) + line_column(source)
+    columns += numbers(*(name.capitalize() for name, _ in table_kind.columns())) + words("Verdict")
+    rows = []
+    for number in range(first, end):
+        sign, verdict = ("\u25b8 ", "\u25c2 refused") if number == refused else ("", "")
+        rows.append([f"{sign}{number}", *line_cell(source, number), *entries[number], verdict])
+    caption = f"Entries {first} to {end - 1} of {source.path}, which has {len(entries):,}."
+    return table("refused-table", caption, columns, rows, marked=refused - first)
+
+
+def source_table(sources):
+    """The files that a site was read from."""
+    rows = []
+    for kind, source in sources.items():
+        state = counted(len(source.data), "byte") if source.lines is None else counted(len(source.lines), kind.entry)
+        if source.trouble:
+            state = f"{source.trouble}: counts as empty"
+        rows.append([kind.name.capitalize(), source.path, state])
+    columns = words("Table") + long_words("File", "State")
+    return table("source-table", "The files that were read.", columns, rows)
+
+
+def file_words(source, count, kind):
+    return f"{counted(count, kind.entry)}, from {source.path}."

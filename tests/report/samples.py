@@ -1,0 +1,107 @@
+"""The sites that the tests of the report try."""
+
+import os
+import random
+import shutil
+import tempfile
+
+from ramyearly import operations, report, sites, tables
+from ramyearly.errors import SiteError
+from ramyearly.refusals import Refused
+
+ROOT = os.path.dirname(os.path.dirname(os.path.dirname(os.path.abspath(__file__))))
+EXAMPLES = os.path.join(ROOT, "examples")
+
+LEVELS = [(300, 140), (350, 150), (400, 160), (450, 170), (500, 180)]
+# Pairs of neighbours, and two levels that are never used.
+CLOSE_LEVELS = [(100, 10), (101, 11), (102, 12), (103, 13), (900, 20), (901, 60), (999, 80), (1000, 90)]
+OVERFULL = [(0, 40, 9000), (80, 200, 21000), (100, 120, 8500), (105, 118, 4000), (150, 170, 7500)]
+
+
+def many_jobs():
+    """Sixty-four jobs whose bounds are all different, which makes the most intervals that there can be."""
+    chance = random.Random(4)
+    times = sorted(chance.sample(range(3600), 128))
+    jobs = []
+    while times:
+        release = times.pop(0)
+        deadline = times.pop(chance.randrange(min(8, len(times))))
+        jobs.append((release, deadline, (deadline - release) * chance.randint(20, 120)))
+    chance.shuffle(jobs)
+    return jobs
+
+
+def crowded_jobs():
+    """Sixty-four jobs that share most of their intervals, some at the largest times."""
+    return [(3 * job, 1_000_000 - 5 * job, 7_000_000 - job) for job in range(64)]
+
+
+MADE = {
+    "overfull round": (LEVELS, OVERFULL),
+    "overfull and large": (LEVELS, [(release, deadline, 9 * cycles) for release, deadline, cycles in many_jobs()]),
+    "refused level": ([(300, 140), (350, 150), (340, 160), (450, 170)], OVERFULL),
+    "refused job": (LEVELS, [(10 * job, 10 * job + 20 * (job != 12), 100) for job in range(40)]),
+    "large": (LEVELS, many_jobs()),
+    "crowded": (LEVELS, crowded_jobs()),
+    "short beside long": (
+        LEVELS,
+        [(0, 1, 300), (1, 2, 20), (2, 1_000_000, 400_000), (500_000, 500_001, 500), (0, 1_000_000, 100_000_000)],
+    ),
+    "close levels": (CLOSE_LEVELS, [(0, 10, 900), (3, 7, 200)]),
+    "largest cycles": ([(1000, 500)], [(0, 1_000_000, 1_000_000_000), (999_998, 999_999, 1)]),
+    "no jobs": (LEVELS, []),
+}
+HOSTILE = b'<b>&"x\' \xff\x1b<i>'
+
+
+def write(path, content):
+    with open(path, "wb") as file:
+        file.write(content if isinstance(content, bytes) else content.encode())
+
+
+def lines(entries):
+    return "".join(" ".join(map(str, entry)) + "\n" for entry in entries)
+
+
+class Samples:
+    """Folders with sites. They are made when this is, and removed by clean_up."""
+
+    def __init__(self):
+        self.room = tempfile.mkdtemp()
+        for name, (levels, jobs) in MADE.items():
+            self.make(name, **{"levels.txt": lines(levels), "jobs.txt": "# a line before the first\n" + lines(jobs)})
+        self.make(os.fsdecode(HOSTILE), **{"levels.txt": lines(LEVELS), "jobs.txt": lines(OVERFULL[:2])})
+        self.make("no level list", **{"jobs.txt": lines(OVERFULL)})
+        self.make("no job list", **{"levels.txt": lines(LEVELS)})
+        self.make("no text", **{"levels.txt": lines(LEVELS), "jobs.txt": "0 4 <script>\n"})
+        self.make("short bytes", **{"levels.tbl": b"\x02\x00\x05", "jobs.tbl": tables.to_bytes(OVERFULL, tables.JOBS)})
+        self.make("refused in bytes", **{"levels.txt": lines(LEVELS), "jobs.tbl": tables.to_bytes([(5, 5, 1)], tables.JOBS)})
+        self.make("nothing")
+        examples = [os.path.join(EXAMPLES, name) for name in sorted(os.listdir(EXAMPLES))]
+        self.folders = [os.path.join(self.room, name) for name in sorted(os.listdir(self.room))] + examples
+
+    def make(self, name, **files):
+        os.mkdir(os.path.join(self.room, name))
+        for file, content in files.items():
+            write(os.path.join(self.room, name, file), content)
+
+    def folder(self, name):
+        """The folder of a sample, or of an example."""
+        return next(folder for folder in self.folders if os.path.basename(folder) == name)
+
+    def clean_up(self):
+        shutil.rmtree(self.room)
+
+
+def outcome_of(folder):
+    """The site in a folder and what planning it gives, as the command has them."""
+    site = None
+    try:
+        site = sites.read_site(folder)
+        return site, operations.plan_tables(site.data(tables.LEVELS), site.data(tables.JOBS))
+    except (Refused, SiteError) as error:
+        return site, error
+
+
+def page_of(folder):
+    return report.page(os.path.basename(folder), *outcome_of(folder))
