@@ -7,9 +7,10 @@ import unittest
 from fractions import Fraction
 from xml.etree import ElementTree
 
-from ramyearly import figures, operations, pictures, report, tables
+from ramyearly import operations, report, tables
 from ramyearly.refusals import entries_of
-from ramyearly.wording import mixed, thousands
+from ramyearly.report import figures, pictures
+from ramyearly.report.wording import mixed, thousands
 
 from samples import EXAMPLES, HOSTILE, LEVELS, MADE, ROOT, Samples, outcome_of, page_of
 

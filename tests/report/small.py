@@ -4,8 +4,8 @@ import unittest
 from fractions import Fraction
 from xml.etree import ElementTree
 
-from ramyearly import drawing, markup, wording
-from ramyearly.timeline import label_width, timeline
+from ramyearly.report import drawing, markup, wording
+from ramyearly.report.timeline import label_width, timeline
 
 from samples import crowded_jobs, many_jobs
 

@@ -32,7 +32,7 @@ figcaption { color: var(--muted); font-size: 0.9rem; max-width: 56rem; margin-to
 .scroll { overflow: auto; max-width: 100%; border: 1px solid var(--line); }
 .scroll:focus-visible { outline: 3px solid var(--strong); outline-offset: 2px; }
 .table { max-height: 30rem; width: fit-content; }
-svg { display: block; width: 1160px; height: auto; }
+svg { display: block; width: 100%; min-width: 1040px; height: auto; }
 table { border-collapse: collapse; font-size: 0.9rem; line-height: 1.35; }
 caption { text-align: left; color: var(--muted); background: #fff; }
 caption span { display: block; position: sticky; left: 0; width: fit-content; max-width: min(46rem, calc(100vw - 2.25rem));
@@ -73,7 +73,7 @@ dl.terms dd { margin: 0 0 0.5rem; color: var(--muted); }
   .facts dt, .facts small, figcaption, .note { font-size: 8.5pt; }
   p, figcaption { max-width: none; }
   .scroll { overflow: visible; max-height: none; border: 0; }
-  svg { width: 100%; }
+  svg { min-width: 0; }
   table { font-size: 8.5pt; }
   caption span { position: static; max-width: none; padding: 0.2rem 0.4rem; }
   th, td { padding: 0.12rem 0.4rem; }

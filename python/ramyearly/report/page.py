@@ -3,12 +3,13 @@
 The page is a function of the site and of what planning it gave, so it is the same each time.
 """
 
-from . import figures, page_tables, pictures, tables
-from .errors import SiteError
+from .. import tables
+from ..errors import SiteError
+from ..refusals import Overfull, Refused, entries_of, own_jobs
+from ..sites import explain
+from . import figures, page_tables, pictures
 from .markup import element, joined
 from .page_parts import document, facts, folding, paragraph, picture, sections, verdict
-from .refusals import Overfull, Refused, entries_of, own_jobs
-from .sites import explain
 from .timeline import scale
 from .wording import counted, from_to, signed, thousands
 

@@ -2,9 +2,9 @@
 
 from typing import NamedTuple
 
-from . import tables
+from .. import tables
+from ..refusals import listed
 from .markup import element
-from .refusals import listed
 from .wording import counted, mixed, percent, signed, thousands
 
 NOTHING = "\u2013"

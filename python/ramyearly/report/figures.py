@@ -7,8 +7,8 @@ and the spare of windows.
 from fractions import Fraction
 from typing import NamedTuple
 
-from . import operations, tables
-from .refusals import Call, entries_of, inside
+from .. import operations, tables
+from ..refusals import Call, entries_of, inside
 
 NO_JOBS = tables.to_bytes([], tables.JOBS)
 MOST_WINDOWS = 10
