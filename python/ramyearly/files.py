@@ -50,7 +50,8 @@ def write_files(files):
         renames = [(stack.enter_context(written_beside(path, data)), path) for path, data in goals]
         with stops_held_back():
             for temporary, path in renames:
-                os.replace(temporary, path)
+                with named(path):
+                    os.replace(temporary, path)
             for folder in {os.path.dirname(path) for _, path in renames}:
                 keep_names(folder)
 
@@ -58,10 +59,20 @@ def write_files(files):
 def write_file(path, data):
     """Writes one file. A name that is no plain file, as a device or a pipe, is written to as it is."""
     if os.path.exists(path) and not os.path.isfile(path):
-        with open(path, "wb") as file:
+        with named(path), open(path, "wb") as file:
             file.write(data)
     else:
         write_files([(path, data)])
+
+
+@contextlib.contextmanager
+def named(path):
+    """An error of the block is said of this file: nobody knows the temporary one."""
+    try:
+        yield
+    except OSError as error:
+        error.filename = path
+        raise
 
 
 @contextlib.contextmanager
@@ -70,9 +81,9 @@ def written_beside(path, data):
     temporary = None
     try:
         # Held back, so that no file is made whose name is not known here.
-        with stops_held_back():
+        with named(path), stops_held_back():
             handle, temporary = tempfile.mkstemp(dir=os.path.dirname(path), prefix=f".{os.path.basename(path)}.")
-        with open(handle, "wb") as file:
+        with named(path), open(handle, "wb") as file:
             file.write(data)
             file.flush()
             os.fchmod(file.fileno(), mode_of(path))

@@ -32,7 +32,7 @@ def read_site(folder):
     """The two tables of a site. Text that is no table is an error; bytes of any content are not."""
     sources = {table: read_source(folder, table) for table in (tables.LEVELS, tables.JOBS)}
     if all(source.trouble and not os.path.lexists(source.path) for source in sources.values()):
-        raise TableError(f"{folder}: no job list and no level list (jobs.txt, levels.txt; --help says more)")
+        raise SiteError(f"{folder}: no job list and no level list (jobs.txt, levels.txt; --help says more)")
     return Site(folder, sources)
 
 

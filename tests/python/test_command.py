@@ -75,6 +75,7 @@ class Verbs(InFolder):
         page = os.path.join(self.folder, "a page.html")
         self.expect(["report", site, "-o", page], 0, f"{site}: wrote {page}\n")
         self.assertEqual(read(page), read(os.path.join(site, "report.html")))
+        self.expect(["report", site, "-o", "-"], 0, read(page).decode())
 
     def test_report_of_a_refused_site(self):
         """The page says what is wrong, and so does the command."""
@@ -139,6 +140,8 @@ class Verbs(InFolder):
         site = self.site()
         said = f"ramyearly: {site}: no job list and no level list (jobs.txt, levels.txt; --help says more)\n"
         self.expect([site], 1, "", said)
+        self.expect(["report", site], 1, "", said)
+        self.assertEqual(os.listdir(site), [])
 
     def test_help(self):
         ended = self.run_command("--help")

@@ -82,7 +82,7 @@ class Stopped(InFolder):
         os.mkdir(os.path.join(site, "plan.tbl"))
         ended = self.run_command("plan", site)
         self.assertEqual((ended.returncode, ended.stdout), (2, ""))
-        self.assertIn("Is a directory", ended.stderr)
+        self.assertEqual(ended.stderr, f"ramyearly: {site}/plan.tbl: Is a directory\n")
         self.assertEqual(sorted(os.listdir(site)), ["jobs.tbl", "levels.tbl", "plan.tbl"])
 
 
@@ -106,7 +106,7 @@ class FullDisk(InFolder):
         else:
             self.skipTest("nothing can be mounted here")
         self.assertEqual((ended.returncode, ended.stdout), (2, "filler\nplan.tbl\nold plan"))
-        self.assertIn("No space left on device", ended.stderr)
+        self.assertEqual(ended.stderr, f"ramyearly: {out}/plan.tbl: No space left on device\n")
 
     def test_a_file_that_may_not_grow(self):
         """The same, where nothing can be mounted."""
@@ -132,10 +132,11 @@ class FullDisk(InFolder):
         """A name that is no plain file is written to, and is not replaced."""
         site = self.site(jobs_tbl=TWO_JOBS, levels_tbl=PAIR)
         ended = self.run_command("report", site, "-o", "/dev/full")
-        self.assertEqual(ended.returncode, 2)
-        self.assertIn("No space left on device", ended.stderr)
+        said = "ramyearly: /dev/full: No space left on device\n"
+        self.assertEqual((ended.returncode, ended.stdout, ended.stderr), (2, "", said))
         self.assertTrue(stat.S_ISCHR(os.stat("/dev/full").st_mode))
-        self.assertEqual(self.run_command("report", site, "-o", "/dev/null").returncode, 0)
+        ended = self.run_command("report", site, "-o", "/dev/null")
+        self.assertEqual((ended.returncode, ended.stdout), (0, ""))
         self.assertTrue(stat.S_ISCHR(os.stat("/dev/null").st_mode))
 
 

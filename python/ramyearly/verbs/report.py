@@ -3,7 +3,7 @@
 import os
 
 from .. import report, tables
-from ..errors import SiteError
+from ..errors import TableError
 from ..files import write_file
 from ..operations import plan_tables
 from ..refusals import Refused
@@ -20,7 +20,8 @@ def run(arguments, prepare):
         "tightest windows; or the overfull window; or the refused entry. A browser opens it, from the\n"
         "file alone.",
     )
-    parser.add_argument("-o", dest="out", metavar="FILE.html", help="the file to write (report.html beside the tables if left out)")
+    said = "the file to write, - for standard output (report.html beside the tables if left out)"
+    parser.add_argument("-o", dest="out", metavar="FILE.html", help=said)
     options = parser.parse_args(arguments)
 
     def work(folder):
@@ -31,10 +32,14 @@ def run(arguments, prepare):
             outcome = plan_tables(site.data(tables.LEVELS), site.data(tables.JOBS))
         except Refused as refusal:
             outcome, message = refusal, explain(refusal, site)
-        except SiteError as error:
+        except TableError as error:
             outcome, message = error, str(error)
+        text = report.page(os.path.basename(os.path.abspath(folder)), site, outcome)
+        if options.out == "-":
+            return text, message
         out = os.path.normpath(os.path.join(folder, "report.html")) if options.out is None else options.out
-        write_file(out, report.page(os.path.basename(os.path.abspath(folder)), site, outcome).encode())
-        return f"{folder}: wrote {out}\n", message
+        write_file(out, text.encode())
+        # A line about a device could end up behind the page itself.
+        return f"{folder}: wrote {out}\n" if os.path.isfile(out) else "", message
 
     return on_site(options.folder, work)
