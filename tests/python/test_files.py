@@ -31,10 +31,16 @@ class Stopped(InFolder):
         """A site with an older plan."""
         return self.site(jobs_tbl=TWO_JOBS, levels_tbl=PAIR, plan_tbl="old plan", prices_tbl="old prices")
 
-    def run_stopped(self, function, call, stop, *words):
+    def run_stopped(self, function, call, stop, *words, ignored=()):
+        """These signals are ignored, and the others are not, whatever the tests themselves were started with."""
+
+        def set_signals():
+            for number in (signal.SIGHUP, signal.SIGINT, signal.SIGTERM):
+                signal.signal(number, signal.SIG_IGN if number in ignored else signal.SIG_DFL)
+
         script = STOPPED.format(function=function, call=call, stop=stop)
-        settings = {**os.environ, "PYTHONPATH": PACKAGES}
-        return subprocess.run([sys.executable, "-B", "-c", script, *words], capture_output=True, text=True, env=settings)
+        settings = {"env": {**os.environ, "PYTHONPATH": PACKAGES}, "preexec_fn": set_signals}
+        return subprocess.run([sys.executable, "-B", "-c", script, *words], capture_output=True, text=True, **settings)
 
     def contents(self, site):
         return read(os.path.join(site, "plan.tbl")), read(os.path.join(site, "prices.tbl"))
@@ -70,10 +76,8 @@ class Stopped(InFolder):
     def test_a_signal_that_is_ignored(self):
         """As nohup has it: the run goes on."""
         site = self.planned()
-        script = 'trap "" HUP; exec "$@"'
-        hangup = STOPPED.format(function="fsync", call=1, stop=f"os.kill(os.getpid(), {int(signal.SIGHUP)})")
-        words = ["sh", "-c", script, "sh", sys.executable, "-B", "-c", hangup, "plan", site]
-        ended = subprocess.run(words, capture_output=True, text=True, env={**os.environ, "PYTHONPATH": PACKAGES})
+        hangup = f"os.kill(os.getpid(), {int(signal.SIGHUP)})"
+        ended = self.run_stopped("fsync", 1, hangup, "plan", site, ignored=[signal.SIGHUP])
         self.assertEqual(ended.returncode, 0)
         self.assertEqual(self.contents(site), (PLAN, PRICES))
 
