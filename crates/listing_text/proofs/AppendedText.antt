@@ -7,10 +7,9 @@ use native.Mathlib.Omega.{arith}
 use mathlib.Core.List.{append-assoc, append-nil}
 use lib.ListN.{length, getD, set, length-append}
 use lib.Seq.{length-sets, set-out}
-use Rattle.model.specs.Entries.{encodeEach}
-use Rattle.writing.specs.StepList.{joined}
+use Rattle.model.specs.Entries.{encodeEach, joined}
 use Rattle.writing.proofs.Stores.{sets-after}
-use Rattle.writing.proofs.Joined.{joined-next}
+use Rattle.model.proofs.Joined.{joined-next}
 use Rattle.listing_text.specs.Appending.{Appended}
 
 module _ (before : List ℕ) (place : ℕ) where

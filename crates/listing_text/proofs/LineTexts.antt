@@ -4,7 +4,7 @@ use mathlib.Core.Path.{_≡_, refl, sym}
 use mathlib.Core.List.{List, [], _∷_, append-nil}
 use Prim.Native.Nat.{ℕ, zero, suc, _-_, _<_, _≤_}
 use native.Mathlib.Omega.{arith}
-use Rattle.model.specs.Entries.{encodeEach}
+use Rattle.model.specs.Entries.{encodeEach, joined}
 use Rattle.model.specs.Points.{Point}
 use Rattle.model.specs.Setting.{Setting, settingOf}
 use Rattle.model.specs.Plans.{Shares}
@@ -12,7 +12,7 @@ use Rattle.model.specs.Steps.{Step}
 use Rattle.levels.specs.declared.interval.SettingAnswer.{SettingAnswer}
 use Rattle.levels.specs.declared.interval.SettingAnswer.the-variants.{Set, Refused}
 use Rattle.levels.specs.Settings.{answered}
-use Rattle.writing.specs.StepList.{joined, stepOf, stepsIn, stepsOf}
+use Rattle.writing.specs.StepList.{stepOf, stepsIn, stepsOf}
 use Rattle.writing.proofs.CellOrder.{stepOf-none, stepOf-some}
 use Rattle.writing.proofs.Encoded.{encodeEach-append}
 use Rattle.listing_text.specs.TextLines.{line, spanWord, stepWord}

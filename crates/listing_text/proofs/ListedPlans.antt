@@ -27,7 +27,7 @@ use Rattle.site.specs.declared.SiteTable.{SiteTable}
 use Rattle.site.specs.SiteTables.{HoldsSite}
 use Rattle.site.proofs.HeldSites.{held-points, held-small, held-curve, held-top-point, held-bounds, held-bounds-small}
 use Rattle.intervals.specs.Times.{SmallBounds}
-use Rattle.writing.proofs.Joined.{joined-cong}
+use Rattle.model.proofs.Joined.{joined-cong}
 use Rattle.planning.proofs.RoomSizes.{jobs-counted}
 use Rattle.listing_text.specs.PlanText.{spanLines, planText, textOfPlan}
 use Rattle.listing_text.specs.ShownPlans.{boundsIn, pricesIn, ShownPlan, ListedPlan}

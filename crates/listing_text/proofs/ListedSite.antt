@@ -6,7 +6,7 @@ use mathlib.Core.List.{List, [], _∷_}
 use Prim.Native.Nat.{ℕ, zero, suc}
 use lib.IntN.{negsuc}
 use Rattle.model.specs.declared.Job.{Job}
-use Rattle.model.specs.Entries.{encodeEach}
+use Rattle.model.specs.Entries.{encodeEach, joined}
 use Rattle.model.specs.Search.{firstFrom, someBelow}
 use Rattle.model.specs.Sum.{sum}
 use Rattle.model.specs.Points.{points, drops, dropped, selectFrom, working}
@@ -16,7 +16,7 @@ use Rattle.model.specs.Intervals.{insertTime, boundsOf}
 use Rattle.model.specs.Sites.{siteOf}
 use Rattle.model.specs.Prices.{PriceList}
 use Rattle.model.specs.SiteLines.{T, job, listedShares}
-use Rattle.writing.specs.StepList.{joined, stepOf, stepsOf}
+use Rattle.writing.specs.StepList.{stepOf, stepsOf}
 use Rattle.listing_text.specs.TextLines.{placesOf, decimal, signedDecimal, line, overfullLine, refusedLine}
 use Rattle.listing_text.specs.PlanText.{spanLine, stepLine, spanLines, stepLines, planText, textOfPlan}
 

@@ -3,7 +3,7 @@
 use Prim.Native.Nat.{ℕ, suc, _-_}
 use mathlib.Core.List.{List, [], _∷_, _++_}
 use lib.ListN.{length}
-use Rattle.model.specs.Entries.{encodeEach}
+use Rattle.model.specs.Entries.{encodeEach, joined}
 use Rattle.model.specs.Sum.{sum}
 use Rattle.model.specs.Points.{Point}
 use Rattle.model.specs.Processors.{workingOf}
@@ -13,7 +13,7 @@ use Rattle.model.specs.Sites.{Site}
 use Rattle.model.specs.Plans.{Shares}
 use Rattle.model.specs.Prices.{PriceList}
 use Rattle.model.specs.Steps.{Step}
-use Rattle.writing.specs.StepList.{joined, stepsOf}
+use Rattle.writing.specs.StepList.{stepsOf}
 use Rattle.listing_text.specs.TextLines.{line, sizesWord, spanWord, stepWord, energyWord}
 
 -- "span: from, to, load, then band, extra and gap as the setting of one interval answers them (zeros for load 0), price."

@@ -8,6 +8,7 @@ pub mod Levels
 pub mod Jobs
 pub mod Sum
 pub mod SumMore
+pub mod Joined
 pub mod Search
 pub mod BoundsOf
 pub mod Intervals

@@ -12,7 +12,7 @@ use lib.Dec.{ltb, leb, eqb}
 use Rattle.model.specs.declared.Level.{Level}
 use Rattle.model.specs.declared.Job.{Job}
 use Rattle.model.specs.Limits.{maxLevels, maxJobs, maxDeadline}
-use Rattle.model.specs.Outcome.{Outcome, refused, answer, andThen, refuseWhen, refuseAt, byEntryFrom, From, RefusesBy}
+use Rattle.model.specs.Outcome.{Outcome, refused, answer, andThen, refuseWhen, refuseAt, refuseUnder, byEntryFrom, From, RefusesBy}
 use Rattle.model.specs.Entries.{listOf}
 use Rattle.model.specs.Levels.{levelCount, levelEntries, wrongFrequency, wrongVoltage, faultOfLevel, levelFault, readLevels}
 use Rattle.model.specs.Jobs.{jobOf, jobCount, jobEntries, wrongWindow, wrongCycles as wrongJobCycles, faultOfJob, jobFault, readJobs}
@@ -45,11 +45,11 @@ use Rattle.model.specs.Checking.{
 use Rattle.model.specs.Planning.{PlanOutcome, refusal, afterReading, unlessOverfull, wants, planLength, priceLength, shareCount, planFor, planning}
 
 -- A fault number is 0, for none, or one of the numbers.
-abbrev FaultBy : (numbers : ℕ → Type 0) → ℕ → Type 0
+abbrev pub FaultBy : (numbers : ℕ → Type 0) → ℕ → Type 0
 FaultBy numbers fault = (fault ≡ 0) ⊎ numbers fault
 
 module _ (numbers : ℕ → Type 0) where
-  fault-cond : (test : Bool) (number other : ℕ) → numbers number → FaultBy numbers other → FaultBy numbers (cond test number other)
+  pub fault-cond : (test : Bool) (number other : ℕ) → numbers number → FaultBy numbers other → FaultBy numbers (cond test number other)
   fault-cond true number other mine rest = inr mine
   fault-cond false number other mine rest = rest
 
@@ -58,34 +58,41 @@ module _ (numbers : ℕ → Type 0) where
   fault-unless false number mine = inr mine
 
   module _ {A : Type 0} where
-    by-answer : (a : A) → RefusesBy numbers (answer a)
+    pub by-answer : (a : A) → RefusesBy numbers (answer a)
     by-answer a number place e = let z : _≡_ {A = ℕ} 0 1 = cc e in absurd (omega (arith, z))
 
-    by-refused : (own at : ℕ) → numbers own → RefusesBy {A = A} numbers (refused own at)
+    pub by-refused : (own at : ℕ) → numbers own → RefusesBy {A = A} numbers (refused own at)
     by-refused own at mine number place e = let same : own ≡ number = cc e in rw same at mine
 
-    by-when : (condition : Bool) (own : ℕ) {next : Outcome A} → numbers own → RefusesBy numbers next → RefusesBy numbers (refuseWhen condition own next)
+    pub by-when : (condition : Bool) (own : ℕ) {next : Outcome A} → numbers own → RefusesBy numbers next → RefusesBy numbers (refuseWhen condition own next)
     by-when true own mine rest = by-refused own 0 mine
     by-when false own mine rest = rest
+
+    pub by-under : (wanted own room : ℕ) {next : Outcome A} → numbers own → RefusesBy numbers next → RefusesBy numbers (refuseUnder wanted own room next)
+    by-under wanted own room {next} mine rest = go (ltb room wanted)
+      where
+        go : (short : Bool) → RefusesBy numbers (cond short (refused own wanted) next)
+        go true = by-refused own wanted mine
+        go false = rest
 
     by-at : (own at : ℕ) {next : Outcome A} → FaultBy numbers own → RefusesBy numbers next → RefusesBy numbers (refuseAt own at next)
     by-at zero at fault rest = rest
     by-at (suc n) at (inl e) rest = absurd (omega (arith, e))
     by-at (suc n) at (inr mine) rest = by-refused (suc n) at mine
 
-    by-entries : (first count : ℕ) (fault : ℕ → ℕ) {next : Outcome A} → ((i : ℕ) → FaultBy numbers (fault i)) → RefusesBy numbers next
+    pub by-entries : (first count : ℕ) (fault : ℕ → ℕ) {next : Outcome A} → ((i : ℕ) → FaultBy numbers (fault i)) → RefusesBy numbers next
         → RefusesBy numbers (byEntryFrom first count fault next)
     unfolding byEntryFrom
     by-entries first zero fault each rest = rest
     by-entries first (suc count) fault each rest = by-at (fault first) first (each first) (by-entries (suc first) count fault each rest)
 
-    by-then : {B : Type 0} (first : Outcome B) (next : B → Outcome A) → RefusesBy numbers first → ((b : B) → RefusesBy numbers (next b))
+    pub by-then : {B : Type 0} (first : Outcome B) (next : B → Outcome A) → RefusesBy numbers first → ((b : B) → RefusesBy numbers (next b))
         → RefusesBy numbers (andThen first next)
     by-then (refused own at) next mine rest = by-refused own at (mine own at refl)
     by-then (answer b) next mine rest = rest b
 
 -- numbers among more numbers
-widen : {A : Type 0} {few many : ℕ → Type 0} {outcome : Outcome A} → ((n : ℕ) → few n → many n) → RefusesBy few outcome → RefusesBy many outcome
+pub widen : {A : Type 0} {few many : ℕ → Type 0} {outcome : Outcome A} → ((n : ℕ) → few n → many n) → RefusesBy few outcome → RefusesBy many outcome
 widen wider by number place e = wider number (by number place e)
 
 level-fault : (before this : Level) → FaultBy (From 1 5) (faultOfLevel before this)

@@ -1,4 +1,4 @@
--- Lists by place: the list of a function's first values, and the bytes of a list's elements one after another.
+-- Lists by place: the list of a function's first values, the bytes of a list's elements one after another, and lists joined.
 use Prim.Native.Nat.{ℕ, zero, suc}
 use mathlib.Core.List.{List, [], _∷_, _++_}
 
@@ -12,3 +12,8 @@ module _ {A : Type 0} where
   unfoldable pub encodeEach : (A → List ℕ) → List A → List ℕ
   encodeEach encode [] = []
   encodeEach encode (x ∷ xs) = encode x ++ encodeEach encode xs
+
+  -- f 0 ++ f 1 ++ .. ++ f (count - 1)
+  unfoldable pub joined : (count : ℕ) → (ℕ → List A) → List A
+  joined zero f = []
+  joined (suc count) f = joined count f ++ f count

@@ -1,7 +1,8 @@
 -- What an operation gives: an answer, or a refusal with its number and its place.
 use Prim.Native.Nat.{ℕ, zero, suc, _≤_}
 use mathlib.Core.Path.{_≡_}
-use mathlib.Core.Bool.{Bool, true, false}
+use mathlib.Core.Bool.{Bool, true, false, cond}
+use lib.Dec.{ltb}
 
 pub data Outcome (A : Type 0) : Type 0 where
   -- the refusal's number in document 01, and its place, 0 where none is named
@@ -22,6 +23,10 @@ refuseWhen false number next = next
 abbrev pub refuseAt : {A : Type 0} → ℕ → ℕ → Outcome A → Outcome A
 refuseAt zero place next = next
 refuseAt (suc n) place next = refused (suc n) place
+
+-- A refusal where the room lent is under what is wanted, which is the place.
+abbrev pub refuseUnder : {A : Type 0} → (wanted number room : ℕ) → Outcome A → Outcome A
+refuseUnder wanted number room next = cond (ltb room wanted) (refused number wanted) next
 
 -- The entries first, first + 1, .. , as many as count, are gone through one after another. The first entry with a
 -- fault refuses: the fault's number is the refusal's, and the entry is its place. With no fault what comes next decides.

@@ -10,13 +10,14 @@ use lib.Dec.{ltb}
 use lib.ListN.{length, getD, length-append, List·getD-append}
 use borrow.Author.Tests.{lt-ltb}
 use Rattle.model.specs.Limits.{maxJobs}
+use Rattle.model.specs.Entries.{joined}
 use Rattle.model.specs.Sum.{sum, onlyIf}
 use Rattle.model.specs.Plans.{Shares}
 use Rattle.model.specs.Steps.{Step, cellOf}
 use Rattle.model.proofs.Numbers.{lt-or-le}
 use Rattle.model.proofs.Sum.{sum-cong}
-use Rattle.writing.specs.StepList.{joined, stepOf, stepsIn, stepsOf}
-use Rattle.writing.proofs.Joined.{length-joined, getD-past, Each, each-append, each-joined, sumOver, sum-joined}
+use Rattle.writing.specs.StepList.{stepOf, stepsIn, stepsOf}
+use Rattle.model.proofs.Joined.{length-joined, getD-past, Each, each-append, each-joined, sumOver, sum-joined}
 
 -- what stands past the last step
 abbrev pub noStep : Step

@@ -1,7 +1,6 @@
 -- Laws of what is written, for the proofs of the functions and for their callers.
 pub mod Stores
 pub mod Encoded
-pub mod Joined
 pub mod CellOrder
 pub mod EncodedPlan
 pub mod PlanStores

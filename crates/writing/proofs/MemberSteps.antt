@@ -10,13 +10,14 @@ use native.Mathlib.Decide.{ℕ-discrete}
 use native.Mathlib.Omega.{arith}
 use lib.ListN.{length}
 use Rattle.model.specs.Limits.{maxJobs}
+use Rattle.model.specs.Entries.{joined}
 use Rattle.model.specs.Steps.{Step}
 use Rattle.model.proofs.Numbers.{lt-or-le, true≢false}
 use Rattle.model.proofs.Search.{firstBelow-law, firstBelow-none}
 use Rattle.job_sets.specs.declared.JobSet.{JobSet}
 use Rattle.job_sets.specs.JobSets.{isMember, memberCount, leastMember, isEmpty, withoutJob}
 use Rattle.job_sets.proofs.JobSets.{count-without, empty-has, least-has, without-here, without-other}
-use Rattle.writing.specs.StepList.{joined, stepOf}
+use Rattle.writing.specs.StepList.{stepOf}
 use Rattle.writing.specs.HeldShares.{SharesHeld}
 use Rattle.writing.specs.PlanBytes.{withSteps}
 use Rattle.writing.proofs.CellOrder.{stepOf-none, stepOf-some}

@@ -8,14 +8,13 @@ use native.Mathlib.Omega.{arith}
 use lib.ListN.{length, drop, length-append}
 use lib.Seq.{sets, length-sets}
 use Rattle.model.specs.Bytes.{bytes16, bytes32}
-use Rattle.model.specs.Entries.{encodeEach}
+use Rattle.model.specs.Entries.{encodeEach, joined}
 use Rattle.model.specs.Steps.{Step}
 use Rattle.model.proofs.Bytes.{length-bytesOf}
-use Rattle.writing.specs.StepList.{joined}
 use Rattle.writing.specs.PlanBytes.{cellBytes, cycleBytes, encodePlan, withSteps}
 use Rattle.writing.proofs.Stores.{sets-after, sets-two, sets-front}
 use Rattle.writing.proofs.Encoded.{encodeEach-append}
-use Rattle.writing.proofs.Joined.{joined-next, joined-longer, joined-shorter}
+use Rattle.model.proofs.Joined.{joined-next, joined-longer, joined-shorter}
 use Rattle.writing.proofs.CellOrder.{cellOfStep}
 use Rattle.writing.proofs.EncodedPlan.{length-cells, length-cycles, length-plan}
 

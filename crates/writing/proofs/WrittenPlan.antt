@@ -24,7 +24,7 @@ use Rattle.model.proofs.SumMore.{onlyIf-le, onlyIf-mono, onlyIf-zero}
 use Rattle.model.proofs.Steps.{step-cell}
 use Rattle.writing.specs.StepList.{stepOf, stepsOf}
 use Rattle.writing.specs.PlanBytes.{encodePlan}
-use Rattle.writing.proofs.Joined.{sumOver}
+use Rattle.model.proofs.Joined.{sumOver}
 use Rattle.writing.proofs.CellOrder.{noStep, ShareStep, cells-rise, share-steps, sum-steps, step-total}
 use Rattle.writing.proofs.EncodedPlan.{StepFits, length-plan, intervals-read, count-read, step-read}
 

@@ -1,13 +1,9 @@
 -- The steps of all shares that are not 0, in cell order: interval by interval, within it by job number.
 use Prim.Native.Nat.{ℕ, zero, suc}
-use mathlib.Core.List.{List, [], _∷_, _++_}
+use mathlib.Core.List.{List, [], _∷_}
+use Rattle.model.specs.Entries.{joined}
 use Rattle.model.specs.Plans.{Shares}
 use Rattle.model.specs.Steps.{Step}
-
--- f 0 ++ f 1 ++ .. ++ f (count - 1)
-unfoldable pub joined : {A : Type 0} → (count : ℕ) → (ℕ → List A) → List A
-joined zero f = []
-joined (suc count) f = joined count f ++ f count
 
 -- The step of a share; a share of 0 has none.
 unfoldable pub stepOf : (interval job share : ℕ) → List Step

@@ -5,10 +5,10 @@ use Prim.Native.Nat.{suc, _-_, _*_, _≤_}
 use native.Mathlib.Nat.{mul-le-mul-right}
 use native.Mathlib.Omega.{arith}
 use denote.Ref.{now}
+use Rattle.model.specs.Entries.{joined}
 use Rattle.model.specs.Sum.{sum}
 use Rattle.model.specs.Plans.{sharesIn}
 use Rattle.levels.specs.PointTables.{pointsOf}
-use Rattle.writing.specs.StepList.{joined}
 use Rattle.listing_text.specs.PlanText.{spanLine, spanLines}
 use Rattle.listing_text.specs.Appending.{spanRoom, Appended}
 use Rattle.listing_text.specs.ShownPlans.{boundsIn, pricesIn}

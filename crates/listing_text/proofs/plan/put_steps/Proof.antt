@@ -4,9 +4,9 @@ use Prim.Native.Nat.{_-_, _*_, _≤_}
 use native.Mathlib.Nat.{mul-le-mul-left, mul-le-mul-right}
 use native.Mathlib.Omega.{arith}
 use denote.Ref.{now}
-use Rattle.model.specs.Entries.{encodeEach}
+use Rattle.model.specs.Entries.{encodeEach, joined}
 use Rattle.model.specs.Plans.{sharesIn}
-use Rattle.writing.specs.StepList.{joined, stepsIn}
+use Rattle.writing.specs.StepList.{stepsIn}
 use Rattle.listing_text.specs.PlanText.{stepLine}
 use Rattle.listing_text.specs.Appending.{stepRoom, Appended}
 use Rattle.listing_text.proofs.AppendedText.{same-room, next-most, pieces-none, pieces-next, pieces-whole}

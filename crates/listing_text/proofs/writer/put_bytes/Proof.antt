@@ -6,7 +6,7 @@ use Prim.Native.Nat.{_-_, _*_, _≤_}
 use native.Mathlib.Omega.{arith}
 use lib.ListN.{length, getD}
 use denote.Ref.{now}
-use Rattle.writing.specs.StepList.{joined}
+use Rattle.model.specs.Entries.{joined}
 use Rattle.listing_text.specs.Appending.{Appended}
 use Rattle.listing_text.proofs.AppendedText.{same-room, next-most, pieces-none, pieces-next, pieces-whole, joined-each, each-byte}
 use Rattle.listing_text.proofs.writer.put_bytes.Statement.{statement}

@@ -6,8 +6,9 @@ use native.Mathlib.Nat.{mul-le-mul-right}
 use native.Mathlib.Omega.{arith}
 use lib.ListN.{length}
 use denote.Ref.{now}
+use Rattle.model.specs.Entries.{joined}
 use Rattle.model.specs.Plans.{sharesIn}
-use Rattle.writing.specs.StepList.{joined, stepsIn, stepsOf}
+use Rattle.writing.specs.StepList.{stepsIn, stepsOf}
 use Rattle.writing.proofs.PlanStores.{StepsPut, put-none, length-put, put-whole, put-room, put-next}
 use Rattle.writing.proofs.plan.write_steps.Statement.{statement}
 use Rattle.writing.proofs.plan.write_steps.Tie as tie

@@ -9,10 +9,10 @@ use native.Mathlib.Omega.{arith}
 use native.Mathlib.Numerals.{add-one}
 use lib.ListN.{length, getD, length-append, List·getD-append}
 use lib.Seq.{getD-append-add}
 use Rattle.model.specs.Sum.{sum}
 use Rattle.model.proofs.Numbers.{lt-or-le}
 use Rattle.model.proofs.Sum.{sum-cong, sum-split, sum-longer}
-use Rattle.writing.specs.StepList.{joined}
+use Rattle.model.specs.Entries.{joined}
 
 module _ {A : Type 0} where
   pub joined-next : (n : ℕ) (f : ℕ → List A) → joined (n + 1) f ≡ joined n f ++ f n
