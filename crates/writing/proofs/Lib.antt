@@ -8,4 +8,6 @@ pub mod HeldShares
 pub mod MemberSteps
 pub mod WrittenPlan
 pub mod WrittenPrices
+pub mod NumberStores
 pub mod PriceStores
+pub mod JobStores

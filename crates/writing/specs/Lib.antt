@@ -3,3 +3,4 @@ pub mod StepList
 pub mod HeldShares
 pub mod PlanBytes
 pub mod PriceListBytes
+pub mod JobBytes

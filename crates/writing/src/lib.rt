@@ -1,7 +1,9 @@
-// Writing plans and price lists in bytes.
+// Writing plans, price lists and job tables in bytes.
+mod jobs;
 mod numbers;
 mod plan;
 mod prices;
 
+pub use jobs::write_jobs;
 pub use plan::write_plan;
 pub use prices::write_prices;

@@ -1,4 +1,4 @@
--- `prices::write_ends` meets its contract. The loop's invariant: the first `i` ends are written (proofs/PriceStores.antt).
+-- `prices::write_ends` meets its contract. The loop's invariant: the first `i` ends are written (proofs/NumberStores.antt).
 -- Assumes nothing.
 use mathlib.Core.Path.{_≡_}
 use mathlib.Core.List.{List}
@@ -11,7 +11,7 @@ use denote.Ref.{now}
 use Rattle.model.specs.Bytes.{bytes32}
 use Rattle.model.proofs.Bytes.{length-bytesOf}
 use Rattle.writing.specs.PriceListBytes.{endBytes}
-use Rattle.writing.proofs.PriceStores.{numbers-none, length-numbers, numbers-next, numbers-whole}
+use Rattle.writing.proofs.NumberStores.{numbers-none, length-numbers, numbers-next, numbers-whole}
 use Rattle.writing.proofs.prices.write_ends.Statement.{statement}
 use Rattle.writing.proofs.prices.write_ends.Tie as tie
 

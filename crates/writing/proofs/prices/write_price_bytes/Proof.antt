@@ -1,5 +1,5 @@
 -- `prices::write_price_bytes` meets its contract. The loop's invariant: the first `i` prices are written
--- (proofs/PriceStores.antt). Assumes nothing.
+-- (proofs/NumberStores.antt). Assumes nothing.
 use mathlib.Core.Path.{_≡_}
 use mathlib.Core.List.{List}
 use Prim.Native.Nat.{ℕ, suc, _+_, _*_, _-_, _%_, _<_, _≤_}
@@ -10,7 +10,7 @@ use denote.Ref.{now}
 use Rattle.model.specs.Bytes.{bytesOf}
 use Rattle.model.proofs.Bytes.{length-bytesOf}
 use Rattle.writing.specs.PriceListBytes.{priceBytes}
-use Rattle.writing.proofs.PriceStores.{numbers-none, length-numbers, numbers-next, numbers-whole}
+use Rattle.writing.proofs.NumberStores.{numbers-none, length-numbers, numbers-next, numbers-whole}
 use Rattle.writing.proofs.prices.write_price_bytes.Statement.{statement}
 use Rattle.writing.proofs.prices.write_price_bytes.Tie as tie
 
