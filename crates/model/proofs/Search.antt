@@ -47,20 +47,21 @@ unfolding someBelow
 someBelow-fails zero test fails = refl
 someBelow-fails (suc n) test fails = rw (someBelow-fails n test (λ i below. fails i (omega arith)), fails n (omega arith))
 
-from-found : (first count : ℕ) (test : ℕ → Bool) (d : ℕ) → d < count → ((k : ℕ) → k < d → test (first + k) ≡ false) → test (first + d) ≡ true
+-- the first number from a start that passes the test is found
+pub firstFrom-is : (first count : ℕ) (test : ℕ → Bool) (d : ℕ) → d < count → ((k : ℕ) → k < d → test (first + k) ≡ false) → test (first + d) ≡ true
     → firstFrom first count test ≡ first + d
 unfolding firstFrom
-from-found first zero test d below before here = absurd (omega arith)
-from-found first (suc count) test zero below before here =
+firstFrom-is first zero test d below before here = absurd (omega arith)
+firstFrom-is first (suc count) test zero below before here =
     let e : first + 0 ≡ first = omega arith in
     let now : test first ≡ true = rw e at here in
     rw (now, e)
-from-found first (suc count) test (suc d) below before here =
+firstFrom-is first (suc count) test (suc d) below before here =
     let e : first + 0 ≡ first = omega arith in
     let later : first + suc d ≡ suc first + d = omega arith in
     let now : test first ≡ false = rw e at (before 0 (omega arith)) in
     rw (now, later)
-    (from-found (suc first) count test d (omega arith)
+    (firstFrom-is (suc first) count test d (omega arith)
     (λ k h. let next : suc first + k ≡ first + suc k = omega arith in rw next (before (suc k) (omega arith)))
     (rw later at here))
 
@@ -78,7 +79,7 @@ from-passed first (suc count) test fails =
 -- the first number that passes the test is found
 pub firstBelow-is : (n : ℕ) (test : ℕ → Bool) (i : ℕ) → i < n → ((k : ℕ) → k < i → test k ≡ false) → test i ≡ true → firstBelow n test ≡ i
 firstBelow-is n test i below before here =
-    rw zero-add at (from-found 0 n test i below (λ k h. rw zero-add (before k h)) (rw zero-add here))
+    rw zero-add at (firstFrom-is 0 n test i below (λ k h. rw zero-add (before k h)) (rw zero-add here))
 
 -- with none that passes the count is answered
 pub firstBelow-none : (n : ℕ) (test : ℕ → Bool) → ((k : ℕ) → k < n → test k ≡ false) → firstBelow n test ≡ n

@@ -1,1 +1,3 @@
+-- The laws that specs/ states, and samples.
+pub mod Multiples
 pub mod Samples
