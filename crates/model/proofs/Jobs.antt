@@ -18,7 +18,7 @@ use Rattle.model.specs.Jobs.{noJob, jobOf, jobAt, wrongWindow, wrongCycl
 use Rattle.model.specs.Jobs.{readJobs, ValidJobs, encodeJobs, JobsReadBack}
 use Rattle.model.proofs.Bytes.{length-bytesOf, bytesOf-numberAt, numberAt-found}
 use Rattle.model.proofs.Tests.{neither, in-range, no-fault}
-use Rattle.model.proofs.Tables.{Table, TableLaws, table-valid, table-read-back}
+use Rattle.model.proofs.Tables.{Table, TableLaws, table-sound, table-read-back}
 
 -- the limits that a job keeps
 pub record SoundJob (job : Job) : Type 0 where
@@ -139,7 +139,7 @@ jobs-laws =
       count-small = λ n e. omega (arith, ltb-false maxJobs n e);
       valid-count = λ jobs h. le-ltb maxJobs (length jobs) (h .few);
       valid-sound = jobs-faultless;
-      sound-valid = λ jobs e. valid-jobs jobs (ltb-false maxJobs (length jobs) e);
+      sound-valid = λ bytes small jobs read e. valid-jobs jobs (ltb-false maxJobs (length jobs) e);
       first-written = window-written;
       second-written = λ bytes j. bytesOf-numberAt 4 bytes (2 + 8 * number16 bytes 0 + 4 * j);
       entry-read = job-read;
@@ -148,7 +148,9 @@ jobs-laws =
 -- what a reading answers is a valid table
 pub jobs-valid : (bytes : List ℕ) (jobs : List Job) → readJobs bytes ≡ answer jobs → ValidJobs jobs
 unfolding readJobs
-jobs-valid = table-valid jobs-table ValidJobs jobs-laws
+jobs-valid bytes jobs e =
+    let sound = table-sound jobs-table bytes jobs e in
+    valid-jobs jobs (ltb-false maxJobs (length jobs) (sound .0)) (sound .1)
 
 pub jobs-read-back : JobsReadBack
 unfolding readJobs encodeJobs

@@ -3,7 +3,7 @@
 -- Assumes nothing.
 use mathlib.Core.Path.{_≡_}
 use mathlib.Core.Logic.{_↔_}
-use mathlib.Core.Bool.{not, _&&_}
+use mathlib.Core.Bool.{false, not, _&&_}
 use mathlib.Core.List.{List, _++_}
 use Prim.Native.Nat.{ℕ, zero, suc, _+_, _*_, _<_, _≤_}
 use native.Mathlib.Omega.{arith}
@@ -18,7 +18,7 @@ use Rattle.model.specs.Levels.{idling, levelOf, levelBefore, levelAt, wr
 use Rattle.model.specs.Levels.{readLevels, ValidLevels, encodeLevels, LevelsReadBack}
 use Rattle.model.proofs.Bytes.{length-bytesOf, bytesOf-numberAt, numberAt-found}
 use Rattle.model.proofs.Tests.{neither, in-range, no-fault}
-use Rattle.model.proofs.Tables.{Table, TableLaws, table-valid, table-read-back}
+use Rattle.model.proofs.Tables.{Table, TableLaws, table-sound, table-read-back}
 
 -- the limits that a level keeps after the one before it
 pub record SoundLevel (before this : Level) : Type 0 where
@@ -128,6 +128,10 @@ level-read levels h bytes i below more first rest second =
       numberAt-found 2 _ bytes rest (2 + 2 * number16 bytes 0 + 2 * i) second (omega (arith, h .voltage-high i below)),
     )
 
+counted-valid : (levels : List Level) → not (leb 1 (length levels) && leb (length levels) maxLevels) ≡ false
+    → ((i : ℕ) → i < length levels → levelFault levels i ≡ 0) → ValidLevels levels
+counted-valid levels e = let count = in-range (length levels) maxLevels e in valid-levels levels (count .0) (count .1)
+
 levels-laws : TableLaws levels-table ValidLevels
 unfolding levelAt
 levels-laws =
@@ -137,7 +141,7 @@ levels-laws =
       count-small = λ n e. omega (arith, in-range n maxLevels e);
       valid-count = λ levels h. rw (le-leb 1 (length levels) (h .some), le-leb (length levels) maxLevels (h .few));
       valid-sound = levels-faultless;
-      sound-valid = λ levels e. let count = in-range (length levels) maxLevels e in valid-levels levels (count .0) (count .1);
+      sound-valid = λ bytes small levels read. counted-valid levels;
       first-written = λ bytes i. bytesOf-numberAt 2 bytes (2 + 2 * i);
       second-written = λ bytes i. bytesOf-numberAt 2 bytes (2 + 2 * number16 bytes 0 + 2 * i);
       entry-read = level-read;
@@ -146,7 +150,7 @@ levels-laws =
 -- what a reading answers is a valid table
 pub levels-valid : (bytes : List ℕ) (levels : List Level) → readLevels bytes ≡ answer levels → ValidLevels levels
 unfolding readLevels
-levels-valid = table-valid levels-table ValidLevels levels-laws
+levels-valid bytes levels e = let sound = table-sound levels-table bytes levels e in counted-valid levels (sound .0) (sound .1)
 
 pub levels-read-back : LevelsReadBack
 unfolding readLevels encodeLevels

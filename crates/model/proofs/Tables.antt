@@ -76,6 +76,16 @@ module _ {A : Type 0} (t : Table A) where
       let checked = byEntry-answered _ _ _ (measured .1) in
       (record { count = counted .0; whole = eqb-true _ _ (not-false _ (measured .0)); sound = checked .0 }, answer-injective (checked .1))
 
+  -- an answer has a right count and entries without fault
+  pub table-sound : (bytes : List ℕ) (l : List A) → readTable bytes ≡ answer l
+      → (t .wrongCount (length l) ≡ false) × ((i : ℕ) → i < length l → t .fault l i ≡ 0)
+  table-sound bytes l e =
+      let found = answered bytes e in
+      let many : length (entries bytes) ≡ number16 bytes 0 = length-listOf (number16 bytes 0) (t .entry bytes) in
+      let count : t .wrongCount (length (entries bytes)) ≡ false = rw many (found .0 .count) in
+      let sound : (i : ℕ) → i < length (entries bytes) → t .fault (entries bytes) i ≡ 0 = λ i below. found .0 .sound i (rw many at below) in
+      (rw (found .1) at count, rw (found .1) at sound)
+
   answers : (bytes : List ℕ) → Accepted bytes → readTable bytes ≡ answer (entries bytes)
   answers bytes h =
       rw (le-ltb (length bytes) 2 (omega arith), h .count, eq-eqb _ _ (h .whole))
@@ -88,7 +98,8 @@ pub record TableLaws {A : Type 0} (t : Table A) (Valid : List A → Type 0) : Ty
   pub count-small : (n : ℕ) → t .wrongCount n ≡ false → n < 256 ^ 2
   pub valid-count : (l : List A) → Valid l → t .wrongCount (length l) ≡ false
   pub valid-sound : (l : List A) → Valid l → (i : ℕ) → i < length l → t .fault l i ≡ 0
-  pub sound-valid : (l : List A) → t .wrongCount (length l) ≡ false → ((i : ℕ) → i < length l → t .fault l i ≡ 0) → Valid l
+  pub sound-valid : (bytes : List ℕ) → IsBytes bytes → (l : List A) → entries t bytes ≡ l
+      → t .wrongCount (length l) ≡ false → ((i : ℕ) → i < length l → t .fault l i ≡ 0) → Valid l
   pub first-written : (bytes : List ℕ) (i : ℕ) → IsBytes bytes → firstPlace t i + t .firstSize ≤ length bytes
       → t .first (t .entry bytes i) ≡ take (t .firstSize) (drop (firstPlace t i) bytes)
   pub second-written : (bytes : List ℕ) (i : ℕ) → IsBytes bytes → secondPlace t (number16 bytes 0) i + t .secondSize ≤ length bytes
@@ -103,14 +114,6 @@ three-parts : (a b c : ℕ) (l : List ℕ) → length l ≡ a + (b + c) → take
 three-parts a b c l e = rw (← drop-drop, ← take-add, ← take-add) (take-all (a + (b + c)) l (omega arith))
 
 module _ {A : Type 0} (t : Table A) (Valid : List A → Type 0) (laws : TableLaws t Valid) where
-  accepted-valid : (bytes : List ℕ) → Accepted t bytes → Valid (entries t bytes)
-  accepted-valid bytes h =
-      let many = length-listOf (number16 bytes 0) (t .entry bytes) in
-      laws .sound-valid (entries t bytes) (rw many (h .count)) (λ i below. h .sound i (rw many at below))
-
-  pub table-valid : (bytes : List ℕ) (l : List A) → readTable t bytes ≡ answer l → Valid l
-  table-valid bytes l e = let found = answered t bytes e in rw (found .1) at (accepted-valid bytes (found .0))
-
   accepted-encoded : (bytes : List ℕ) → IsBytes bytes → Accepted t bytes → bytes ≡ encodeTable t (entries t bytes)
   accepted-encoded bytes small h =
       rw (length-listOf, bytesOf-numberAt 2 bytes 0 small (omega arith), firsts, seconds)
@@ -178,7 +181,8 @@ module _ {A : Type 0} (t : Table A) (Valid : List A → Type 0) (laws : TableLaw
       forth : readTable t bytes ≡ answer l → Valid l × (bytes ≡ encodeTable t l)
       forth e =
           let found = answered t bytes e in
-          (table-valid bytes l e, rw (found .1) at (accepted-encoded bytes small (found .0)))
+          let sound = table-sound t bytes l e in
+          (laws .sound-valid bytes small l (found .1) (sound .0) (sound .1), rw (found .1) at (accepted-encoded bytes small (found .0)))
 
       back : Valid l × (bytes ≡ encodeTable t l) → readTable t bytes ≡ answer l
       back h = rw (h .1) (answers t (encodeTable t l) (encoded-accepted l (h .0)) ∙ ap answer (entries-encoded l (h .0)))

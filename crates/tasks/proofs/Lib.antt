@@ -1,3 +1,4 @@
 -- The laws that specs/ states, and samples.
+pub mod Tasks
 pub mod Multiples
 pub mod Samples
