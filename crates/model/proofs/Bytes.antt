@@ -2,14 +2,14 @@
 -- are the bytes that were read, and a number does not see the bytes before its place.
 -- Assumes nothing.
 use mathlib.Core.Path.{_≡_, refl, ap}
-use mathlib.Core.List.{List, _∷_, _++_}
+use mathlib.Core.List.{List, _∷_, _++_, append-assoc}
 use Prim.Native.Nat.{ℕ, zero, suc, _+_, _*_, _^_, _/_, _%_, _<_, _≤_}
 use native.Mathlib.Nat.{pow-suc}
 use native.Mathlib.Numerals.{add-one}
 use native.Mathlib.Omega.{arith}
 use lib.ListN.{length, getD, take, drop}
-use lib.Seq.{drop-cons, getD-drop}
-use Rattle.model.specs.Bytes.{IsBytes, numberAt, bytesOf}
+use lib.Seq.{drop-cons, getD-drop, take-add, drop-drop, drop-at}
+use Rattle.model.specs.Bytes.{IsBytes, numberAt, number32, bytesOf, bytes32}
 
 pub length-bytesOf : (width n : ℕ) → length (bytesOf width n) ≡ width
 unfolding bytesOf
@@ -53,3 +53,25 @@ pub numberAt-found : (width n : ℕ) (bytes more : List ℕ) (place : ℕ) → d
 numberAt-found width n bytes more place e small =
     let start : place ≡ place + 0 = omega arith in
     rw (start, numberAt-drop, e, numberAt-bytesOf)
+
+-- two numbers of 32 bits, one after the other
+pub pair-written : (bytes : List ℕ) (place : ℕ) → IsBytes bytes → place + 8 ≤ length bytes
+    → bytes32 (number32 bytes place) ++ bytes32 (number32 bytes (place + 4)) ≡ take 8 (drop place bytes)
+pair-written bytes place small inside =
+    rw (
+      bytesOf-numberAt 4 bytes place small (omega arith),
+      bytesOf-numberAt 4 bytes (place + 4) small (omega arith),
+      take-add 4 4 (drop place bytes),
+      drop-drop,
+    )
+
+pub pair-found : (a b : ℕ) (bytes more : List ℕ) (place : ℕ) → drop place bytes ≡ (bytes32 a ++ bytes32 b) ++ more → a < 2 ^ 32 → b < 2 ^ 32
+    → (number32 bytes place ≡ a) × (number32 bytes (place + 4) ≡ b)
+pair-found a b bytes more place e first second =
+    (numberAt-found 4 a bytes _ place one (omega arith), numberAt-found 4 b bytes more (place + 4) two (omega arith))
+  where
+    one : drop place bytes ≡ bytes32 a ++ (bytes32 b ++ more)
+    one = rw append-assoc at e
+
+    two : drop (place + 4) bytes ≡ bytes32 b ++ more
+    two = rw (← drop-drop, one) (drop-at (bytes32 a) _ 4 (length-bytesOf 4 a))

@@ -3,20 +3,19 @@
 -- Assumes nothing.
 use mathlib.Core.Path.{_≡_}
 use mathlib.Core.Logic.{_↔_}
-use mathlib.Core.List.{List, _++_, append-assoc}
+use mathlib.Core.List.{List, _++_}
 use Prim.Native.Nat.{ℕ, _+_, _*_, _<_, _≤_}
 use native.Mathlib.Omega.{arith}
 use lib.Dec.{ltb}
-use lib.ListN.{length, take, drop, length-append}
-use lib.Seq.{take-add, drop-drop, drop-at}
+use lib.ListN.{length, drop, length-append}
 use borrow.Author.Tests.{ltb-false, leb-false, le-ltb, lt-leb, le-leb}
 use Rattle.model.specs.declared.Job.{Job}
 use Rattle.model.specs.Limits.{maxJobs, maxDeadline, maxCycles}
 use Rattle.model.specs.Outcome.{answer}
-use Rattle.model.specs.Bytes.{IsBytes, number16, bytes32}
+use Rattle.model.specs.Bytes.{number16, bytes32}
 use Rattle.model.specs.Jobs.{noJob, jobOf, jobAt, wrongWindow, wrongCycles, faultOfJob, jobFault}
 use Rattle.model.specs.Jobs.{readJobs, ValidJobs, encodeJobs, JobsReadBack}
-use Rattle.model.proofs.Bytes.{length-bytesOf, bytesOf-numberAt, numberAt-found}
+use Rattle.model.proofs.Bytes.{length-bytesOf, bytesOf-numberAt, numberAt-found, pair-written, pair-found}
 use Rattle.model.proofs.Tests.{neither, in-range, no-fault}
 use Rattle.model.proofs.Tables.{Table, TableLaws, table-sound, table-read-back}
 
@@ -98,18 +97,6 @@ jobs-table =
       fault = jobFault;
     }
 
--- the bytes of a window that was read are those that were read
-window-written : (bytes : List ℕ) (j : ℕ) → IsBytes bytes → 2 + 8 * j + 8 ≤ length bytes
-    → windowBytes (jobAt bytes j) ≡ take 8 (drop (2 + 8 * j) bytes)
-unfolding jobAt
-window-written bytes j small inside =
-    rw (
-      bytesOf-numberAt 4 bytes (2 + 8 * j) small (omega arith),
-      bytesOf-numberAt 4 bytes (2 + 8 * j + 4) small (omega arith),
-      take-add 4 4 (drop (2 + 8 * j) bytes),
-      drop-drop,
-    )
-
 -- an entry stands where its window's and its cycles' bytes do
 job-read : (jobs : List Job) → ValidJobs jobs → (bytes : List ℕ) (j : ℕ) → j < length jobs
     → (more : List ℕ) → drop (2 + 8 * j) bytes ≡ windowBytes (jobOf jobs j) ++ more
@@ -118,17 +105,8 @@ job-read : (jobs : List Job) → ValidJobs jobs → (bytes : List ℕ) (j : ℕ)
 unfolding jobAt
 job-read jobs h bytes j below more first rest second =
     let kept = job-sound _ .0 (jobs-faultless jobs h j below) in
-    rw (
-      numberAt-found 4 _ bytes _ (2 + 8 * j) release (omega arith),
-      numberAt-found 4 _ bytes more (2 + 8 * j + 4) deadline (omega arith),
-      numberAt-found 4 _ bytes rest (2 + 8 * number16 bytes 0 + 4 * j) second (omega arith),
-    )
-  where
-    release : drop (2 + 8 * j) bytes ≡ bytes32 (jobOf jobs j .release) ++ (bytes32 (jobOf jobs j .deadline) ++ more)
-    release = rw append-assoc at first
-
-    deadline : drop (2 + 8 * j + 4) bytes ≡ bytes32 (jobOf jobs j .deadline) ++ more
-    deadline = rw (← drop-drop, release) (drop-at (bytes32 (jobOf jobs j .release)) _ 4 (length-bytesOf 4 _))
+    let window = pair-found (jobOf jobs j .release) (jobOf jobs j .deadline) bytes more (2 + 8 * j) first (omega arith) (omega arith) in
+    rw (window .0, window .1, numberAt-found 4 _ bytes rest (2 + 8 * number16 bytes 0 + 4 * j) second (omega arith))
 
 jobs-laws : TableLaws jobs-table ValidJobs
 unfolding jobAt
@@ -140,7 +118,7 @@ jobs-laws =
       valid-count = λ jobs h. le-ltb maxJobs (length jobs) (h .few);
       valid-sound = jobs-faultless;
       sound-valid = λ bytes small jobs read e. valid-jobs jobs (ltb-false maxJobs (length jobs) e);
-      first-written = window-written;
+      first-written = λ bytes j. pair-written bytes (2 + 8 * j);
       second-written = λ bytes j. bytesOf-numberAt 4 bytes (2 + 8 * number16 bytes 0 + 4 * j);
       entry-read = job-read;
     }

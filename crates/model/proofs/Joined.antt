@@ -1,16 +1,18 @@
--- Laws of lists that are joined: one more list, how long they are together, what holds of every element, and sums over
--- the elements.
+-- Laws of lists that are joined: one more list, how long they are together, what holds of every element, of one element, and
+-- of any two, and sums over the elements; and of a list of one element or none.
 -- Assumes nothing.
-use mathlib.Core.Path.{_≡_, refl, _∙_, ap}
+use mathlib.Core.Path.{_≡_, refl, sym, _∙_, ap}
+use mathlib.Core.Bool.{Bool, true, false, cond}
 use mathlib.Core.Logic.{_⊎_, inl, inr}
-use mathlib.Core.List.{List, [], _++_, append-nil}
+use mathlib.Core.List.{List, [], _∷_, _++_, append-nil, map, map-append}
 use Prim.Native.Nat.{ℕ, zero, suc, _+_, _-_, _<_, _≤_}
+use native.Mathlib.Nat.{eq-or-lt-of-le, le-of-suc-le-suc}
 use native.Mathlib.Omega.{arith}
 use native.Mathlib.Numerals.{add-one}
 use lib.ListN.{length, getD, length-append, List·getD-append}
 use lib.Seq.{getD-append-add}
 use Rattle.model.specs.Sum.{sum}
-use Rattle.model.proofs.Numbers.{lt-or-le}
+use Rattle.model.proofs.Numbers.{lt-or-le, true≢false}
 use Rattle.model.proofs.Sum.{sum-cong, sum-split, sum-longer}
 use Rattle.model.specs.Entries.{joined}
 
@@ -66,6 +68,67 @@ module _ {A : Type 0} where
     each-joined fact (suc n) f each =
         each-append fact (joined n f) (f n) (each-joined fact n f (λ i below. each i (omega arith))) (each n (omega arith))
 
+    -- a relation of each element to every later one
+    abbrev pub Ordered : (A → A → Type 0) → List A → Type 0
+    Ordered before l = (i k : ℕ) → i < k → k < length l → before (getD l i d) (getD l k d)
+
+    ordered-append : (before : A → A → Type 0) (a b : List A) → Ordered before a → Ordered before b → Each (λ x. Each (before x) b) a
+        → Ordered before (a ++ b)
+    ordered-append before a b first second across i k less below = go (lt-or-le i (length a)) (lt-or-le k (length a))
+      where
+        go : (i < length a) ⊎ (length a ≤ i) → (k < length a) ⊎ (length a ≤ k) → before (getD (a ++ b) i d) (getD (a ++ b) k d)
+        go (inl inside) (inl also) = rw (List·getD-append a b d i inside, List·getD-append a b d k also) (first i k less also)
+        go (inl inside) (inr past) =
+            rw (List·getD-append a b d i inside, getD-past a b k past)
+            (across i inside (k - length a) (omega (arith, length-append a b)))
+        go (inr past) (inl inside) = absurd (omega arith)
+        go (inr past) (inr also) =
+            rw (getD-past a b i past, getD-past a b k also)
+            (second (i - length a) (k - length a) (omega arith) (omega (arith, length-append a b)))
+
+    pub ordered-joined : (before : A → A → Type 0) (n : ℕ) (f : ℕ → List A) → ((i : ℕ) → i < n → Ordered before (f i))
+        → ((i k : ℕ) → i < k → k < n → Each (λ x. Each (before x) (f k)) (f i)) → Ordered before (joined n f)
+    unfolding joined
+    ordered-joined before zero f each across = λ i k less below. absurd (omega arith)
+    ordered-joined before (suc n) f each across =
+        ordered-append before (joined n f) (f n)
+        (ordered-joined before n f (λ i below. each i (omega arith)) (λ i k less below. across i k less (omega arith)))
+        (each n (omega arith))
+        (each-joined (λ x. Each (before x) (f n)) n f (λ i below. across i n below (omega arith)))
+
+    -- a fact of one element
+    abbrev pub Any : (A → Type 0) → List A → Type 0
+    Any fact l = (i : ℕ) × (i < length l) × fact (getD l i d)
+
+    any-first : (fact : A → Type 0) (a b : List A) → Any fact a → Any fact (a ++ b)
+    any-first fact a b (i, below, here) = (i, omega (arith, length-append a b), rw (List·getD-append a b d i below) here)
+
+    any-second : (fact : A → Type 0) (a b : List A) → Any fact b → Any fact (a ++ b)
+    any-second fact a b (i, below, here) = (length a + i, omega (arith, length-append a b), rw (getD-append-add a b i d) here)
+
+    pub any-joined : (fact : A → Type 0) (n : ℕ) (f : ℕ → List A) (i : ℕ) → i < n → Any fact (f i) → Any fact (joined n f)
+    unfolding joined
+    any-joined fact zero f i below here = absurd (omega arith)
+    any-joined fact (suc n) f i below here = go (eq-or-lt-of-le (le-of-suc-le-suc below)) (λ inside. any-joined fact n f i inside here)
+      where
+        go : (i ≡ n) ⊎ (i < n) → (i < n → Any fact (joined n f)) → Any fact (joined n f ++ f n)
+        go (inl last) earlier = any-second fact (joined n f) (f n) (rw last at here)
+        go (inr inside) earlier = any-first fact (joined n f) (f n) (earlier inside)
+
+    -- an element where a test passes, and none where not
+    pub each-where : (fact : A → Type 0) (test : Bool) (x : A) → (test ≡ true → fact x) → Each fact (cond test (x ∷ []) [])
+    each-where fact true x holds zero below = holds refl
+    each-where fact true x holds (suc i) below = absurd (omega arith)
+    each-where fact false x holds i below = absurd (omega arith)
+
+    pub ordered-where : (before : A → A → Type 0) (test : Bool) (x : A) → Ordered before (cond test (x ∷ []) [])
+    ordered-where before true x i k less below = absurd (omega arith)
+    ordered-where before false x i k less below = absurd (omega arith)
+
+    pub any-where : (fact : A → Type 0) (test : Bool) (x : A) → test ≡ true → fact x → Any fact (cond test (x ∷ []) [])
+    any-where fact true x e here = (0, omega arith, here)
+    any-where fact false x e here = absurd (true≢false (sym e))
+
     -- the sum of a number that each element has
     abbrev pub sumOver : (A → ℕ) → List A → ℕ
     sumOver number l = sum (length l) (λ i. number (getD l i d))
@@ -82,3 +145,15 @@ module _ {A : Type 0} where
     unfolding joined sum
     sum-joined number zero f = refl
     sum-joined number (suc n) f = omega (arith, sum-append number (joined n f) (f n), sum-joined number n f)
+
+-- the elements put through a function
+module _ {A B : Type 0} (g : A → B) where
+  pub map-joined : (n : ℕ) (f : ℕ → List A) → map g (joined n f) ≡ joined n (λ i. map g (f i))
+  unfolding joined
+  map-joined zero f = refl
+  map-joined (suc n) f = rw (map-append g (joined n f) (f n), map-joined n f)
+
+  pub getD-map : (l : List A) (i : ℕ) (d : A) (e : B) → i < length l → getD (map g l) i e ≡ g (getD l i d)
+  getD-map [] i d e below = absurd (omega arith)
+  getD-map (x ∷ l) zero d e below = refl
+  getD-map (x ∷ l) (suc i) d e below = getD-map l i d e (le-of-suc-le-suc below)

@@ -1,4 +1,5 @@
 -- The laws that specs/ states, and samples.
 pub mod Tasks
 pub mod Multiples
+pub mod LaidOut
 pub mod Samples

@@ -4,18 +4,16 @@
 use mathlib.Core.Path.{_≡_, refl}
 use mathlib.Core.Logic.{_↔_}
 use mathlib.Core.Bool.{Bool, true, false, cond}
-use mathlib.Core.List.{List, _++_, append-assoc}
+use mathlib.Core.List.{List, _++_}
 use Prim.Native.Nat.{ℕ, suc, _+_, _*_, _^_, _<_, _≤_}
 use native.Mathlib.Omega.{arith}
 use lib.Dec.{ltb, eqb}
-use lib.ListN.{length, take, drop, length-append}
-use lib.Seq.{take-add, drop-drop, drop-at}
+use lib.ListN.{length, drop, length-append}
 use borrow.Author.Tests.{ltb-false, eqb-false, le-ltb, le-leb, ne-eqb}
 use Rattle.model.specs.Limits.{maxCycles}
 use Rattle.model.specs.Outcome.{answer}
-use Rattle.model.specs.Bytes.{IsBytes, number16, numberAt, bytes32}
-use Rattle.model.specs.Entries.{listOf}
-use Rattle.model.proofs.Bytes.{length-bytesOf, numberAt-small, bytesOf-numberAt, numberAt-found}
+use Rattle.model.specs.Bytes.{IsBytes, number16, bytes32}
+use Rattle.model.proofs.Bytes.{length-bytesOf, numberAt-small, pair-written, pair-found}
 use Rattle.model.proofs.Entries.{length-listOf, getD-listOf}
 use Rattle.model.proofs.Tests.{neither, in-range}
 use Rattle.model.proofs.Tables.{Table, TableLaws, table-sound, table-read-back}
@@ -111,29 +109,6 @@ tasks-table =
       fault = taskFault;
     }
 
--- two numbers of 32 bits that were read have the bytes that were read
-pair-written : (bytes : List ℕ) (place : ℕ) → IsBytes bytes → place + 8 ≤ length bytes
-    → bytes32 (numberAt 4 bytes place) ++ bytes32 (numberAt 4 bytes (place + 4)) ≡ take 8 (drop place bytes)
-pair-written bytes place small inside =
-    rw (
-      bytesOf-numberAt 4 bytes place small (omega arith),
-      bytesOf-numberAt 4 bytes (place + 4) small (omega arith),
-      take-add 4 4 (drop place bytes),
-      drop-drop,
-    )
-
--- two numbers are read where their bytes stand
-pair-read : (bytes : List ℕ) (place a b : ℕ) (more : List ℕ) → drop place bytes ≡ (bytes32 a ++ bytes32 b) ++ more → a < 2 ^ 32 → b < 2 ^ 32
-    → (numberAt 4 bytes place ≡ a) × (numberAt 4 bytes (place + 4) ≡ b)
-pair-read bytes place a b more e first second =
-    (numberAt-found 4 a bytes _ place one (omega arith), numberAt-found 4 b bytes more (place + 4) two (omega arith))
-  where
-    one : drop place bytes ≡ bytes32 a ++ (bytes32 b ++ more)
-    one = rw append-assoc at e
-
-    two : drop (place + 4) bytes ≡ bytes32 b ++ more
-    two = rw (← drop-drop, one) (drop-at (bytes32 a) _ 4 (length-bytesOf 4 a))
-
 abbrev Fit : List Task → Type 0
 Fit tasks = ValidTasks tasks × PeriodsFit tasks
 
@@ -146,8 +121,8 @@ unfolding taskAt
 task-read tasks (valid, fit) bytes i below more first rest second =
     let kept = tasks-sound tasks valid i below in
     let period = fit i below in
-    let one = pair-read bytes (2 + 8 * i) _ _ more first (omega arith) (omega arith) in
-    let two = pair-read bytes (2 + 8 * number16 bytes 0 + 8 * i) _ _ rest second (omega arith) (omega arith) in
+    let one = pair-found _ _ bytes more (2 + 8 * i) first (omega arith) (omega arith) in
+    let two = pair-found _ _ bytes rest (2 + 8 * number16 bytes 0 + 8 * i) second (omega arith) (omega arith) in
     rw (one .0, one .1, two .0, two .1)
 
 -- periods that were read fit
