@@ -17,7 +17,7 @@ use Rattle.model.specs.Jobs.{noJob, jobOf, jobAt, wrongWindow, wrongCycl
 use Rattle.model.specs.Jobs.{readJobs, ValidJobs, encodeJobs, JobsReadBack}
 use Rattle.model.proofs.Bytes.{length-bytesOf, bytesOf-numberAt, numberAt-found, pair-written, pair-found}
 use Rattle.model.proofs.Tests.{neither, in-range, no-fault}
-use Rattle.model.proofs.Tables.{Table, TableLaws, table-sound, table-read-back}
+use Rattle.model.proofs.Tables.{Table, TableLaws, table-sound, length-encoded, table-read-back}
 
 -- the limits that a job keeps
 pub record SoundJob (job : Job) : Type 0 where
@@ -122,6 +122,10 @@ jobs-laws =
       second-written = λ bytes j. bytesOf-numberAt 4 bytes (2 + 8 * number16 bytes 0 + 4 * j);
       entry-read = job-read;
     }
+
+pub length-encodeJobs : (jobs : List Job) → length (encodeJobs jobs) ≡ 2 + 12 * length jobs
+unfolding encodeJobs
+length-encodeJobs = length-encoded jobs-table ValidJobs jobs-laws
 
 -- what a reading answers is a valid table
 pub jobs-valid : (bytes : List ℕ) (jobs : List Job) → readJobs bytes ≡ answer jobs → ValidJobs jobs

@@ -2,10 +2,14 @@
 -- Assumes nothing.
 use mathlib.Core.Path.{_≡_, refl}
 use mathlib.Core.Bool.{Bool, true, false}
+use mathlib.Core.Logic.{_⊎_, inl, inr}
 use Prim.Native.Nat.{ℕ, zero, suc, _+_, _<_, _≤_}
 use native.Mathlib.Nat.{add-zero, zero-add}
 use native.Mathlib.Omega.{arith}
-use Rattle.model.specs.Outcome.{Outcome, refused, answer, andThen, refuseWhen, refuseAt, byEntryFrom, byEntry}
+use lib.Dec.{ltb}
+use borrow.Author.Tests.{ltb-false}
+use Rattle.model.specs.Outcome.{Outcome, refused, answer, andThen, refuseWhen, refuseAt, refuseUnder, byEntryFrom, byEntry}
+use Rattle.model.proofs.Numbers.{true-or-false}
 
 pub refuseAt-bad : {A : Type 0} (number place : ℕ) (next : Outcome A) → 0 < number → refuseAt number place next ≡ refused number place
 refuseAt-bad zero place next bad = absurd (omega arith)
@@ -23,6 +27,15 @@ pub answered-past : {A : Type 0} {a : A} (condition : Bool) (number : ℕ) (next
     → (condition ≡ false) × (next ≡ answer a)
 answered-past true number next e = absurd (refused≢answer e)
 answered-past false number next e = (refl, e)
+
+-- an answer says that the room was enough
+pub answered-within : {A : Type 0} {a : A} (wanted number room : ℕ) (next : Outcome A) → refuseUnder wanted number room next ≡ answer a
+    → (wanted ≤ room) × (next ≡ answer a)
+answered-within {A} {a} wanted number room next e = go (true-or-false (ltb room wanted))
+  where
+    go : (ltb room wanted ≡ true) ⊎ (ltb room wanted ≡ false) → (wanted ≤ room) × (next ≡ answer a)
+    go (inl short) = absurd (refused≢answer (rw short at e))
+    go (inr enough) = (ltb-false room wanted enough, rw enough at e)
 
 -- an answer after another operation says that the other answered
 pub andThen-answered : {A B : Type 0} {b : B} (first : Outcome A) (next : A → Outcome B) → andThen first next ≡ answer b

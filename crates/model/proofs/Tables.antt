@@ -129,20 +129,21 @@ module _ {A : Type 0} (t : Table A) (Valid : List A → Type 0) (laws : TableLaw
           encodeEach-listOf (t .second) (t .secondSize) bytes (firstPlace t (number16 bytes 0)) (number16 bytes 0) (t .entry bytes)
           (λ i below. laws .second-written bytes i small (omega (arith, mul-le-mul-left (t .secondSize) below)))
 
+  -- how long a table is
+  pub length-encoded : (l : List A) → length (encodeTable t l) ≡ size t (length l)
+  length-encoded l =
+      rw (
+        length-append,
+        length-append,
+        length-bytesOf,
+        length-encodeEach (t .first) (t .firstSize) (laws .first-size),
+        length-encodeEach (t .second) (t .secondSize) (laws .second-size),
+      )
+      (omega arith)
+
   module _ (l : List A) (valid : Valid l) where
     count-encoded : number16 (encodeTable t l) 0 ≡ length l
     count-encoded = numberAt-found 2 (length l) (encodeTable t l) _ 0 refl (laws .count-small _ (laws .valid-count l valid))
-
-    length-encoded : length (encodeTable t l) ≡ size t (length l)
-    length-encoded =
-        rw (
-          length-append,
-          length-append,
-          length-bytesOf,
-          length-encodeEach (t .first) (t .firstSize) (laws .first-size),
-          length-encodeEach (t .second) (t .secondSize) (laws .second-size),
-        )
-        (omega arith)
 
     module _ (i : ℕ) (below : i < length l) where
       first-encoded : drop (firstPlace t i) (encodeTable t l)

@@ -41,7 +41,7 @@ use Rattle.model.proofs.Joined.{
 use Rattle.tasks.specs.declared.Task.{Task}
 use Rattle.tasks.specs.Tasks.{taskOf, ValidTasks}
 use Rattle.tasks.specs.Multiples.{CommonMultiple}
-use Rattle.tasks.specs.LaidOut.{releasesAt, jobReleased, releasedBy, jobsAt, layOut, LaidOut, JobsAsReleased}
+use Rattle.tasks.specs.LaidOut.{releasesAt, jobReleased, releasedBy, jobsAt, layOut, JobsAsReleased}
 
 -- a release: its tick, and the number of its task
 record Release : Type 0 where

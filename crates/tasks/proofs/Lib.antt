@@ -2,4 +2,5 @@
 pub mod Tasks
 pub mod Multiples
 pub mod LaidOut
+pub mod Rounds
 pub mod Samples

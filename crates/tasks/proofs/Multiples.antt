@@ -5,7 +5,7 @@ use mathlib.Core.Path.{_≡_, refl, sym, _∙_}
 use mathlib.Core.Bool.{Bool, true, false}
 use mathlib.Core.Logic.{_⊎_, inl, inr}
 use mathlib.Core.List.{List, [], _∷_}
-use Prim.Native.Nat.{ℕ, zero, suc, _+_, _-_, _*_, _%_, _<_, _≤_, _∣_}
+use Prim.Native.Nat.{ℕ, zero, suc, _+_, _-_, _%_, _<_, _≤_, _∣_}
 use native.Mathlib.Nat.{
   eq-zero-or-pos,
   le-of-suc-le-suc,
@@ -24,13 +24,12 @@ use borrow.Author.Tests.{eqb-true, eq-eqb}
 use Rattle.model.proofs.Numbers.{lt-or-le, true-or-false, true≢false, both-true}
 use Rattle.model.proofs.Search.{firstFrom-is, first-or-none}
 use Rattle.tasks.specs.declared.Task.{Task}
-use Rattle.tasks.specs.Tasks.{taskOf, ValidTasks}
+use Rattle.tasks.specs.Tasks.{taskOf}
 use Rattle.tasks.specs.Multiples.{
   isCommonMultiple,
   periodProduct,
   multipleOf,
   CommonMultiple,
-  LeastCommonMultiple,
   MultipleIsLeast,
 }
 
