@@ -54,6 +54,10 @@ noRelease = record { tick = 0; task = 0 }
 abbrev Is : (tick i : ℕ) → Release → Type 0
 Is tick i r = (r .tick ≡ tick) × (r .task ≡ i)
 
+-- by tick, then task number
+abbrev Before : Release → Release → Type 0
+Before r s = (r .tick < s .tick) ⊎ ((r .tick ≡ s .tick) × (r .task < s .task))
+
 -- which release of the task it is
 abbrev turnOf : Task → (tick : ℕ) → ℕ
 turnOf task tick = (tick - task .phase) / task .period
@@ -121,12 +125,10 @@ module _ (tasks : List Task) where
       each-joined noRelease (λ r. r .tick ≡ tick) (length tasks) (oneRelease tick) λ i there.
       each-where noRelease (λ r. r .tick ≡ tick) (releasesAt (taskOf tasks i) tick) _ λ e. refl
 
-  abbrev Before : Release → Release → Type 0
-  Before r s = (r .tick < s .tick) ⊎ ((r .tick ≡ s .tick) × (r .task < s .task))
-
   by-task : (tick : ℕ) → Ordered noRelease Before (tickReleases tick)
   by-task tick =
-      ordered-joined noRelease Before (length tasks) (oneRelease tick) (λ i there. ordered-where noRelease Before (releasesAt (taskOf tasks i) tick) _) λ i k less there.
+      ordered-joined noRelease Before (length tasks) (oneRelease tick)
+      (λ i there. ordered-where noRelease Before (releasesAt (taskOf tasks i) tick) _) λ i k less there.
       each-where noRelease (λ r. Each noRelease (Before r) (oneRelease tick k)) (releasesAt (taskOf tasks i) tick) _ λ e.
       each-where noRelease (Before (record { tick = tick; task = i })) (releasesAt (taskOf tasks k) tick) _ λ f. inr (refl, less)
 
