@@ -86,13 +86,14 @@ least-is-multiple tasks positive m some common least =
         go (inl e) = absurd (omega (arith, least (1 + k) (omega arith) (common-passed tasks (1 + k) e)))
         go (inr e) = e
 
--- the least divides every common multiple, since what it leaves of one is a smaller one
-pub least-divides : (tasks : List Task) (m : ℕ) → 0 < m → CommonMultiple tasks m → Least tasks m
-    → (n : ℕ) → CommonMultiple tasks n → m ∣ n
-least-divides tasks m some common least n h = go (eq-zero-or-pos (n % m))
+-- the least of some numbers' common multiples divides each of these, since what it leaves of one is a smaller one
+pub least-divides : (count : ℕ) (period : ℕ → ℕ) (m : ℕ) → 0 < m → ((i : ℕ) → i < count → period i ∣ m)
+    → ((n : ℕ) → 0 < n → ((i : ℕ) → i < count → period i ∣ n) → m ≤ n)
+    → (n : ℕ) → ((i : ℕ) → i < count → period i ∣ n) → m ∣ n
+least-divides count period m some common least n h = go (eq-zero-or-pos (n % m))
   where
-    left : CommonMultiple tasks (n % m)
-    left i below = dvd-mod-iff (taskOf tasks i .period) {m = n} {n = m} (common i below) .1 (h i below)
+    left : (i : ℕ) → i < count → period i ∣ n % m
+    left i below = dvd-mod-iff (period i) {m = n} {n = m} (common i below) .1 (h i below)
 
     go : (n % m ≡ 0) ⊎ (0 < n % m) → m ∣ n
     go (inl none) = dvd-of-mod-eq-zero m none
@@ -129,4 +130,4 @@ multiple-is-least tasks valid =
     let positive : PositivePeriods tasks = λ i below. omega (arith, valid .some-deadline i below, valid .within-period i below) in
     let (m, some, common, least) = least-exists tasks positive in
     rw (least-is-multiple tasks positive m some common least)
-    (record { positive = some; common = common; divides = least-divides tasks m some common least; least = least })
+    (record { positive = some; common = common; divides = least-divides (length tasks) (λ i. taskOf tasks i .period) m some common least; least = least })
