@@ -1,0 +1,12 @@
+pub mod Rows
+pub mod Ends
+pub mod Lists
+pub mod RepeatedBounds
+pub mod RepeatedShares
+pub mod RepeatedEnergy
+pub mod Repeats
+pub mod RisingLists
+pub mod OwnBounds
+pub mod LaidOutRepeats
+pub mod RoundsThatRepeat
+pub mod Samples

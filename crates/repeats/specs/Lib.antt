@@ -1,0 +1,5 @@
+-- Rounds that repeat (document 02, Change 1): the theorem of repeats, first for any site, then for the jobs that tasks release.
+pub mod Repeats
+pub mod OwnBounds
+pub mod LaidOutRepeats
+pub mod RoundsThatRepeat

@@ -1,0 +1,42 @@
+-- Rounds that repeat, in the user's words. Document 02, Change 1: "For any number of repeats, the repeated plan is the least
+-- for the repeated jobs, table limits aside." Demand 3: "It must hold exactly, because rounds that repeat come next, and one
+-- plan will then run for weeks."
+-- Proved in proofs/RoundsThatRepeat.antt.
+use Prim.Native.Nat.{ℕ, _*_}
+use mathlib.Core.Path.{_≡_}
+use mathlib.Core.List.{List}
+use Rattle.model.specs.Outcome.{answer}
+use Rattle.model.specs.Sites.{Site, ValidSite}
+use Rattle.model.specs.Steps.{sharesOf}
+use Rattle.model.specs.PriceBytes.{pricesOf}
+use Rattle.model.specs.Accepted.{Accepted}
+use Rattle.tasks.specs.declared.Task.{Task}
+use Rattle.tasks.specs.Tasks.{readTasks}
+use Rattle.tasks.specs.Multiples.{LeastCommonMultiple}
+use Rattle.tasks.specs.LaidOut.{layOut}
+use Rattle.tasks.specs.Rounds.{Round, rounds}
+use Rattle.repeats.specs.Repeats.{repeatJobs, RepeatedPlan}
+
+-- What holds of r repeats of a round that was laid out from a table of tasks, at a site whose plan is repeated with it.
+pub record RepeatedRound (taskBytes : List ℕ) (round : Round) (site : Site) (plan prices : List ℕ) (r : ℕ) : Type 0 where
+  -- the tasks of the table
+  pub tasks : List Task
+  pub read : readTasks taskBytes ≡ answer tasks
+  -- a repeat follows every least common multiple of their periods
+  pub multiple : LeastCommonMultiple tasks (round .multiple)
+  -- "the repeated jobs" are exactly the jobs that the tasks release in r times that many ticks, by release, then task number
+  pub repeated-jobs : repeatJobs (round .multiple) r (site .jobs) ≡ layOut tasks (r * round .multiple)
+  -- "the repeated plan is the least": it gives each of these jobs exactly its cycles between release and deadline; carried
+  -- out it is a schedule that meets all deadlines; and no schedule over the same levels that meets all deadlines, whatever
+  -- whole number of slots it cuts a tick into, has less than its exact energy. What this energy is stands there too.
+  pub repeated-plan : RepeatedPlan (round .multiple) r site (sharesOf plan) (pricesOf prices)
+
+-- Tasks laid out, planned, repeated: a round answered for the bytes of a task table; a site with the round's jobs, whatever
+-- its levels, what idling draws, and its bounds; a plan and prices that the check accepts there. Then all of the above holds
+-- for every number r of repeats.
+abbrev pub RoundsThatRepeat : Type 0
+RoundsThatRepeat =
+    (taskBytes : List ℕ) (room : ℕ) (round : Round) → rounds taskBytes room ≡ answer round
+    → (site : Site) → ValidSite site → site .jobs ≡ round .jobs
+    → (plan prices : List ℕ) → Accepted site plan prices
+    → (r : ℕ) → RepeatedRound taskBytes round site plan prices r

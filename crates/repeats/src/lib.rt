@@ -1,0 +1,1 @@
+// Rounds that repeat, as theorems over the definitions: specs/RoundsThatRepeat.antt. There is no code here.
