@@ -1,5 +1,5 @@
 -- Rounds that repeat, in the user's words.
--- Assumes nothing. (The law of an answered round, AnsweredRoundIs of tasks, is still an argument here.)
+-- Assumes AnsweredRoundIs of tasks, which is an argument here until it is proved there.
 use mathlib.Core.Path.{_≡_, sym, _∙_}
 use mathlib.Core.Logic.{_⊎_, inl, inr}
 use mathlib.Core.List.{List}
