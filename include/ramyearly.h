@@ -1,15 +1,16 @@
 /* Ramyearly: planning and checking clock plans, for the reader's kernel and for the hosts that plan its sites.
  *
  * Every function takes byte tables as a pointer and a length in bytes, of any content and length, and numbers of any
- * value. It returns the answer by value, reads nothing but the bytes it is lent and always returns. Only planning
- * writes, and only into the three buffers it is lent. A pointer must be valid for its length; with length 0 it must
+ * value. It returns the answer by value, reads nothing but the bytes it is lent and always returns. Only planning and
+ * rounds write, and only into the buffers they are lent. A pointer must be valid for its length; with length 0 it must
  * still not be null, and it must be aligned for its type. Buffers must not overlap each other or the tables.
  *
  * number is 0 for an answer, and otherwise the number of the refusal, with its place (0 where none is named); README.md
  * lists them. Fields that a case does not fill are 0.
  *
  * No function uses a heap or writable static data. The deepest stack that was measured, on x86-64, is 15 kB for planning, 10 kB
- * for checking, 5 kB for the spare and 2 kB for the setting (docs/BENCHMARK.md). */
+ * for checking, 5 kB for the spare and 2 kB for the setting (docs/BENCHMARK.md).
+ * Rounds: to be measured. */
 #ifndef RAMYEARLY_H
 #define RAMYEARLY_H
 
@@ -40,6 +41,10 @@ struct ramyearly_plan_answer {
     uint64_t energy;
     uint32_t start, end;
     int64_t spare;
+};
+
+struct ramyearly_rounds_answer {
+    uint32_t number, place, length, multiple;
 };
 
 /* Accepts a plan and its price list exactly when the plan gives each job its cycles between release and deadline and the
@@ -74,6 +79,19 @@ struct ramyearly_plan_answer ramyearly_plan(
     uint8_t *plan, size_t plan_length,
     uint8_t *prices, size_t prices_length,
     uint32_t *shares, size_t shares_length);
+
+/* Lays out the jobs of tasks over one round, `multiple` ticks: the least common multiple of their periods, 1 for no tasks.
+ * A task table has the number of tasks as 16 bits, phase and period of each, then deadline and cycles of each, 32 bits
+ * each. A task releases a job of its cycles at phase + k x period for every k where that is before `multiple`; the job's
+ * deadline is that release + the task's deadline. Number 0: the first `length` bytes of the job buffer are written, the
+ * rest stays; they are a job table, which meets none of refusals 6 to 10, of exactly these jobs by release, then task
+ * number. A plan that ramyearly_plan writes or ramyearly_check accepts for it can be repeated every `multiple` ticks, any
+ * number of times: it then gives each repeated job its cycles between release and deadline, and no schedule over the same
+ * levels that meets all deadlines has less than its exact energy. Otherwise refusals 28 to 30, then 12, whose place is the
+ * length wanted, and the buffer stays as it was. */
+struct ramyearly_rounds_answer ramyearly_rounds(
+    const uint8_t *tasks, size_t tasks_length,
+    uint8_t *jobs, size_t jobs_length);
 
 #ifdef __cplusplus
 }
