@@ -1,162 +1,14 @@
 /* Calls the archive as the kernel does: each function with good tables and with damaged ones. Prints what differs from
- * document 01, and answers 1 then. What is wanted was worked out by hand from that page, as the comments show.
+ * document 01 and its changes, and answers 1 then. What is wanted was worked out by hand from those pages, as the comments
+ * show.
  *
  * For every two fields of an answer, and every two parameters of a function, some case has different values in the two, so
  * that a header with one in the other's place is found: tests/c/swaps tries each. The calls go by the header's names:
  * calls.h, which tests/c/build makes of the header, has CALL_SPARE, the call of ramyearly_spare with the variables that are
  * named as its parameters, in the header's order. */
 #include <stdio.h>
-#include <string.h>
 
-#include "ramyearly.h"
-#include "calls.h"
-
-static int wrong;
-
-struct bytes {
-    uint8_t at[1024];
-    size_t length;
-};
-
-static void put(struct bytes *b, unsigned width, uint64_t number)
-{
-    while (width--) {
-        b->at[b->length++] = number & 255;
-        number >>= 8;
-    }
-}
-
-/* A count of 16 bits, then numbers of one width. */
-static struct bytes table(unsigned width, unsigned count, const uint32_t *numbers, size_t n)
-{
-    struct bytes b = { .length = 0 };
-    put(&b, 2, count);
-    for (size_t i = 0; i < n; i++)
-        put(&b, width, numbers[i]);
-    return b;
-}
-
-/* Each step is its interval, its job and its cycles. */
-static struct bytes plan_of(unsigned intervals, unsigned count, const uint32_t (*steps)[3])
-{
-    struct bytes b = { .length = 0 };
-    put(&b, 2, intervals);
-    put(&b, 2, count);
-    for (unsigned i = 0; i < count; i++)
-        put(&b, 2, steps[i][0] * 64 + steps[i][1]);
-    for (unsigned i = 0; i < count; i++)
-        put(&b, 4, steps[i][2]);
-    return b;
-}
-
-static struct bytes prices_of(unsigned intervals, const uint32_t *ends, const uint8_t *prices)
-{
-    struct bytes b = table(4, intervals, ends, intervals);
-    for (unsigned i = 0; i < intervals; i++)
-        put(&b, 1, prices[i]);
-    return b;
-}
-
-static struct bytes cut(struct bytes b)
-{
-    b.length--;
-    return b;
-}
-
-static void same(const char *name, int64_t found, int64_t wanted)
-{
-    if (found != wanted) {
-        printf("%s: %lld, but %lld is right\n", name, (long long)found, (long long)wanted);
-        wrong = 1;
-    }
-}
-
-static void setting_is(const char *name, struct bytes level_table, uint32_t length, uint64_t load, struct ramyearly_setting_answer wanted)
-{
-    const uint8_t *levels = level_table.at;
-    size_t levels_length = level_table.length;
-    struct ramyearly_setting_answer a = CALL_SETTING;
-    same(name, a.number, wanted.number);
-    same(name, a.place, wanted.place);
-    same(name, a.band, wanted.band);
-    same(name, a.gap, wanted.gap);
-    same(name, a.extra, wanted.extra);
-}
-
-static void spare_is(const char *name, struct bytes level_table, struct bytes job_table, uint32_t start, uint32_t end, struct ramyearly_spare_answer wanted)
-{
-    const uint8_t *levels = level_table.at, *jobs = job_table.at;
-    size_t levels_length = level_table.length, jobs_length = job_table.length;
-    struct ramyearly_spare_answer a = CALL_SPARE;
-    same(name, a.number, wanted.number);
-    same(name, a.place, wanted.place);
-    same(name, a.spare, wanted.spare);
-}
-
-static void check_is(const char *name, struct bytes level_table, struct bytes job_table, struct bytes plan_table, struct bytes price_list,
-    struct ramyearly_check_answer wanted)
-{
-    const uint8_t *levels = level_table.at, *jobs = job_table.at, *plan = plan_table.at, *prices = price_list.at;
-    size_t levels_length = level_table.length, jobs_length = job_table.length, plan_length = plan_table.length, prices_length = price_list.length;
-    struct ramyearly_check_answer a = CALL_CHECK;
-    same(name, a.number, wanted.number);
-    same(name, a.place, wanted.place);
-    same(name, a.energy, wanted.energy);
-}
-
-/* The buffers that planning is lent, filled with a marker. */
-struct lent {
-    uint8_t plan[64], prices[32];
-    uint32_t shares[16];
-};
-
-static struct lent marked(void)
-{
-    struct lent l;
-    memset(&l, 0xa5, sizeof l);
-    return l;
-}
-
-/* Plans with buffers of the given lengths; without a plan they must stay as they were. */
-static struct lent plan_is(const char *name, struct bytes level_table, struct bytes job_table, size_t plan_length, size_t prices_length, size_t shares_length,
-    struct ramyearly_plan_answer wanted)
-{
-    const uint8_t *levels = level_table.at, *jobs = job_table.at;
-    size_t levels_length = level_table.length, jobs_length = job_table.length;
-    struct lent before = marked(), after = before;
-    uint8_t *plan = after.plan, *prices = after.prices;
-    uint32_t *shares = after.shares;
-    struct ramyearly_plan_answer a = CALL_PLAN;
-    same(name, a.number, wanted.number);
-    same(name, a.place, wanted.place);
-    same(name, a.intervals, wanted.intervals);
-    same(name, a.steps, wanted.steps);
-    same(name, a.energy, wanted.energy);
-    same(name, a.start, wanted.start);
-    same(name, a.end, wanted.end);
-    same(name, a.spare, wanted.spare);
-    if (a.number)
-        same(name, memcmp(&before, &after, sizeof before), 0);
-    return after;
-}
-
-/* What planning wrote is this plan, these prices and these shares, and it wrote nothing else. */
-static void written_is(const char *name, struct lent found, struct bytes plan, struct bytes prices, const uint32_t *shares, size_t count)
-{
-    struct lent wanted = marked();
-    memcpy(wanted.plan, plan.at, plan.length);
-    memcpy(wanted.prices, prices.at, prices.length);
-    memcpy(wanted.shares, shares, count * sizeof *shares);
-    same(name, memcmp(found.plan, wanted.plan, sizeof wanted.plan), 0);
-    same(name, memcmp(found.prices, wanted.prices, sizeof wanted.prices), 0);
-    same(name, memcmp(found.shares, wanted.shares, sizeof wanted.shares), 0);
-}
-
-/* Level pair T: 2 at 10, 4 at 20. Powers 200 and 1,600; gaps 2 and 2; prices 100 and 700. */
-static struct bytes level_pair(void)
-{
-    return table(2, 2, (const uint32_t[]) { 2, 4, 10, 20 }, 4);
-}
+#include "support.h"
 
 /* 3 at 10, 5 at 20, 9 at 30. Powers 3 x 100, 5 x 400, 9 x 900; gaps 3, 2, 4; prices 300 / 3 = 100, 1,700 / 2 = 850 and
  * 6,100 / 4 = 1,525. They rise, so all three levels work. */
@@ -314,7 +166,8 @@ int main(void)
     spares();
     checks();
     plans();
+    rounds();
     if (!wrong)
-        printf("interface: check, setting, spare and plan answer C as they should\n");
+        printf("interface: check, setting, spare, plan and rounds answer C as they should\n");
     return wrong;
 }

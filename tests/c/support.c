@@ -1,0 +1,162 @@
+#include "support.h"
+
+#include <stdio.h>
+#include <string.h>
+
+#include "calls.h"
+
+int wrong;
+
+static void put(struct bytes *b, unsigned width, uint64_t number)
+{
+    while (width--) {
+        b->at[b->length++] = number & 255;
+        number >>= 8;
+    }
+}
+
+struct bytes table(unsigned width, unsigned count, const uint32_t *numbers, size_t n)
+{
+    struct bytes b = { .length = 0 };
+    put(&b, 2, count);
+    for (size_t i = 0; i < n; i++)
+        put(&b, width, numbers[i]);
+    return b;
+}
+
+struct bytes plan_of(unsigned intervals, unsigned count, const uint32_t (*steps)[3])
+{
+    struct bytes b = { .length = 0 };
+    put(&b, 2, intervals);
+    put(&b, 2, count);
+    for (unsigned i = 0; i < count; i++)
+        put(&b, 2, steps[i][0] * 64 + steps[i][1]);
+    for (unsigned i = 0; i < count; i++)
+        put(&b, 4, steps[i][2]);
+    return b;
+}
+
+struct bytes prices_of(unsigned intervals, const uint32_t *ends, const uint8_t *prices)
+{
+    struct bytes b = table(4, intervals, ends, intervals);
+    for (unsigned i = 0; i < intervals; i++)
+        put(&b, 1, prices[i]);
+    return b;
+}
+
+struct bytes cut(struct bytes b)
+{
+    b.length--;
+    return b;
+}
+
+struct bytes level_pair(void)
+{
+    return table(2, 2, (const uint32_t[]) { 2, 4, 10, 20 }, 4);
+}
+
+void same(const char *name, int64_t found, int64_t wanted)
+{
+    if (found != wanted) {
+        printf("%s: %lld, but %lld is right\n", name, (long long)found, (long long)wanted);
+        wrong = 1;
+    }
+}
+
+void setting_is(const char *name, struct bytes level_table, uint32_t length, uint64_t load, struct ramyearly_setting_answer wanted)
+{
+    const uint8_t *levels = level_table.at;
+    size_t levels_length = level_table.length;
+    struct ramyearly_setting_answer a = CALL_SETTING;
+    same(name, a.number, wanted.number);
+    same(name, a.place, wanted.place);
+    same(name, a.band, wanted.band);
+    same(name, a.gap, wanted.gap);
+    same(name, a.extra, wanted.extra);
+}
+
+void spare_is(const char *name, struct bytes level_table, struct bytes job_table, uint32_t start, uint32_t end, struct ramyearly_spare_answer wanted)
+{
+    const uint8_t *levels = level_table.at, *jobs = job_table.at;
+    size_t levels_length = level_table.length, jobs_length = job_table.length;
+    struct ramyearly_spare_answer a = CALL_SPARE;
+    same(name, a.number, wanted.number);
+    same(name, a.place, wanted.place);
+    same(name, a.spare, wanted.spare);
+}
+
+void check_is(const char *name, struct bytes level_table, struct bytes job_table, struct bytes plan_table, struct bytes price_list,
+    struct ramyearly_check_answer wanted)
+{
+    const uint8_t *levels = level_table.at, *jobs = job_table.at, *plan = plan_table.at, *prices = price_list.at;
+    size_t levels_length = level_table.length, jobs_length = job_table.length, plan_length = plan_table.length, prices_length = price_list.length;
+    struct ramyearly_check_answer a = CALL_CHECK;
+    same(name, a.number, wanted.number);
+    same(name, a.place, wanted.place);
+    same(name, a.energy, wanted.energy);
+}
+
+static struct lent marked(void)
+{
+    struct lent l;
+    memset(&l, 0xa5, sizeof l);
+    return l;
+}
+
+struct lent plan_is(const char *name, struct bytes level_table, struct bytes job_table, size_t plan_length, size_t prices_length, size_t shares_length,
+    struct ramyearly_plan_answer wanted)
+{
+    const uint8_t *levels = level_table.at, *jobs = job_table.at;
+    size_t levels_length = level_table.length, jobs_length = job_table.length;
+    struct lent before = marked(), after = before;
+    uint8_t *plan = after.plan, *prices = after.prices;
+    uint32_t *shares = after.shares;
+    struct ramyearly_plan_answer a = CALL_PLAN;
+    same(name, a.number, wanted.number);
+    same(name, a.place, wanted.place);
+    same(name, a.intervals, wanted.intervals);
+    same(name, a.steps, wanted.steps);
+    same(name, a.energy, wanted.energy);
+    same(name, a.start, wanted.start);
+    same(name, a.end, wanted.end);
+    same(name, a.spare, wanted.spare);
+    if (a.number)
+        same(name, memcmp(&before, &after, sizeof before), 0);
+    return after;
+}
+
+void written_is(const char *name, struct lent found, struct bytes plan, struct bytes prices, const uint32_t *shares, size_t count)
+{
+    struct lent wanted = marked();
+    memcpy(wanted.plan, plan.at, plan.length);
+    memcpy(wanted.prices, prices.at, prices.length);
+    memcpy(wanted.shares, shares, count * sizeof *shares);
+    same(name, memcmp(found.plan, wanted.plan, sizeof wanted.plan), 0);
+    same(name, memcmp(found.prices, wanted.prices, sizeof wanted.prices), 0);
+    same(name, memcmp(found.shares, wanted.shares, sizeof wanted.shares), 0);
+}
+
+struct bytes rounds_is(const char *name, struct bytes task_table, size_t jobs_length, struct ramyearly_rounds_answer wanted, struct bytes job_table)
+{
+    const uint8_t *tasks = task_table.at;
+    size_t tasks_length = task_table.length;
+    struct bytes written, right;
+    uint8_t *jobs = written.at;
+    memset(written.at, 0xa5, sizeof written.at);
+    memset(right.at, 0xa5, sizeof right.at);
+    memcpy(right.at, job_table.at, job_table.length);
+    struct ramyearly_rounds_answer a = CALL_ROUNDS;
+    same(name, a.number, wanted.number);
+    same(name, a.place, wanted.place);
+    same(name, a.length, wanted.length);
+    same(name, a.multiple, wanted.multiple);
+    same(name, wanted.length, job_table.length);
+    same(name, memcmp(written.at, right.at, sizeof right.at), 0);
+    written.length = wanted.length;
+    return written;
+}
+
+void rounds_refused(const char *name, struct bytes task_table, size_t jobs_length, uint32_t number, uint32_t place)
+{
+    rounds_is(name, task_table, jobs_length, (struct ramyearly_rounds_answer) { .number = number, .place = place }, (struct bytes) { .length = 0 });
+}

@@ -1,0 +1,48 @@
+/* What the cases share: tables in bytes, and a call of each function with the answer that is right. */
+#ifndef SUPPORT_H
+#define SUPPORT_H
+
+#include "ramyearly.h"
+
+/* 1 as soon as something was not right. */
+extern int wrong;
+
+struct bytes {
+    uint8_t at[1024];
+    size_t length;
+};
+
+/* The buffers that planning is lent, filled with a marker. */
+struct lent {
+    uint8_t plan[64], prices[32];
+    uint32_t shares[32];
+};
+
+/* A count of 16 bits, then numbers of one width. */
+struct bytes table(unsigned width, unsigned count, const uint32_t *numbers, size_t n);
+/* Each step is its interval, its job and its cycles. */
+struct bytes plan_of(unsigned intervals, unsigned count, const uint32_t (*steps)[3]);
+struct bytes prices_of(unsigned intervals, const uint32_t *ends, const uint8_t *prices);
+struct bytes cut(struct bytes b);
+/* Level pair T: 2 at 10, 4 at 20. Powers 200 and 1,600; gaps 2 and 2; prices 100 and 700. */
+struct bytes level_pair(void);
+
+void same(const char *name, int64_t found, int64_t wanted);
+void setting_is(const char *name, struct bytes level_table, uint32_t length, uint64_t load, struct ramyearly_setting_answer wanted);
+void spare_is(const char *name, struct bytes level_table, struct bytes job_table, uint32_t start, uint32_t end, struct ramyearly_spare_answer wanted);
+void check_is(const char *name, struct bytes level_table, struct bytes job_table, struct bytes plan_table, struct bytes price_list,
+    struct ramyearly_check_answer wanted);
+/* Plans with buffers of the given lengths; without a plan they must stay as they were. */
+struct lent plan_is(const char *name, struct bytes level_table, struct bytes job_table, size_t plan_length, size_t prices_length, size_t shares_length,
+    struct ramyearly_plan_answer wanted);
+/* What planning wrote is this plan, these prices and these shares, and it wrote nothing else. */
+void written_is(const char *name, struct lent found, struct bytes plan, struct bytes prices, const uint32_t *shares, size_t count);
+/* Lays out tasks into a job buffer of the given length. These jobs must be written, none where the tasks are refused, and
+ * nothing else. Answers what was written. */
+struct bytes rounds_is(const char *name, struct bytes task_table, size_t jobs_length, struct ramyearly_rounds_answer wanted, struct bytes job_table);
+void rounds_refused(const char *name, struct bytes task_table, size_t jobs_length, uint32_t number, uint32_t place);
+
+/* rounds.c: the cases of laying out tasks. */
+void rounds(void);
+
+#endif
