@@ -6,7 +6,7 @@
 struct tally *tally;
 void (*on_disagreement)(void);
 
-static const char *const names[TABLES] = { "levels", "jobs", "plan", "prices" };
+static const char *const names[TABLES] = { "levels", "jobs", "plan", "prices", "tasks" };
 static struct guarded room[TABLES];
 
 /* The tables of this call, to be printed where it disagrees. */

@@ -5,10 +5,13 @@
 #include "compare.h"
 #include "guarded.h"
 
-enum { LEVELS, JOBS, PLAN, PRICES, TABLES };
+enum { LEVELS, JOBS, PLAN, PRICES, TASKS, TABLES };
 
 /* Maps the room that tables are lent from. */
 void call_start(void);
+/* Map the buffers of planning, and the one of rounds. */
+void call_start_plan(void);
+void call_start_rounds(void);
 
 void call_begin(void);
 /* Lends a copy of the table, read only, at either end of its room. */

@@ -5,6 +5,13 @@
 
 #include "call.h"
 
+void compare_start(void)
+{
+    call_start();
+    call_start_plan();
+    call_start_rounds();
+}
+
 void compare_setting(struct numbers *numbers, const struct table *levels, uint32_t length, uint64_t load)
 {
     call_begin();

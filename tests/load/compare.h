@@ -5,7 +5,7 @@
 #include "numbers.h"
 #include "table.h"
 
-enum { REFUSALS = 27 };
+enum { REFUSALS = 30 };
 
 /* What was counted. by_number[0] counts the answers. */
 struct tally {
@@ -33,6 +33,9 @@ struct buffer_lengths {
  * looked at. */
 bool compare_plan(struct numbers *numbers, const struct table *levels, const struct table *jobs, struct buffer_lengths lengths,
     struct table *plan, struct table *prices);
+
+/* Lends a job buffer of that length. Answers whether a job table came out; then it stands in the table. */
+bool compare_rounds(struct numbers *numbers, const struct table *tasks, size_t jobs_length, struct table *jobs);
 
 /* Says it when a number is not the right one. */
 void same(const char *what, int64_t found, int64_t wanted);

@@ -4,9 +4,8 @@
 
 static struct guarded plan_buffer, prices_buffer, shares_buffer;
 
-void compare_start(void)
+void call_start_plan(void)
 {
-    call_start();
     plan_buffer = guarded_buffer(TABLE_ROOM);
     prices_buffer = guarded_buffer(TABLE_ROOM);
     shares_buffer = guarded_buffer(TABLE_ROOM);
@@ -66,13 +65,6 @@ static void smallest_prices(const struct paper_site *site, struct paper_bytes pl
         same("a price, smallest", prices.at[2 + 4 * n + i], price[i]);
 }
 
-static void keep(struct table *table, struct paper_bytes bytes)
-{
-    table->length = bytes.length;
-    for (size_t i = 0; i < bytes.length; i++)
-        table->at[i] = bytes.at[i];
-}
-
 /* A plan came out. Its numbers are looked at first, so that nothing is read past what was written. */
 static void judge_plan(const struct buffers *buffers, struct paper_bytes l, struct paper_bytes j, struct ramyearly_plan_answer found,
     struct table *plan, struct table *prices)
@@ -100,8 +92,8 @@ static void judge_plan(const struct buffers *buffers, struct paper_bytes l, stru
     shares_match(&site, p, shares);
     smallest_prices(&site, p, r);
     tally->plans++;
-    keep(plan, p);
-    keep(prices, r);
+    table_keep(plan, p);
+    table_keep(prices, r);
 }
 
 bool compare_plan(struct numbers *numbers, const struct table *levels, const struct table *jobs, struct buffer_lengths lengths,

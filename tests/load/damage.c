@@ -126,3 +126,49 @@ void damage_jobs(struct numbers *numbers, struct table *table)
         damage_bytes(numbers, table);
     }
 }
+
+/* Windows that end with the period, a tick later, or so late that phase + deadline looks small in 32 bits. */
+static void damage_task_window(struct numbers *numbers, struct table *table, unsigned count, unsigned i)
+{
+    size_t phase_at = 2 + 8 * (size_t)i, deadline_at = phase_at + 8 * (size_t)count;
+    uint64_t phase = field(table, phase_at, 4), period = field(table, phase_at + 4, 4), deadline = field(table, deadline_at, 4);
+    uint64_t wrap = (uint64_t)1 << 32;
+    switch (below(numbers, 3)) {
+    case 0:
+        put(table, phase_at, 4, ONE_OF(numbers, period - deadline, period - deadline + 1, period,
+            wrap - deadline, wrap - deadline + 1, UINT32_MAX, any_number(numbers)));
+        break;
+    case 1:
+        put(table, phase_at + 4, 4, ONE_OF(numbers, 0, phase + deadline, phase + deadline - 1, phase, deadline,
+            UINT32_MAX, any_number(numbers)));
+        break;
+    default:
+        put(table, deadline_at, 4, ONE_OF(numbers, 0, period - phase, period - phase + 1, period + 1,
+            wrap - phase, wrap - phase + 1, UINT32_MAX, any_number(numbers)));
+    }
+}
+
+static void damage_task_cycles(struct numbers *numbers, struct table *table, unsigned count, unsigned i)
+{
+    put(table, 2 + 8 * (size_t)count + 8 * (size_t)i + 4, 4, ONE_OF(numbers, 0, 1, PAPER_CYCLES, PAPER_CYCLES + 1, UINT32_MAX, any_number(numbers)));
+}
+
+void damage_tasks(struct numbers *numbers, struct table *table)
+{
+    unsigned count = field(table, 0, 2), i = (unsigned)below(numbers, count > 0 ? count : 1);
+    switch (below(numbers, 6)) {
+    case 0:
+        put(table, 0, 2, wrong_count(numbers, count, PAPER_TASKS));
+        break;
+    case 1:
+    case 2:
+    case 3:
+        damage_task_window(numbers, table, count, i);
+        break;
+    case 4:
+        damage_task_cycles(numbers, table, count, i);
+        break;
+    default:
+        damage_bytes(numbers, table);
+    }
+}

@@ -81,7 +81,7 @@ static bool print_refusals(const struct tally *t)
 {
     bool all = true;
     for (unsigned i = 1; i <= REFUSALS; i++) {
-        printf("%s%2u: %-7" PRIu64 "%s", i % 9 == 1 ? "  " : " ", i, t->by_number[i], i % 9 == 0 ? "\n" : "");
+        printf("%s%2u: %-7" PRIu64 "%s", i % 10 == 1 ? "  " : " ", i, t->by_number[i], i % 10 == 0 ? "\n" : "");
         all = all && t->by_number[i] > 0;
     }
     return all;

@@ -5,9 +5,10 @@
 #include "damage.h"
 #include "other.h"
 #include "sites.h"
+#include "tasks.h"
 
 /* The tables of the case, and a plan and price list in the making. */
-static struct table levels, jobs, plan, prices, changed_plan, changed_prices;
+static struct table levels, jobs, plan, prices, changed_plan, changed_prices, tasks;
 static struct plan steps, changed_steps;
 static struct prices list, changed_list;
 
@@ -63,7 +64,7 @@ static void spares(struct numbers *numbers)
     ask_spares(numbers, &site, 4);
 }
 
-/* One of the four functions, with tables as they stand. */
+/* One of the four functions that take levels, with tables as they stand. */
 static void call_any(struct numbers *numbers)
 {
     uint64_t load = below(numbers, 100);
@@ -195,19 +196,26 @@ static void other_plans(struct numbers *numbers)
     }
 }
 
+/* Plans the site, and works out the plan's exact energy times all gaps. Answers whether a plan came out. */
+static bool plan_exactly(struct numbers *numbers, const struct paper_site *site, uint64_t *exact)
+{
+    make_tables(site);
+    if (!compare_plan(numbers, &levels, &jobs, enough(site), &plan, &prices))
+        return false;
+    struct paper_loads loads = paper_loads(bytes_of(&plan));
+    *exact = paper_exact(site, &loads);
+    return true;
+}
+
 /* A plan comes out exactly when the search finds a placement, and none has less exact energy. */
 static void tiny_sites(struct numbers *numbers)
 {
     struct paper_site site = tiny_site(numbers);
-    uint64_t least;
-    bool found = paper_search(&site, &least);
-    make_tables(&site);
-    bool planned = compare_plan(numbers, &levels, &jobs, enough(&site), &plan, &prices);
+    uint64_t least, exact;
+    bool found = paper_search(&site, &least), planned = plan_exactly(numbers, &site, &exact);
     same("a plan came out", planned, found);
-    if (planned && found) {
-        struct paper_loads loads = paper_loads(bytes_of(&plan));
-        same("exact energy times all gaps", (int64_t)paper_exact(&site, &loads), (int64_t)least);
-    }
+    if (planned && found)
+        same("exact energy times all gaps", (int64_t)exact, (int64_t)least);
     call_report("the search");
 }
 
@@ -218,16 +226,105 @@ static void large_sites(struct numbers *numbers)
     ask_spares(numbers, &site, 4);
 }
 
+/* What rounds must answer for the tasks as they stand, given a buffer that is long enough. */
+static struct ramyearly_rounds_answer laid_out(void)
+{
+    struct paper_jobs ignored;
+    return paper_rounds(bytes_of(&tasks), SIZE_MAX, &ignored);
+}
+
+/* Around the length wanted; or any where the tasks are refused. */
+static size_t any_jobs_length(struct numbers *numbers)
+{
+    struct ramyearly_rounds_answer wanted = laid_out();
+    if (wanted.number)
+        return (size_t)ONE_OF(numbers, 0, 1, 2, 70, 2 + 12 * PAPER_JOBS, 1000);
+    if (one_in(numbers, 4))
+        return (wanted.length > 14 ? wanted.length - 14 : 0) + (size_t)below(numbers, 29);
+    return any_buffer(numbers, wanted.length);
+}
+
+/* The round's jobs in each repeat, later by the repeats before it. */
+static struct paper_jobs repeated(const struct paper_jobs *round, uint32_t multiple, unsigned times)
+{
+    struct paper_jobs all = { .count = times * round->count };
+    for (unsigned j = 0; j < all.count; j++) {
+        uint32_t before = j / round->count * multiple;
+        all.release[j] = before + round->release[j % round->count];
+        all.deadline[j] = before + round->deadline[j % round->count];
+        all.cycles[j] = round->cycles[j % round->count];
+    }
+    return all;
+}
+
+/* Plans the round that was written, and two or more repeats of it where a job table has room for them. They are planned
+ * exactly when the round is, and have so many times its least exact energy; where that wraps, both sides wrap alike. */
+static void plan_repeats(struct numbers *numbers, uint32_t multiple)
+{
+    struct paper_site round, all;
+    uint64_t exact, exact_of_all, most;
+    same("the job table is read", paper_read_site(bytes_of(&levels), bytes_of(&jobs), &round).number, 0);
+    bool planned = plan_exactly(numbers, &round, &exact);
+    most = round.jobs.count > 0 ? PAPER_JOBS / round.jobs.count : 1;
+    if (most > PAPER_TIME / multiple)
+        most = PAPER_TIME / multiple;
+    if (most < 2)
+        return;
+    unsigned times = (unsigned)between(numbers, 2, most);
+    all = site_of(round.levels, repeated(&round.jobs, multiple, times));
+    bool all_planned = plan_exactly(numbers, &all, &exact_of_all);
+    same("the repeated round was planned", all_planned, planned);
+    if (planned && all_planned)
+        same("exact energy of the repeats times all gaps", (int64_t)exact_of_all, (int64_t)(times * exact));
+    call_report("the repeated round");
+}
+
+static struct paper_tasks make_tasks(struct numbers *numbers)
+{
+    struct paper_levels given = any_levels(numbers);
+    levels_table(&levels, &given);
+    return any_tasks(numbers, &given);
+}
+
+/* Some tables have more tasks, as many as are allowed or past it. */
+static void rounds(struct numbers *numbers)
+{
+    struct paper_tasks given = make_tasks(numbers);
+    bool more = given.count > 0 && one_in(numbers, 16);
+    tasks_table(&tasks, more ? (unsigned)ONE_OF(numbers, 15, 16, 17, 18, 256, 272) : given.count, &given);
+    for (unsigned i = 0; i < 4; i++) {
+        size_t length = any_jobs_length(numbers);
+        compare_rounds(numbers, &tasks, length, &jobs);
+    }
+    if (one_in(numbers, 4) && compare_rounds(numbers, &tasks, 2 + 12 * PAPER_JOBS, &jobs))
+        plan_repeats(numbers, laid_out().multiple);
+}
+
+static void damaged_tasks(struct numbers *numbers)
+{
+    struct paper_tasks given = make_tasks(numbers);
+    tasks_table(&tasks, given.count, &given);
+    if (one_in(numbers, 8))
+        any_bytes(numbers, &tasks, 40, 3);
+    else
+        for (unsigned faults = (unsigned)ONE_OF(numbers, 1, 1, 1, 2, 3); faults > 0; faults--)
+            damage_tasks(numbers, &tasks);
+    size_t length = any_jobs_length(numbers);
+    compare_rounds(numbers, &tasks, length, &jobs);
+}
+
 struct group groups[GROUPS] = {
-    { .name = "settings", .run = settings, .weight = 30 },
-    { .name = "spares", .run = spares, .weight = 24 },
-    { .name = "damaged tables", .run = damaged, .weight = 64 },
-    { .name = "random bytes", .run = random_bytes, .weight = 24 },
-    { .name = "planning", .run = planning, .weight = 40 },
+    { .name = "settings", .run = settings, .weight = 24 },
+    { .name = "spares", .run = spares, .weight = 20 },
+    { .name = "damaged tables", .run = damaged, .weight = 54 },
+    { .name = "random bytes", .run = random_bytes, .weight = 20 },
+    { .name = "planning", .run = planning, .weight = 32 },
     { .name = "changed plans", .run = changed_plans, .weight = 36 },
     { .name = "other plans", .run = other_plans, .weight = 20 },
     { .name = "tiny sites", .run = tiny_sites, .weight = 12 },
     { .name = "large sites", .run = large_sites, .weight = 6 },
+    { .name = "rounds", .run = rounds, .weight = 12 },
+    { .name = "damaged tasks", .run = damaged_tasks, .weight = 20 },
 };
 
 void run_case(struct numbers *numbers)

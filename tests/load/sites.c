@@ -185,7 +185,7 @@ struct paper_jobs fitting_jobs(struct numbers *numbers, struct shape shape, cons
     return jobs;
 }
 
-static struct paper_site site_of(struct paper_levels levels, struct paper_jobs jobs)
+struct paper_site site_of(struct paper_levels levels, struct paper_jobs jobs)
 {
     return (struct paper_site) { levels, jobs, paper_points(&levels), paper_intervals(&jobs) };
 }

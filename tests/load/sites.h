@@ -21,6 +21,8 @@ struct paper_jobs fitting_jobs(struct numbers *numbers, struct shape shape, cons
 /* Jobs with any cycles; many have an overfull window. */
 struct paper_jobs any_jobs(struct numbers *numbers, struct shape shape, const struct paper_levels *levels);
 
+/* A site of these tables. */
+struct paper_site site_of(struct paper_levels levels, struct paper_jobs jobs);
 /* A site that the search can go through whole. */
 struct paper_site tiny_site(struct numbers *numbers);
 /* Mostly small, mostly fitting. */

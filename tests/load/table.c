@@ -7,6 +7,13 @@ struct paper_bytes bytes_of(const struct table *table)
     return (struct paper_bytes) { table->at, table->length };
 }
 
+void table_keep(struct table *table, struct paper_bytes bytes)
+{
+    table->length = bytes.length;
+    for (size_t i = 0; i < bytes.length; i++)
+        table->at[i] = bytes.at[i];
+}
+
 void table_set(struct table *table, size_t at, unsigned width, uint32_t number)
 {
     for (unsigned i = 0; i < width; i++)
@@ -39,6 +46,20 @@ void jobs_table(struct table *table, const struct paper_jobs *jobs)
     }
     for (unsigned i = 0; i < jobs->count; i++)
         add(table, 4, jobs->cycles[i]);
+}
+
+void tasks_table(struct table *table, unsigned count, const struct paper_tasks *tasks)
+{
+    table->length = 0;
+    add(table, 2, count);
+    for (unsigned i = 0; i < count; i++) {
+        add(table, 4, tasks->phase[i % tasks->count]);
+        add(table, 4, tasks->period[i % tasks->count]);
+    }
+    for (unsigned i = 0; i < count; i++) {
+        add(table, 4, tasks->deadline[i % tasks->count]);
+        add(table, 4, tasks->cycles[i % tasks->count]);
+    }
 }
 
 void plan_table(struct table *table, const struct plan *plan)

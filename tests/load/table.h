@@ -27,10 +27,14 @@ struct prices {
 };
 
 struct paper_bytes bytes_of(const struct table *table);
+/* Copies the bytes to a table. */
+void table_keep(struct table *table, struct paper_bytes bytes);
 void table_set(struct table *table, size_t at, unsigned width, uint32_t number);
 
 void levels_table(struct table *table, const struct paper_levels *levels);
 void jobs_table(struct table *table, const struct paper_jobs *jobs);
+/* A table of that many tasks, even more than are allowed: the given ones, and after the last the same again. */
+void tasks_table(struct table *table, unsigned count, const struct paper_tasks *tasks);
 void plan_table(struct table *table, const struct plan *plan);
 void prices_table(struct table *table, const struct prices *prices);
 

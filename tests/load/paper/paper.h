@@ -1,6 +1,6 @@
-/* Document 01 in plain C, written from the page alone, to be held against the archive. It reads tables, judges plans and
- * says when planning must refuse. It does not plan. Nothing here is meant to be fast: each function follows the words of
- * the page. */
+/* Document 01 and Change 1 of document 02 in plain C, written from the pages alone, to be held against the archive. It reads
+ * tables, lays out tasks, judges plans and says when planning must refuse. It does not plan. Nothing here is meant to be
+ * fast: each function follows the words of the pages. */
 #ifndef PAPER_H
 #define PAPER_H
 
@@ -13,6 +13,7 @@
 enum {
     PAPER_LEVELS = 8,
     PAPER_JOBS = 64,
+    PAPER_TASKS = 16,
     PAPER_BOUNDS = 2 * PAPER_JOBS,
     PAPER_INTERVALS = PAPER_BOUNDS - 1,
     PAPER_TIME = 1000000,
@@ -39,6 +40,11 @@ struct paper_levels {
 struct paper_jobs {
     unsigned count;
     uint32_t release[PAPER_JOBS], deadline[PAPER_JOBS], cycles[PAPER_JOBS];
+};
+
+struct paper_tasks {
+    unsigned count;
+    uint32_t phase[PAPER_TASKS], period[PAPER_TASKS], deadline[PAPER_TASKS], cycles[PAPER_TASKS];
 };
 
 /* Points 0 to m: idling, then the working levels. */
@@ -103,6 +109,11 @@ struct ramyearly_check_answer paper_check(struct paper_bytes levels, struct pape
 unsigned paper_pairs(const struct paper_intervals *intervals);
 struct ramyearly_plan_answer paper_planning(struct paper_bytes levels, struct paper_bytes jobs, size_t plan, size_t prices, size_t shares);
 void paper_smallest_prices(const struct paper_site *site, struct paper_bytes plan, uint8_t price[PAPER_INTERVALS]);
+
+/* rounds.c */
+struct paper_refusal paper_read_tasks(struct paper_bytes bytes, struct paper_tasks *tasks);
+uint32_t paper_multiple(const struct paper_tasks *tasks);
+struct ramyearly_rounds_answer paper_rounds(struct paper_bytes tasks, size_t jobs_length, struct paper_jobs *jobs);
 
 /* search.c */
 bool paper_search(const struct paper_site *site, uint64_t *least);
