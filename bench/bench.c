@@ -2,7 +2,7 @@
  * against ours.
  *
  *   bench times            a line of comma-separated values for each site
- *   bench stack            the deepest stack of planning and checking over all sites
+ *   bench stack            the deepest stack of each function over all sites, and of rounds over its largest tables
  *   bench one FAMILY JOBS SEED    one call each, for counting instructions */
 #define _GNU_SOURCE
 #include "peer.h"
@@ -80,6 +80,25 @@ static void settings(void)
 static void spare(void)
 {
     kept = ramyearly_spare(site.level_bytes, site.level_length, site.job_bytes, site.job_length, site.release[0], site.deadline[0]).spare;
+}
+
+/* The most tasks and jobs there are: 16 tasks of 64 jobs in 20 ticks, one of period 20, three of 4 and twelve of 5. Each has
+ * phase 0, deadline 1 and one cycle. */
+enum { TASKS = 16 };
+static uint8_t tasks[2 + 16 * TASKS], laid_out[2 + 12 * MAX_JOBS];
+
+static void make_tasks(void)
+{
+    tasks[0] = TASKS;
+    for (int i = 0; i < TASKS; i++) {
+        tasks[2 + 8 * i + 4] = i < 1 ? 20 : i < 4 ? 4 : 5;
+        tasks[2 + 8 * TASKS + 8 * i] = tasks[2 + 8 * TASKS + 8 * i + 4] = 1;
+    }
+}
+
+static void rounds(void)
+{
+    kept = ramyearly_rounds(tasks, sizeof tasks, laid_out, sizeof laid_out).length;
 }
 
 static void nothing(void)
@@ -300,22 +319,26 @@ static long depth(void (*call)(void))
 
 static void stacks(void)
 {
-    void (*const calls[])(void) = { plan, check, settings, spare, plain };
-    static const char *const names[] = { "plan", "check", "setting", "spare", "plain" };
-    long deepest[5] = { 0 };
+    enum { CALLS = 6 };
+    void (*const calls[CALLS])(void) = { plan, check, settings, spare, rounds, plain };
+    static const char *const names[CALLS] = { "plan", "check", "setting", "spare", "rounds", "plain" };
+    long deepest[CALLS] = { 0 };
     long empty = depth(nothing);
+    make_tasks();
     for (int family = 0; family < family_count; family++)
         for (int n = 0; n < SIZES; n++)
             for (int seed = 1; seed <= SEEDS; seed++) {
                 open_site(family, sizes[n], seed);
-                for (int k = 0; k < 5; k++) {
+                for (int k = 0; k < CALLS; k++) {
                     long d = depth(calls[k]) - empty;
                     if (d > deepest[k])
                         deepest[k] = d;
                 }
             }
+    if (laid_out[0] != MAX_JOBS)
+        wrong("rounds", "not as many jobs as there are");
     printf("function,bytes\n");
-    for (int k = 0; k < 5; k++)
+    for (int k = 0; k < CALLS; k++)
         printf("%s,%ld\n", names[k], deepest[k]);
 }
 
