@@ -4,13 +4,25 @@
     >>> ramyearly.plan(levels=[(2, 10), (4, 20)], jobs=[(0, 4, 6), (2, 3, 4)]).energy
     2200
 
-plan, check, setting and spare take plain values and answer plain values; refusals are exceptions with number, place and
-words. Every answer is the archive's: the package decides nothing.
+plan, check, setting, spare and rounds take plain values and answer plain values; refusals are exceptions with number,
+place and words. Every answer is the archive's: the package decides nothing.
 """
 
 from .errors import Trouble
-from .operations import Planned, Setting, check, plan, setting, spare
+from .operations import Planned, Rounds, Setting, check, plan, rounds, setting, spare
 from .refusals import Overfull, Refused
 
-__all__ = ["Overfull", "Planned", "Refused", "Setting", "Trouble", "check", "plan", "setting", "spare"]
+__all__ = [
+    "Overfull",
+    "Planned",
+    "Refused",
+    "Rounds",
+    "Setting",
+    "Trouble",
+    "check",
+    "plan",
+    "rounds",
+    "setting",
+    "spare",
+]
 __version__ = "1.0.0"

@@ -46,6 +46,15 @@ class PlanAnswer(ctypes.Structure):
     ]
 
 
+class RoundsAnswer(ctypes.Structure):
+    _fields_ = [
+        ("number", ctypes.c_uint32),
+        ("place", ctypes.c_uint32),
+        ("length", ctypes.c_uint32),
+        ("multiple", ctypes.c_uint32),
+    ]
+
+
 TABLE = (ctypes.c_char_p, ctypes.c_size_t)
 BUFFER = (ctypes.c_void_p, ctypes.c_size_t)
 
@@ -55,6 +64,7 @@ FUNCTIONS = {
     "ramyearly_setting": (SettingAnswer, TABLE + (ctypes.c_uint32, ctypes.c_uint64)),
     "ramyearly_spare": (SpareAnswer, TABLE * 2 + (ctypes.c_uint32, ctypes.c_uint32)),
     "ramyearly_plan": (PlanAnswer, TABLE * 2 + BUFFER * 3),
+    "ramyearly_rounds": (RoundsAnswer, TABLE + BUFFER),
 }
 
 
@@ -103,24 +113,35 @@ def spare(levels, jobs, start, end):
     return library().ramyearly_spare(*tables(levels, jobs), start, end)
 
 
-def plan_into(levels, jobs, lengths):
-    """Plans with buffers of these lengths: the answer, and the three buffers."""
-    kinds = (ctypes.c_uint8, ctypes.c_uint8, ctypes.c_uint32)
+# For each function that writes, the elements of its buffers in their order, each by the refusal that says that the buffer
+# is too short. The place of that refusal is the length wanted.
+PLAN_BUFFERS = {12: ctypes.c_uint8, 13: ctypes.c_uint8, 14: ctypes.c_uint32}
+ROUNDS_BUFFERS = {12: ctypes.c_uint8}
+
+
+def call_into(function, lent, kinds, lengths):
+    """Calls with buffers of these lengths: the answer, and the buffers."""
     # A buffer of no elements has an address of its own only where it is made with one.
-    buffers = [(kind * max(length, 1))() for kind, length in zip(kinds, lengths)]
-    lent = [word for buffer, length in zip(buffers, lengths) for word in (ctypes.addressof(buffer), length)]
-    return library().ramyearly_plan(*tables(levels, jobs), *lent), buffers
+    buffers = [(kind * max(lengths[number], 1))() for number, kind in kinds.items()]
+    words = [word for buffer, number in zip(buffers, kinds) for word in (ctypes.addressof(buffer), lengths[number])]
+    return function(*lent, *words), buffers
 
 
-# Planning's refusals of a buffer that is too short, in the order of the buffers. Their place is the length wanted.
-TOO_SHORT = (12, 13, 14)
+def call(function, lent, kinds):
+    """Calls with buffers as long as the archive wants them: the answer, and the buffers as written."""
+    lengths = dict.fromkeys(kinds, 0)
+    answer, buffers = call_into(function, lent, kinds, lengths)
+    while answer.number in kinds and lengths[answer.number] < answer.place:
+        lengths[answer.number] = answer.place
+        answer, buffers = call_into(function, lent, kinds, lengths)
+    return answer, *buffers
 
 
 def plan(levels, jobs):
-    """Plans with buffers as long as the archive wants them: the answer, and plan, prices and shares as written."""
-    lengths = [0, 0, 0]
-    answer, buffers = plan_into(levels, jobs, lengths)
-    while answer.number in TOO_SHORT and lengths[TOO_SHORT.index(answer.number)] < answer.place:
-        lengths[TOO_SHORT.index(answer.number)] = answer.place
-        answer, buffers = plan_into(levels, jobs, lengths)
-    return answer, *buffers
+    """Plans: the answer, and the buffers of plan, prices and shares."""
+    return call(library().ramyearly_plan, tables(levels, jobs), PLAN_BUFFERS)
+
+
+def rounds(tasks):
+    """Lays tasks out: the answer, and the buffer of the job table."""
+    return call(library().ramyearly_rounds, tables(tasks), ROUNDS_BUFFERS)

@@ -1,8 +1,8 @@
 """The operations on plain values.
 
-A level is (frequency, voltage), a job (release, deadline, cycles), a step (interval, job, cycles) and a price
-(end, price). A refusal is raised as Refused, or as Overfull where no schedule meets all deadlines. A number that has
-no room in the tables is a ValueError.
+A level is (frequency, voltage), a job (release, deadline, cycles), a task (phase, period, deadline, cycles), a step
+(interval, job, cycles) and a price (end, price). A refusal is raised as Refused, or as Overfull where no schedule meets
+all deadlines. A number that has no room in the tables is a ValueError.
 """
 
 from typing import NamedTuple
@@ -30,6 +30,15 @@ class Setting(NamedTuple):
     band: int
     extra: int
     gap: int
+
+
+class Rounds(NamedTuple):
+    """The jobs of one round of tasks. A plan of them, repeated any number of times, is a least one for the repeated jobs."""
+
+    jobs: list  # (release, deadline, cycles), by release and then by task
+    multiple: int  # of all periods, the least: the round repeats after so many ticks
+    tasks: list  # for each job the number of its task
+    job_bytes: bytes  # the job table as written
 
 
 def level_table(levels):
@@ -105,3 +114,24 @@ def spare_of(levels, jobs, start, end):
     if answer.number:
         raise refused(answer.number, answer.place, Call(levels=levels, jobs=jobs, start=start, end=end))
     return answer.spare
+
+
+def rounds(tasks):
+    """The jobs of these tasks, laid out over the least common multiple of their periods."""
+    return rounds_of(tables.to_bytes(tasks, tables.TASKS))
+
+
+def rounds_of(tasks):
+    answer, buffer = archive.rounds(tasks)
+    if answer.number:
+        raise refused(answer.number, answer.place, Call(tasks=tasks))
+    job_bytes = bytes(buffer)[: answer.length]
+    return Rounds(entries_of(job_bytes, tables.JOBS), answer.multiple, tasks_of_jobs(tasks, answer.length), job_bytes)
+
+
+def tasks_of_jobs(tasks, length):
+    """The task of each job. The archive says which: a task that has its number as its cycles gives them to its jobs."""
+    entries = entries_of(tasks, tables.TASKS)
+    numbered = [(phase, period, deadline, number) for number, (phase, period, deadline, _) in enumerate(entries, start=1)]
+    _, buffer = archive.rounds(tables.to_bytes(numbered, tables.TASKS))
+    return [number - 1 for _, _, number in entries_of(bytes(buffer)[:length], tables.JOBS)]

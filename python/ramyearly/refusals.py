@@ -1,4 +1,4 @@
-"""The refusals of document 01 in words.
+"""The refusals of documents 01 and 02 in words.
 
 The archive decides which refusal holds and at which place. What stands here only finds words for it: it looks up the
 numbers that the refusal speaks of, and where a refusal has two reasons it says the one that these numbers show.
@@ -16,6 +16,7 @@ class Call(NamedTuple):
     jobs: bytes = b""
     plan: bytes = b""
     prices: bytes = b""
+    tasks: bytes = b""
     length: int = 0
     load: int = 0
     start: int = 0
@@ -31,7 +32,9 @@ class Refused(Exception):
 
     def reference(self):
         noun = PLACES.get(self.number)
-        return f"refusal {self.number}" + (f", {noun} {self.place}" if noun else "")
+        # 28 names an entry, or the table as a whole.
+        named = noun and (noun != "entry" or self.entry is not None)
+        return f"refusal {self.number}" + (f", {noun} {self.place}" if named else "")
 
     def __str__(self):
         about = f"{self.table.name}: " if self.table else ""
@@ -57,13 +60,17 @@ def listed(numbers):
     return f"{', '.join(first)} and {last}" if first else last
 
 
+def ticks(number):
+    return f"{number} tick{'' if number == 1 else 's'}"
+
+
 def own_jobs(inside):
     return f"job {inside[0]} needs" if len(inside) == 1 else f"jobs {listed(inside)} need"
 
 
 # What the place of a refusal counts, where it has one.
 PLACES = {
-    **dict.fromkeys((4, 5, 9, 10), "entry"),
+    **dict.fromkeys((4, 5, 9, 10, 28), "entry"),
     **dict.fromkeys((12, 13, 14), "length wanted"),
     **dict.fromkeys((17, 18, 24), "step"),
     **dict.fromkeys((20, 22, 23), "interval"),
@@ -73,9 +80,9 @@ PLACES = {
 
 def refused(number, place, call):
     """The exception for a refusal other than 11."""
-    table, says, by_entry = REASONS[number]
-    entry = place if by_entry else None
-    return Refused(number, place, table, entry, says(call, place))
+    table, says, find_entry = REASONS[number]
+    entry = find_entry(call, place)
+    return Refused(number, place, table, entry, says(call, place if entry is None else entry))
 
 
 def overfull(answer, call):
@@ -136,7 +143,11 @@ def window(call, place):
 
 
 def cycles(call, place):
-    return f"cycles {entries_of(call.jobs, tables.JOBS)[place][2]} are not in range (1 to 1,000,000,000)"
+    return cycles_out_of_range(entries_of(call.jobs, tables.JOBS)[place][2])
+
+
+def cycles_out_of_range(value):
+    return f"cycles {value} are not in range (1 to 1,000,000,000)"
 
 
 def too_short(call, place):
@@ -224,6 +235,48 @@ def dearer(call, place):
     return f"job {job} runs in interval {interval} at price {price}, but is open in one of a smaller price"
 
 
+# Tasks.
+
+
+def task_table_fault(call):
+    """Why the bytes are no task table, or None where the fault is in an entry."""
+    if len(call.tasks) >= tables.TASKS.head():
+        count = tables.sizes_of(call.tasks, tables.TASKS)[0]
+        if count > 16:
+            return f"{count} tasks, but a table has at most 16"
+    return tables.length_fault(call.tasks, tables.TASKS)
+
+
+def task(call, place):
+    fault = task_table_fault(call)
+    if fault:
+        return fault
+    phase, period, deadline, value = entries_of(call.tasks, tables.TASKS)[place]
+    if period == 0 or deadline == 0:
+        return f"the {'deadline' if period else 'period'} is 0"
+    if phase + deadline > period:
+        return f"phase {phase} + deadline {deadline} is above the period {period}"
+    return cycles_out_of_range(value)
+
+
+def first_tasks(call, count):
+    """What the archive answers for the first tasks alone: the answer, and the job table."""
+    entries = entries_of(call.tasks, tables.TASKS)[:count]
+    return archive.rounds(tables.to_bytes(entries, tables.TASKS))
+
+
+def multiple(call, place):
+    periods = list(dict.fromkeys(period for _, period, _, _ in entries_of(call.tasks, tables.TASKS)[: place + 1]))
+    about = f"the least common multiple of the periods {listed(periods)}" if len(periods) > 1 else f"period {periods[0]}"
+    return f"{about} is above 1,000,000"
+
+
+def count_of_rounds(call, place):
+    answer, jobs = first_tasks(call, place)
+    before = f"the tasks before it make {tables.sizes_of(jobs, tables.JOBS)[0]} in {ticks(answer.multiple)}"
+    return f"with this task there are more than 64 jobs; {before}"
+
+
 # Setting and spare.
 
 
@@ -246,32 +299,60 @@ def length_of(table):
     return lambda call, place: tables.length_fault(getattr(call, table.name), table)
 
 
-# For each refusal the table that it is about, its words, and whether its place is an entry of that table.
+# The entry that a refusal is about.
+
+
+def at_place(call, place):
+    return place
+
+
+def no_entry(call, place):
+    return None
+
+
+def faulty_task(call, place):
+    return None if task_table_fault(call) else place
+
+
+def task_that_gives(number):
+    """The first task with which this refusal comes. The archive says which."""
+
+    def find(call, place):
+        counts = range(1, 1 + tables.sizes_of(call.tasks, tables.TASKS)[0])
+        return next(count - 1 for count in counts if first_tasks(call, count)[0].number == number)
+
+    return find
+
+
+# For each refusal the table that it is about, its words, and the entry of that table.
 REASONS = {
-    1: (tables.LEVELS, length_of(tables.LEVELS), False),
-    2: (tables.LEVELS, count_of_levels, False),
-    3: (tables.LEVELS, length_of(tables.LEVELS), False),
-    4: (tables.LEVELS, frequency, True),
-    5: (tables.LEVELS, voltage, True),
-    6: (tables.JOBS, length_of(tables.JOBS), False),
-    7: (tables.JOBS, count_of_jobs, False),
-    8: (tables.JOBS, length_of(tables.JOBS), False),
-    9: (tables.JOBS, window, True),
-    10: (tables.JOBS, cycles, True),
-    12: (None, too_short, False),
-    13: (None, too_short, False),
-    14: (None, too_short, False),
-    15: (tables.PLAN, length_of(tables.PLAN), False),
-    16: (tables.PLAN, number_of_intervals, False),
-    17: (tables.PLAN, cell, True),
-    18: (tables.PLAN, step_cycles, True),
-    19: (tables.JOBS, sum_of_job, True),
-    20: (tables.PLAN, overloaded, False),
-    21: (tables.PRICES, price_list, False),
-    22: (tables.PRICES, end_or_price, True),
-    23: (tables.PRICES, price_and_load, True),
-    24: (tables.PLAN, dearer, True),
-    25: (None, length, False),
-    26: (None, load, False),
-    27: (None, span, False),
+    1: (tables.LEVELS, length_of(tables.LEVELS), no_entry),
+    2: (tables.LEVELS, count_of_levels, no_entry),
+    3: (tables.LEVELS, length_of(tables.LEVELS), no_entry),
+    4: (tables.LEVELS, frequency, at_place),
+    5: (tables.LEVELS, voltage, at_place),
+    6: (tables.JOBS, length_of(tables.JOBS), no_entry),
+    7: (tables.JOBS, count_of_jobs, no_entry),
+    8: (tables.JOBS, length_of(tables.JOBS), no_entry),
+    9: (tables.JOBS, window, at_place),
+    10: (tables.JOBS, cycles, at_place),
+    12: (None, too_short, no_entry),
+    13: (None, too_short, no_entry),
+    14: (None, too_short, no_entry),
+    15: (tables.PLAN, length_of(tables.PLAN), no_entry),
+    16: (tables.PLAN, number_of_intervals, no_entry),
+    17: (tables.PLAN, cell, at_place),
+    18: (tables.PLAN, step_cycles, at_place),
+    19: (tables.JOBS, sum_of_job, at_place),
+    20: (tables.PLAN, overloaded, no_entry),
+    21: (tables.PRICES, price_list, no_entry),
+    22: (tables.PRICES, end_or_price, at_place),
+    23: (tables.PRICES, price_and_load, at_place),
+    24: (tables.PLAN, dearer, at_place),
+    25: (None, length, no_entry),
+    26: (None, load, no_entry),
+    27: (None, span, no_entry),
+    28: (tables.TASKS, task, faulty_task),
+    29: (tables.TASKS, multiple, task_that_gives(29)),
+    30: (tables.TASKS, count_of_rounds, task_that_gives(30)),
 }

@@ -1,12 +1,14 @@
 """A site's tables in text and in bytes.
 
 A site is a folder. In text its tables are jobs.txt or jobs.csv, and levels.txt or
-levels.csv; in bytes they are jobs.tbl and levels.tbl.
+levels.csv; in bytes they are jobs.tbl and levels.tbl. A task list, as tasks.txt,
+tasks.csv or tasks.tbl, may stand in place of the job list.
 
-A line of text is an entry. A job has a release, a deadline and cycles; a level has a
-frequency and a voltage. Spaces or commas stand between the numbers. Blank lines count
-for nothing, and neither does what follows a '#'. The first line may be the names of the
-columns. A number is digits, with '_' between them where that is easier to read: 1_000_000.
+A line of text is an entry. A job has a release, a deadline and cycles; a task has a
+phase, a period, a deadline and cycles; a level has a frequency and a voltage. Spaces or
+commas stand between the numbers. Blank lines count for nothing, and neither does what
+follows a '#'. The first line may be the names of the columns. A number is digits, with
+'_' between them where that is easier to read: 1_000_000.
 
 Numbers are not compared with the limits of a site: that is the planner's work, and its
 refusal names the entry. Only what has no room in the bytes is an error here.
@@ -47,11 +49,14 @@ class Table(NamedTuple):
 
 LEVELS = Table("levels", "level", ("levels",), ((("frequency", 16),), (("voltage", 16),)))
 JOBS = Table("jobs", "job", ("jobs",), ((("release", 32), ("deadline", 32)), (("cycles", 32),)))
+TASKS = Table("tasks", "task", ("tasks",), ((("phase", 32), ("period", 32)), (("deadline", 32), ("cycles", 32))))
 PLAN = Table("plan", "step", ("intervals", "steps"), ((("cell", 16),), (("cycles", 32),)))
 PRICES = Table("prices", "interval", ("intervals",), ((("end", 32),), (("price", 8),)))
 
-SITE_TABLES = (JOBS, LEVELS)
-ALL_TABLES = (JOBS, LEVELS, PLAN, PRICES)
+# What stands in place of what: a site has one of the two.
+IN_PLACE_OF = {TASKS: JOBS, JOBS: TASKS}
+SITE_TABLES = (TASKS, JOBS, LEVELS)
+ALL_TABLES = (*SITE_TABLES, PLAN, PRICES)
 
 
 # Text to entries.
@@ -228,10 +233,37 @@ def to_text(sizes, entries, table, csv=False):
     return "\n".join(lines) + "\n"
 
 
+# The files of a folder.
+
+
+def path_of(folder, table, ending=".tbl"):
+    return os.path.normpath(os.path.join(folder, table.name + ending))
+
+
 def text_file(folder, table):
     """The path of a table's text form, or None. Two text forms may disagree, so they are an error."""
-    paths = [os.path.normpath(os.path.join(folder, table.name + ending)) for ending in TEXT_ENDINGS]
+    paths = [path_of(folder, table, ending) for ending in TEXT_ENDINGS]
     found = [path for path in paths if os.path.exists(path)]
     if len(found) > 1:
         raise TableError(f"{found[1]}: {os.path.basename(found[0])} is there too; keep one of them")
     return found[0] if found else None
+
+
+def any_file(folder, table):
+    """The path of the file that a table is read from, its text before its bytes, or None where there is neither."""
+    data = path_of(folder, table)
+    return text_file(folder, table) or (data if os.path.lexists(data) else None)
+
+
+def check_one_list(tasks, jobs):
+    """The paths of a task list and of a job list, or None. Both may disagree, so they are an error."""
+    if tasks and jobs:
+        there = f"{os.path.basename(jobs)} is there too, and a task list stands in place of a job list"
+        raise TableError(f"{tasks}: {there}; keep one of them")
+
+
+def work_table(folder):
+    """What says what a site has to run: its tasks or its jobs."""
+    tasks = any_file(folder, TASKS)
+    check_one_list(tasks, any_file(folder, JOBS))
+    return TASKS if tasks else JOBS

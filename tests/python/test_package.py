@@ -87,6 +87,8 @@ class Refusals(unittest.TestCase):
             (ramyearly.setting, (T, 3, 2**64), "load 18446744073709551616 does not fit in 64 bits (0 to 18446744073709551615)"),
             (ramyearly.spare, (T, [], 2**32, 5), "start 4294967296 does not fit in 32 bits (0 to 4294967295)"),
             (ramyearly.spare, (T, [], 0, -1), "end -1 does not fit in 32 bits (0 to 4294967295)"),
+            (ramyearly.rounds, ([(0, 2**32, 1, 1)],), "period 4294967296 does not fit in 32 bits (0 to 4294967295)"),
+            (ramyearly.rounds, ([(0, 1, 1)],), "3 columns, but a task has 4: phase, period, deadline, cycles"),
             (ramyearly.check, (T, [], [(0, 64, 1)], []), "job 64 has no place in a cell (0 to 63)"),
             (ramyearly.check, (T, [], [(-1, 0, 1)], []), "cell -64 does not fit in 16 bits (0 to 65535)"),
         ):

@@ -190,7 +190,7 @@ class Numbers(unittest.TestCase):
             self.assertEqual(str(refusal), f"a buffer is too short (refusal {number}, length wanted 22)")
 
     def test_every_refusal_has_words(self):
-        self.assertEqual(sorted([*refusals.REASONS, 11]), list(range(1, 28)))
+        self.assertEqual(sorted([*refusals.REASONS, 11]), list(range(1, 31)))
 
 
 if __name__ == "__main__":
