@@ -7,10 +7,10 @@ from . import __version__
 from .errors import Trouble
 from .files import Stopped, stop_in_order
 from .terminal import NAME, accept_any_name, put, say
-from .verbs import check, decode, encode, listing, plan, report
+from .verbs import check, decode, encode, listing, plan, report, rounds
 from .verbs.folders import DONE, FAILED, STATUSES
 
-VERBS = {"plan": plan, "check": check, "report": report, "encode": encode, "decode": decode}
+VERBS = {"plan": plan, "check": check, "report": report, "encode": encode, "decode": decode, "rounds": rounds}
 
 SITES = """\
 ramyearly VERB --help says more of each. A folder with the name of a verb is given as ./plan.
@@ -20,6 +20,13 @@ DIR is the folder of a site. It holds a job list and a level list, each as
   jobs.txt   or jobs.csv     release, deadline and cycles, a job to a line
   levels.txt or levels.csv   frequency and voltage, a level to a line
   jobs.tbl, levels.tbl       the same in bytes
+
+In place of the job list it may hold a task list. In each period a task releases a job at its
+phase, and the deadline counts from there. The jobs are laid out over the least common multiple of
+the periods, and their plan may be repeated any number of times:
+
+  tasks.txt  or tasks.csv    phase, period, deadline and cycles, a task to a line
+  tasks.tbl                  the same in bytes
 
 Where a table is there in text and in bytes, the text is used: people edit the text, and the
 bytes are made from it. A table in bytes that can't be read counts as empty.

@@ -1,12 +1,15 @@
-"""A site's folder: its tables as bytes, each with the file and the lines that they came from."""
+"""A site's folder: its tables as bytes, each with the file and the lines that they came from.
+
+A task list may stand in place of the job list. The archive lays it out, and the jobs that come out are the site's.
+"""
 
 import contextlib
 import os
 from typing import NamedTuple
 
-from . import tables
+from . import operations, tables
 from .errors import SiteError, TableError
-from .refusals import Overfull, Refused, listed
+from .refusals import Overfull, Refused, listed, ticks
 
 
 class Source(NamedTuple):
@@ -16,6 +19,7 @@ class Source(NamedTuple):
     data: bytes
     lines: list = None  # where the file is text, the line of each entry
     trouble: str = None  # why the file can't be read, and counts as empty
+    tasks: list = None  # where jobs were laid out from tasks, the task of each
 
 
 class Site(NamedTuple):
@@ -23,23 +27,46 @@ class Site(NamedTuple):
 
     folder: str
     sources: dict
+    multiple: int = None  # where its jobs were laid out from tasks, the ticks after which they repeat
 
     def data(self, table):
         return self.sources[table].data
 
+    def files(self):
+        """The sources that are files of their own."""
+        return {table: source for table, source in self.sources.items() if source.tasks is None}
+
+    def adding(self, sources):
+        return self._replace(sources={**self.sources, **sources})
+
+    def repeats(self):
+        """What is said behind the figures of a site with tasks."""
+        return "" if self.multiple is None else f", repeats every {ticks(self.multiple)}"
+
 
 def read_site(folder):
     """The two tables of a site. Text that is no table is an error; bytes of any content are not."""
-    sources = {table: read_source(folder, table) for table in (tables.LEVELS, tables.JOBS)}
+    sources = {table: read_source(folder, table) for table in (tables.LEVELS, tables.work_table(folder))}
     if all(source.trouble and not os.path.lexists(source.path) for source in sources.values()):
-        raise SiteError(f"{folder}: no job list and no level list (jobs.txt, levels.txt; --help says more)")
+        names = "jobs.txt or tasks.txt, levels.txt"
+        raise SiteError(f"{folder}: no job list, no task list and no level list ({names}; --help says more)")
     return Site(folder, sources)
 
 
 def read_plan(site):
     """The site with the plan and the price list that stand beside its tables."""
-    added = {table: read_bytes(site.folder, table) for table in (tables.PLAN, tables.PRICES)}
-    return Site(site.folder, {**site.sources, **added})
+    return site.adding({table: read_bytes(site.folder, table) for table in (tables.PLAN, tables.PRICES)})
+
+
+def lay_out(site):
+    """The site with its jobs: where it has tasks, those of one round. They are said to be in the lines of their tasks."""
+    if tables.TASKS not in site.sources:
+        return site
+    source = site.sources[tables.TASKS]
+    rounds = operations.rounds_of(source.data)
+    lines = None if source.lines is None else [source.lines[task] for task in rounds.tasks]
+    jobs = Source(source.path, rounds.job_bytes, lines=lines, tasks=rounds.tasks)
+    return site.adding({tables.JOBS: jobs})._replace(multiple=rounds.multiple)
 
 
 def read_source(folder, table):
@@ -57,7 +84,7 @@ def read_source(folder, table):
 def read_bytes(folder, table):
     """A table in bytes. A file that can't be read counts as empty. Of a file that is too long for any table no more is
     read than shows that."""
-    path = os.path.normpath(os.path.join(folder, table.name + ".tbl"))
+    path = tables.path_of(folder, table)
     try:
         with open(path, "rb") as file:
             return Source(path, file.read(table.length(tables.MOST_ENTRIES) + 1))
@@ -69,7 +96,8 @@ def place_in(source, entries):
     """The file, with the lines of these entries where it is text."""
     if source.lines is None or not entries:
         return source.path
-    lines = [source.lines[entry] for entry in entries]
+    # Several jobs may have come from one task.
+    lines = sorted({source.lines[entry] for entry in entries})
     return f"{source.path} line{'s' if len(lines) > 1 else ''} {listed(lines)}"
 
 

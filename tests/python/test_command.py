@@ -138,7 +138,8 @@ class Verbs(InFolder):
 
     def test_no_tables(self):
         site = self.site()
-        said = f"ramyearly: {site}: no job list and no level list (jobs.txt, levels.txt; --help says more)\n"
+        names = "jobs.txt or tasks.txt, levels.txt"
+        said = f"ramyearly: {site}: no job list, no task list and no level list ({names}; --help says more)\n"
         self.expect([site], 1, "", said)
         self.expect(["report", site], 1, "", said)
         self.assertEqual(os.listdir(site), [])
@@ -152,7 +153,15 @@ class Verbs(InFolder):
             self.assertEqual((of_verb.returncode, of_verb.stderr), (0, ""))
             self.assertIn(f"usage: ramyearly {verb}", of_verb.stdout)
             self.assertIn("exit status", of_verb.stdout)
+            self.assert_tasks_are_named(of_verb.stdout)
+        self.assert_tasks_are_named(ended.stdout)
+        self.assert_tasks_are_named(self.run_command(".", "--help").stdout)
         self.expect(["--version"], 0, "ramyearly 1.0.0\n")
+
+    def assert_tasks_are_named(self, text):
+        """The help says that there are task lists, and which columns they have."""
+        for word in ("tasks.txt", "tasks.csv", "tasks.tbl", "phase", "period", "deadline", "cycles"):
+            self.assertIn(word, text)
 
     def test_a_reader_that_stops(self):
         script = '"$@" | head -n 1; exit ${PIPESTATUS[0]}'

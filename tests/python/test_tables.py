@@ -81,10 +81,11 @@ class Encoding(InFolder):
         both = self.site(jobs_txt="", jobs_csv="")
         binary = self.site(jobs_txt=b"0 4 6\n\xff\xfe\n")
         none = self.site()
+        names = "tasks.txt, tasks.csv, jobs.txt, jobs.csv, levels.txt, levels.csv"
         for site, said in (
             (both, f"ramyearly: {both}/jobs.csv: jobs.txt is there too; keep one of them\n"),
             (binary, f"ramyearly: {binary}/jobs.txt line 2: this is not text\n"),
-            (none, f"ramyearly: {none}: no job list and no level list in text (jobs.txt, jobs.csv, levels.txt, levels.csv)\n"),
+            (none, f"ramyearly: {none}: no table in text ({names})\n"),
         ):
             ended = self.run_command("encode", site)
             self.assertEqual((ended.returncode, ended.stderr), (1, said))
@@ -109,6 +110,8 @@ class Decoding(InFolder):
             (tables.JOBS, b"\1", "1 byte, but the sizes alone take 2"),
             (tables.JOBS, TWO_JOBS[:-1], "25 bytes, but jobs number 2, which takes 26"),
             (tables.LEVELS, PAIR + b"\0", "11 bytes, but levels number 2, which takes 10"),
+            (tables.TASKS, b"\1", "1 byte, but the sizes alone take 2"),
+            (tables.TASKS, b"\1" + bytes(16), "17 bytes, but tasks number 1, which takes 18"),
             (tables.PLAN, PLAN[:3], "3 bytes, but the sizes alone take 4"),
             (tables.PLAN, PLAN[:-1], "21 bytes, but steps number 3, which takes 22"),
             (tables.PRICES, PRICES + b"\0", "18 bytes, but intervals number 3, which takes 17"),
@@ -127,7 +130,8 @@ class Decoding(InFolder):
     def test_nothing_to_decode(self):
         site = self.site(jobs_txt="0 4 6\n")
         ended = self.run_command("decode", site)
-        said = f"ramyearly: {site}: no table in bytes (jobs.tbl, levels.tbl, plan.tbl, prices.tbl)\n"
+        names = "tasks.tbl, jobs.tbl, levels.tbl, plan.tbl, prices.tbl"
+        said = f"ramyearly: {site}: no table in bytes ({names})\n"
         self.assertEqual((ended.returncode, ended.stderr), (1, said))
 
 
@@ -169,7 +173,7 @@ class RoundTrips(InFolder):
         examples = os.path.join(ROOT, "examples")
         for name in sorted(os.listdir(examples)):
             site = os.path.join(examples, name)
-            for table in tables.SITE_TABLES:
+            for table in (tables.work_table(site), tables.LEVELS):
                 path = tables.text_file(site, table)
                 if path:
                     tables.read_text(path, table)
@@ -177,7 +181,7 @@ class RoundTrips(InFolder):
                     path = os.path.join(site, table.name + ".tbl")
                     tables.from_bytes(read(path), table, path)
         # The example in bytes is the first one encoded.
-        for table in tables.SITE_TABLES:
+        for table in (tables.JOBS, tables.LEVELS):
             entries, _ = tables.read_text(os.path.join(examples, "first", table.name + ".txt"), table)
             data = read(os.path.join(examples, "first-tables", table.name + ".tbl"))
             self.assertEqual(tables.to_bytes(entries, table), data)

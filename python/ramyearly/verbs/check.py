@@ -2,8 +2,8 @@
 
 from .. import tables
 from ..operations import check_tables
-from ..sites import explained, read_plan, read_site
-from .folders import on_sites, parser_of
+from ..sites import explained, lay_out, read_plan, read_site
+from .folders import TASKS, on_sites, parser_of
 
 USAGE = ("check DIR...", "check plan.tbl and prices.tbl")
 
@@ -12,7 +12,7 @@ def run(arguments, prepare):
     parser = parser_of(
         "check",
         "Checks plan.tbl and prices.tbl against the tables of each site: a plan that is accepted gives\n"
-        "each job its cycles between release and deadline, and no schedule needs less energy.",
+        "each job its cycles between release and deadline, and no schedule needs less energy." + TASKS,
         several=True,
     )
 
@@ -20,7 +20,9 @@ def run(arguments, prepare):
         site = read_plan(read_site(folder))
         prepare()
         with explained(site):
+            site = lay_out(site)
+        with explained(site):
             energy = check_tables(*map(site.data, (tables.LEVELS, tables.JOBS, tables.PLAN, tables.PRICES)))
-        return f"{folder}: accepted, energy {energy}\n", None
+        return f"{folder}: accepted, energy {energy}{site.repeats()}\n", None
 
     return on_sites(parser.parse_args(arguments).folders, work)

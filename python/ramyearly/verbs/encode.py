@@ -7,7 +7,7 @@ USAGE = ("encode DIR [OUT]", "tables in text to tables in bytes")
 
 
 def run(arguments, _prepare):
-    parser = parser_of("encode", tables.__doc__ + "\nencode writes jobs.tbl and levels.tbl.")
+    parser = parser_of("encode", tables.__doc__ + "\nencode writes jobs.tbl or tasks.tbl, and levels.tbl.")
     parser.add_argument("out", metavar="OUT", nargs="?", help="the folder to write to (DIR if left out)")
     options = parser.parse_args(arguments)
 

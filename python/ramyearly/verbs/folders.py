@@ -10,6 +10,13 @@ from ..terminal import NAME, Progress, put, say
 # Exit statuses. With several folders the worst one is the command's.
 DONE, REFUSED, FAILED = 0, 1, 2
 
+# Each verb on a site says so.
+TASKS = """
+
+A task list, tasks.txt, tasks.csv or tasks.tbl, may stand in place of the job list: phase, period,
+deadline (counted from the release) and cycles, a task to a line. Its jobs are laid out over the
+least common multiple of the periods, and these are the site's jobs."""
+
 STATUSES = """\
 exit status: 0 done; 1 a site is overfull or refused, or its text is no table; 2 wrong usage, or a
 file could not be written. With several folders the worst one.

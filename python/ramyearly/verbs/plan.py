@@ -1,21 +1,22 @@
 """Plans sites, and writes what the reader's kernel loads."""
 
-import os
-
 from .. import tables
 from ..files import write_files
 from ..operations import plan_tables
-from ..sites import explained, read_site
-from .folders import check_folder, on_sites, parser_of
+from ..sites import explained, lay_out, read_site
+from .folders import TASKS, check_folder, on_sites, parser_of
 
 USAGE = ("plan DIR... [-o OUT]", "plan: write plan.tbl and prices.tbl")
+
+REPEATED = """ The plan is that of one round.
+Repeated any number of times it stays a least one for the repeated jobs."""
 
 
 def run(arguments, prepare):
     parser = parser_of(
         "plan",
         "Plans each site: writes plan.tbl, which the reader's kernel loads, and prices.tbl, with which\n"
-        "anyone can check that no schedule needs less energy. Each is written whole or not at all.",
+        "anyone can check that no schedule needs less energy. Each is written whole or not at all." + TASKS + REPEATED,
         several=True,
     )
     parser.add_argument("-o", dest="out", metavar="OUT", help="the folder to write to (that of the site if left out)")
@@ -29,11 +30,13 @@ def run(arguments, prepare):
         site = read_site(folder)
         prepare()
         with explained(site):
+            site = lay_out(site)
+        with explained(site):
             planned = plan_tables(site.data(tables.LEVELS), site.data(tables.JOBS))
-        paths = [os.path.normpath(os.path.join(out, table.name + ".tbl")) for table in (tables.PLAN, tables.PRICES)]
+        paths = [tables.path_of(out, table) for table in (tables.PLAN, tables.PRICES)]
         write_files(zip(paths, (planned.plan_bytes, planned.price_bytes)))
         jobs = tables.sizes_of(site.data(tables.JOBS), tables.JOBS)[0]
         sizes = f"jobs {jobs}, intervals {len(planned.spans)}, steps {len(planned.steps)}, energy {planned.energy}"
-        return f"{folder}: {sizes}; wrote {paths[0]} and {paths[1]}\n", None
+        return f"{folder}: {sizes}{site.repeats()}; wrote {paths[0]} and {paths[1]}\n", None
 
     return on_sites(options.folders, work)
