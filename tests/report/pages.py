@@ -23,6 +23,10 @@ def text_of(element):
     return "".join(element.itertext())
 
 
+def verdict_of(page):
+    return next(text_of(element) for element in page.iter() if "verdict" in element.get("class", "").split())
+
+
 def rows_of(page, name):
     """The cells of a table's rows, as text, or None where there is no such table."""
     for box in page.iter(f"{HTML}div"):
@@ -150,7 +154,7 @@ class Figures(WithSamples):
 
     def test_the_figure(self):
         for page, _, planned in self.planned():
-            self.assertIn(thousands(planned.energy), [text_of(fact) for fact in page.iter(f"{HTML}dd")])
+            self.assertIn(thousands(planned.energy), [fact.text for fact in page.iter(f"{HTML}dd")])
 
     def test_the_clock_runs_the_load(self):
         for _, site, planned in self.planned():
@@ -192,12 +196,9 @@ def tightest_by_definition(jobs, top):
 class Refusals(WithSamples):
     """Pages where no plan comes out."""
 
-    def verdict(self, page):
-        return next(text_of(element) for element in page.iter() if "verdict" in element.get("class", "").split())
-
     def test_an_overfull_window(self):
         page = self.parsed("overfull round")
-        self.assertIn("from 100 to 120 jobs 2 and 3 need 2,500 cycles more", self.verdict(page))
+        self.assertIn("from 100 to 120 jobs 2 and 3 need 2,500 cycles more", verdict_of(page))
         facts = [text_of(fact) for fact in page.iter(f"{HTML}dd")]
         for said in ("100 to 12020 ticks", "12,500 cycles", "10,000 cycles", "\u22122,500cycles"):
             self.assertIn(said, facts)
@@ -212,7 +213,7 @@ class Refusals(WithSamples):
     def marked(self, name):
         page = self.parsed(name)
         rows = [row for row in page.iter(f"{HTML}tr") if row.get("class") == "marked"]
-        return self.verdict(page), [text_of(cell) for row in rows for cell in row]
+        return verdict_of(page), [text_of(cell) for row in rows for cell in row]
 
     def test_a_refused_level(self):
         said, row = self.marked("refused level")
@@ -237,18 +238,18 @@ class Refusals(WithSamples):
             ("short bytes", "3 bytes, but levels number 2, which takes 10"),
         ):
             page = self.parsed(name)
-            self.assertIn(words, self.verdict(page))
+            self.assertIn(words, verdict_of(page))
             self.assertIsNone(rows_of(page, "refused-table"))
             self.assertEqual(len(rows_of(page, "source-table")), 2)
 
     def test_text_that_is_no_table(self):
-        self.assertIn("jobs.txt line 1: cycles '<script>' is not a whole number", self.verdict(self.parsed("no text")))
-        self.assertIn("no job list and no level list", self.verdict(self.parsed("nothing")))
+        self.assertIn("jobs.txt line 1: cycles '<script>' is not a whole number", verdict_of(self.parsed("no text")))
+        self.assertIn("no job list, no task list and no level list", verdict_of(self.parsed("nothing")))
 
     def test_no_jobs(self):
         for name in ("no jobs", "empty"):
             page = self.parsed(name)
-            self.assertIn("The job list is empty", self.verdict(page))
+            self.assertIn("The job list is empty", verdict_of(page))
             self.assertEqual(list(page.iter(f"{SVG}svg")), [])
             self.assertTrue(rows_of(page, "level-table"))
 

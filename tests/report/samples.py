@@ -51,6 +51,20 @@ MADE = {
     "largest cycles": ([(1000, 500)], [(0, 1_000_000, 1_000_000_000), (999_998, 999_999, 1)]),
     "no jobs": (LEVELS, []),
 }
+# Tasks in place of jobs.
+TASKS = {
+    "three tasks": [(5, 20, 8, 3200), (10, 30, 15, 2000), (0, 60, 58, 6000)],
+    "64 jobs of 16 tasks": [
+        *((3 * task, 60, 20, 300 + task) for task in range(12)),
+        *((0, 2, 1, 50), (1, 6, 3, 200), (3, 6, 2, 150), (10, 30, 15, 900)),
+    ],
+    "overfull rounds": [(0, 40, 40, 9000), (0, 20, 10, 4000), (4, 20, 5, 1500)],
+    "refused task": [(0, 20, 8, 3200), (3, 7, 5, 1), (0, 60, 60, 5300)],
+    "too long a round": [(0, 1000, 1, 1), (0, 500, 1, 1), (0, 1001, 1, 1)],
+    "too many jobs in a round": [(0, 64, 1, 1), (0, 1, 1, 1)],
+    "too many tasks": [(0, 1, 1, 1)] * 17,
+    "no tasks": [],
+}
 HOSTILE = b'<b>&"x\' \xff\x1b<i>'
 
 
@@ -70,12 +84,17 @@ class Samples:
         self.room = tempfile.mkdtemp()
         for name, (levels, jobs) in MADE.items():
             self.make(name, **{"levels.txt": lines(levels), "jobs.txt": "# a line before the first\n" + lines(jobs)})
+        for name, tasks in TASKS.items():
+            self.make(name, **{"levels.txt": lines(LEVELS), "tasks.txt": lines(tasks)})
         self.make(os.fsdecode(HOSTILE), **{"levels.txt": lines(LEVELS), "jobs.txt": lines(OVERFULL[:2])})
         self.make("no level list", **{"jobs.txt": lines(OVERFULL)})
         self.make("no job list", **{"levels.txt": lines(LEVELS)})
         self.make("no text", **{"levels.txt": lines(LEVELS), "jobs.txt": "0 4 <script>\n"})
         self.make("short bytes", **{"levels.tbl": b"\x02\x00\x05", "jobs.tbl": tables.to_bytes(OVERFULL, tables.JOBS)})
         self.make("refused in bytes", **{"levels.txt": lines(LEVELS), "jobs.tbl": tables.to_bytes([(5, 5, 1)], tables.JOBS)})
+        three = TASKS["three tasks"]
+        self.make("tasks in bytes", **{"levels.txt": lines(LEVELS), "tasks.tbl": tables.to_bytes(three, tables.TASKS)})
+        self.make("two lists", **{"levels.txt": lines(LEVELS), "jobs.txt": lines(OVERFULL), "tasks.txt": lines(three)})
         self.make("nothing")
         examples = [os.path.join(EXAMPLES, name) for name in sorted(os.listdir(EXAMPLES))]
         self.folders = [os.path.join(self.room, name) for name in sorted(os.listdir(self.room))] + examples
@@ -98,6 +117,7 @@ def outcome_of(folder):
     site = None
     try:
         site = sites.read_site(folder)
+        site = sites.lay_out(site)
         return site, operations.plan_tables(site.data(tables.LEVELS), site.data(tables.JOBS))
     except (Refused, SiteError) as error:
         return site, error

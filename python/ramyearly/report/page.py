@@ -41,8 +41,8 @@ def planned_body(site, planned):
     intervals, windows = figures.intervals(levels, planned), figures.tightest(levels, jobs)
     steps = page_tables.step_table(planned.steps, intervals)
     return [
-        verdict("Planned", "Every deadline is met, and no schedule does it with less energy."),
-        planned_facts(planned, entries, levels, windows[0]),
+        verdict("Planned", planned_sentence(site)),
+        planned_facts(site, planned, entries, windows[0]),
         sections(
             ("jobs", "Jobs", job_pictures(entries, JOB_WORDS, intervals=intervals)),
             ("clock", "Clock", clock_picture(entries, intervals, level_list)),
@@ -51,26 +51,49 @@ def planned_body(site, planned):
             ("intervals", "Intervals", page_tables.interval_table(intervals)),
             ("steps", "Steps", folding(f"The {counted(len(planned.steps), 'step')} of the plan", steps)),
             *site_sections(site, entries, level_list, intervals),
+            with_tasks=has_tasks(site),
         ),
     ]
 
 
-def planned_facts(planned, entries, levels, window):
+def has_tasks(site):
+    return site.multiple is not None
+
+
+def planned_sentence(site):
+    sentence = "Every deadline is met, and no schedule does it with less energy."
+    if not has_tasks(site):
+        return sentence
+    return (
+        f"{sentence} The round repeats every {counted(site.multiple, 'tick')}: the plan may be repeated any number of times, "
+        "and stays a least one for the repeated jobs."
+    )
+
+
+def planned_facts(site, planned, entries, window):
     return facts(
-        ("Energy figure", thousands(planned.energy)),
-        time_fact(entries),
-        ("Jobs", thousands(len(entries))),
+        ("Energy figure", thousands(planned.energy), *(["of one round"] if has_tasks(site) else [])),
+        time_fact(site, entries),
+        job_fact(site, entries),
         ("Intervals", thousands(len(planned.spans))),
         ("Steps", thousands(len(planned.steps))),
-        *level_facts(levels),
+        *level_facts(site.data(tables.LEVELS)),
         ("Least spare", counted(window.spare, "cycle"), f"from {from_to(window.start, window.end)}"),
     )
 
 
-def time_fact(entries):
+def time_fact(site, entries):
     bounds = scale(entries).bounds
     start, end = bounds[0], bounds[-1]
-    return "Time", from_to(start, end), counted(end - start, "tick")
+    repeats = f", repeats every {thousands(site.multiple)}" if has_tasks(site) else ""
+    return "Time", from_to(start, end), counted(end - start, "tick") + repeats
+
+
+def job_fact(site, entries, *remarks):
+    if has_tasks(site):
+        count = tables.sizes_of(site.data(tables.TASKS), tables.TASKS)[0]
+        remarks = (f"from {counted(count, 'task')}", *remarks)
+    return "Jobs", thousands(len(entries)), *([", ".join(remarks)] if remarks else [])
 
 
 def level_facts(levels):
@@ -130,12 +153,22 @@ def scale_words(entries):
 
 
 def site_sections(site, entries, level_list, intervals=()):
-    """The two tables of a site that has no fault."""
+    """The tables of a site that has no fault."""
     jobs, levels = site.sources[tables.JOBS], site.sources[tables.LEVELS]
+    tasks = [("task-list", "Task list", task_content(site))] if has_tasks(site) else []
     return [
+        *tasks,
         ("job-list", "Job list", page_tables.job_table(jobs, entries, intervals)),
         ("level-list", "Level list", page_tables.level_table(levels, level_list)),
     ]
+
+
+def task_content(site):
+    words = (
+        f"The jobs below are those of one round, and come again every {counted(site.multiple, 'tick')}, the least common "
+        "multiple of the periods."
+    )
+    return joined([paragraph(words), page_tables.task_table(site.sources[tables.TASKS], site.sources[tables.JOBS])])
 
 
 # No plan.
@@ -152,12 +185,13 @@ def overfull_body(site, refusal):
     )
     return [
         verdict("Overfull", overfull_sentence(window), alarm=True),
-        overfull_facts(window, entries, levels),
+        overfull_facts(site, window, entries),
         sections(
             ("overfull", "The overfull window", joined([overfull_words(window, explain(refusal, site)), own])),
             ("jobs", "Jobs", job_pictures(entries, words, overfull=refusal)),
             ("windows", "Tightest windows", page_tables.window_table(figures.tightest(levels, jobs))),
             *site_sections(site, entries, level_list),
+            with_tasks=has_tasks(site),
         ),
     ]
 
@@ -167,15 +201,15 @@ def overfull_sentence(window):
     return f"No schedule meets every deadline: from {from_to(window.start, window.end)} {own_jobs(window.inside)} {more}."
 
 
-def overfull_facts(window, entries, levels):
+def overfull_facts(site, window, entries):
     return facts(
         ("Overfull window", from_to(window.start, window.end), counted(window.end - window.start, "tick")),
         ("Its jobs need", counted(window.need, "cycle")),
         ("The top frequency gives", counted(window.capacity, "cycle")),
         ("Spare", signed(window.spare), "cycles"),
-        time_fact(entries),
-        ("Jobs", thousands(len(entries)), f"{len(window.inside)} inside the window"),
-        *level_facts(levels),
+        time_fact(site, entries),
+        job_fact(site, entries, f"{len(window.inside)} inside the window"),
+        *level_facts(site.data(tables.LEVELS)),
     )
 
 
@@ -199,16 +233,17 @@ def refused_body(site, refusal):
         entries = entries_of(source.data, refusal.table)
         parts.append(element("h2", "The refused entry"))
         parts.append(page_tables.refused_table(source, refusal.table, entries, refusal.entry))
-    return [*parts, element("h2", "Files"), page_tables.source_table(site.sources)]
+    return [*parts, element("h2", "Files"), page_tables.source_table(site)]
 
 
 def empty_body(site):
     level_list = figures.level_list(site.data(tables.LEVELS))
+    kind = tables.TASKS if has_tasks(site) else tables.JOBS
     return [
-        verdict("Nothing to run", "The job list is empty: the clock idles, and the energy figure is 0."),
+        verdict("Nothing to run", f"The {kind.entry} list is empty: the clock idles, and the energy figure is 0."),
         facts(("Energy figure", 0), ("Jobs", 0), *level_facts(site.data(tables.LEVELS))),
         element("h2", "Level list"),
         page_tables.level_table(site.sources[tables.LEVELS], level_list),
         element("h2", "Files"),
-        page_tables.source_table(site.sources),
+        page_tables.source_table(site),
     ]

@@ -19,6 +19,10 @@ TERMS = (
         "exact energy, and less than the number of bands below it.",
     ),
 )
+TASK_TERMS = (
+    ("Task", "Work that comes again. In each period it releases a job at its phase, with its deadline counted from there."),
+    ("Round", "The least common multiple of the periods. The jobs of one round come again, at the same places, in the next."),
+)
 
 
 def document(title, body):
@@ -51,16 +55,16 @@ def facts(*entries):
     return element("dl", *found, class_="facts")
 
 
-def sections(*entries):
+def sections(*entries, with_tasks=False):
     """Sections as name, heading and content, with links to them before the first one."""
-    entries = [*entries, ("terms", "Words on this page", terms())]
+    entries = [*entries, ("terms", "Words on this page", terms(TERMS + TASK_TERMS if with_tasks else TERMS))]
     links = [element("a", heading, href=f"#{name}") for name, heading, _ in entries]
     found = [element("section", element("h2", heading), content, id=name) for name, heading, content in entries]
     return joined([element("nav", *links, aria_label="Sections"), *found])
 
 
-def terms():
-    entries = [element("div", element("dt", word), element("dd", meaning)) for word, meaning in TERMS]
+def terms(meanings):
+    entries = [element("div", element("dt", word), element("dd", meaning)) for word, meaning in meanings]
     return element("dl", *entries, class_="terms")
 
 

@@ -3,7 +3,7 @@
 from typing import NamedTuple
 
 from .. import tables
-from ..refusals import listed
+from ..refusals import entries_of, listed
 from .markup import element
 from .wording import counted, mixed, percent, signed, thousands
 
@@ -59,12 +59,16 @@ def table(name, caption, columns, rows, marked=None):
     )
 
 
-def line_column(source):
-    """The column of the lines, where the table is text."""
+def origin_column(source):
+    """The column that says where an entry stands: its task, where it was laid out, or its line, where the table is text."""
+    if source.tasks is not None:
+        return numbers("Task")
     return numbers("Line") if source.lines is not None else []
 
 
-def line_cell(source, entry):
+def origin_cell(source, entry):
+    if source.tasks is not None:
+        return [source.tasks[entry]]
     return [source.lines[entry]] if source.lines is not None else []
 
 
@@ -130,12 +134,12 @@ def window_table(windows):
 
 def job_table(source, entries, intervals):
     """The job list and, where there is a plan, in which intervals each job runs."""
-    columns = numbers("Job") + line_column(source) + numbers("Release", "Deadline", "Ticks", "Cycles")
+    columns = numbers("Job") + origin_column(source) + numbers("Release", "Deadline", "Ticks", "Cycles")
     if intervals:
         columns += long_words("Runs as interval: cycles")
     rows = []
     for job, (release, deadline, cycles) in enumerate(entries):
-        row = [job, *line_cell(source, job), release, deadline, deadline - release, cycles]
+        row = [job, *origin_cell(source, job), release, deadline, deadline - release, cycles]
         if intervals:
             row.append(runs_of(job, intervals))
         rows.append(row)
@@ -148,19 +152,34 @@ def runs_of(job, intervals):
     return "; ".join(f"{number}:\u00a0{thousands(cycles)}" for number, cycles in runs)
 
 
+def task_table(source, jobs):
+    """The task list, with the jobs that were laid out from each task."""
+    columns = numbers("Task") + origin_column(source) + numbers("Phase", "Period", "Deadline", "Cycles")
+    columns += long_words("Jobs of a round")
+    entries = entries_of(source.data, tables.TASKS)
+    rows = []
+    for number, entry in enumerate(entries):
+        own = [job for job, task in enumerate(jobs.tasks) if task == number]
+        rows.append([number, *origin_cell(source, number), *entry, listed(own)])
+    caption = file_words(source, len(entries), tables.TASKS) + (
+        " In each period a task releases a job at its phase; its deadline counts from there."
+    )
+    return table("task-table", caption, columns, rows)
+
+
 def own_job_table(source, entries, inside):
-    columns = numbers("Job") + line_column(source) + numbers("Release", "Deadline", "Cycles")
-    rows = [[job, *line_cell(source, job), *entries[job]] for job in inside]
+    columns = numbers("Job") + origin_column(source) + numbers("Release", "Deadline", "Cycles")
+    rows = [[job, *origin_cell(source, job), *entries[job]] for job in inside]
     caption = f"The {counted(len(inside), 'job')} inside the overfull window, from {source.path}."
     return table("own-job-table", caption, columns, rows)
 
 
 def level_table(source, levels):
-    columns = numbers("Level") + line_column(source) + numbers("Frequency", "Voltage", "Band", "Price of a cycle")
+    columns = numbers("Level") + origin_column(source) + numbers("Frequency", "Voltage", "Band", "Price of a cycle")
     columns += long_words("Use")
     rows = []
     for number, level in enumerate(levels):
-        row = [number, *line_cell(source, number), level.frequency, f"{level.voltage / 100:.2f} V"]
+        row = [number, *origin_cell(source, number), level.frequency, f"{level.voltage / 100:.2f} V"]
         if level.works:
             row += [level.band, mixed(level.price), "works"]
         else:
@@ -176,20 +195,20 @@ def level_table(source, levels):
 def refused_table(source, table_kind, entries, refused):
     """The entries around a refused one."""
     first, end = max(refused - AROUND, 0), min(refused + AROUND + 1, len(entries))
-    columns = numbers(table_kind.entry.capitalize()) + line_column(source)
+    columns = numbers(table_kind.entry.capitalize()) + origin_column(source)
     columns += numbers(*(name.capitalize() for name, _ in table_kind.columns())) + words("Verdict")
     rows = []
     for number in range(first, end):
         sign, verdict = ("\u25b8 ", "\u25c2 refused") if number == refused else ("", "")
-        rows.append([f"{sign}{number}", *line_cell(source, number), *entries[number], verdict])
+        rows.append([f"{sign}{number}", *origin_cell(source, number), *entries[number], verdict])
     caption = f"Entries {first} to {end - 1} of {source.path}, which has {len(entries):,}."
     return table("refused-table", caption, columns, rows, marked=refused - first)
 
 
-def source_table(sources):
+def source_table(site):
     """The files that a site was read from."""
     rows = []
-    for kind, source in sources.items():
+    for kind, source in site.files().items():
         state = counted(len(source.data), "byte") if source.lines is None else counted(len(source.lines), kind.entry)
         if source.trouble:
             state = f"{source.trouble}: counts as empty"
