@@ -5,24 +5,24 @@ use mathlib.Core.Bool.{Bool, true, false, cond, _&&_}
 use mathlib.Core.Logic.{_⊎_, inl, inr}
 use mathlib.Core.List.{List, [], _∷_, _++_, map}
 use Prim.Native.Nat.{ℕ, zero, suc, _+_, _-_, _*_, _/_, _%_, _<_, _≤_, _∣_}
-use native.Mathlib.Nat.{mul-div-cancel', mul-add-mod-self-left, mod-eq-of-lt, div-add-mod, lt-of-mul-lt-mul-left, mul-le-mul-left}
+use native.Mathlib.Nat.{mul-div-cancel', mul-add-mod-self-left, mod-eq-of-lt}
 use native.Mathlib.Omega.{arith}
 use lib.ListN.{length}
 use lib.Dec.{leb, eqb}
-use borrow.Author.Tests.{le-leb, lt-leb, ne-eqb, leb-true, eqb-true}
+use borrow.Author.Tests.{le-leb, lt-leb, ne-eqb}
 use Rattle.model.specs.declared.Job.{Job}
 use Rattle.model.specs.Entries.{joined}
 use Rattle.model.specs.Jobs.{noJob, jobOf}
-use Rattle.model.proofs.Numbers.{lt-or-le, true-or-false, both-true}
-use Rattle.model.proofs.Joined.{Each, joined-cong, each-joined}
+use Rattle.model.proofs.Numbers.{lt-or-le}
+use Rattle.model.proofs.Joined.{joined-cong, map-joined}
 use Rattle.tasks.specs.declared.Task.{Task}
 use Rattle.tasks.specs.Tasks.{taskOf, ValidTasks}
 use Rattle.tasks.specs.Multiples.{CommonMultiple}
 use Rattle.tasks.specs.LaidOut.{releasesAt, jobReleased, releasedBy, jobsAt, layOut}
 use Rattle.repeats.specs.Repeats.{laterBy, repeatJobs}
-use Rattle.repeats.specs.LaidOutRepeats.{LaidOutRepeats, LaidOutInside}
+use Rattle.repeats.specs.LaidOutRepeats.{LaidOutRepeats}
 use Rattle.repeats.proofs.Rows.{row-at, column-at}
-use Rattle.repeats.proofs.Lists.{listOf-append, listOf-map, joined-append, map-joined}
+use Rattle.repeats.proofs.Lists.{listOf-append, listOf-map, joined-append}
 use Rattle.repeats.proofs.Repeats.{nothing-repeats}
 
 -- repeat r follows those before it
@@ -84,33 +84,6 @@ module _ (task : Task) (some : 1 ≤ task .deadline) (within : task .phase + tas
         go true = refl
         go false = refl
 
-    -- a window that starts in the first H ticks ends in them
-    window-inside : (u : ℕ) → u < H → releasesAt task u ≡ true → u + task .deadline ≤ H
-    unfolding releasesAt
-    window-inside u below e =
-        let h = both-true (leb (task .phase) u) (eqb ((u - task .phase) % task .period) 0) e in
-        let low : task .phase ≤ u = leb-true (task .phase) u (h .0) in
-        let none : (u - task .phase) % task .period ≡ 0 = eqb-true ((u - task .phase) % task .period) 0 (h .1) in
-        let c : ℕ = (u - task .phase) / task .period in
-        let q : ℕ = H / task .period in
-        let whole : task .period * q ≡ H = mul-div-cancel' (task .period) divides in
-        let parts : task .period * c + (u - task .phase) % task .period ≡ u - task .phase = div-add-mod (u - task .phase) (task .period) in
-        let less : task .period * c < task .period * q = omega arith in
-        let fewer : c < q = lt-of-mul-lt-mul-left (task .period) less in
-        omega (arith, mul-le-mul-left {m = suc c} {n = q} (task .period) fewer)
-
-    released-inside : (u : ℕ) → u < H → Each noJob (λ job. job .deadline ≤ H) (releasedBy task u)
-    unfolding releasedBy
-    released-inside u below = go (true-or-false (releasesAt task u))
-      where
-        go : (releasesAt task u ≡ true) ⊎ (releasesAt task u ≡ false) → Each noJob (λ job. job .deadline ≤ H) (releasedBy task u)
-        go (inl e) = rw e one
-          where
-            one : Each noJob (λ job. job .deadline ≤ H) (jobReleased task u ∷ [])
-            one zero inside = window-inside u below e
-            one (suc i) inside = absurd (omega arith)
-        go (inr e) = rw e (λ i inside. absurd (omega arith))
-
 module _ (tasks : List Task) (valid : ValidTasks tasks) (H : ℕ) (common : CommonMultiple tasks H) where
   tick-repeats : (r u : ℕ) → jobsAt tasks (r * H + u) ≡ map (laterBy (r * H)) (jobsAt tasks u)
   unfolding jobsAt
@@ -133,10 +106,3 @@ laid-out-repeats tasks valid H common zero = let e : 0 * H ≡ 0 = omega arith i
 laid-out-repeats tasks valid H common (suc r) =
     let e : suc r * H ≡ r * H + H = omega arith in
     rw (e, round-repeats tasks valid H common r, laid-out-repeats tasks valid H common r, repeatJobs-next H r (layOut tasks H))
-
-pub laid-out-inside : LaidOutInside
-unfolding layOut jobsAt
-laid-out-inside tasks valid H common =
-    each-joined noJob (λ job. job .deadline ≤ H) H (jobsAt tasks)
-    (λ u below. each-joined noJob (λ job. job .deadline ≤ H) (length tasks) (λ i. releasedBy (taskOf tasks i) u)
-    (λ i there. released-inside (taskOf tasks i) (valid .some-deadline i there) (valid .within-period i there) H (common i there) u below))

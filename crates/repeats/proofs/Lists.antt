@@ -1,6 +1,6 @@
--- Lists made by place and lists joined, one stretch after another; and what a function makes of joined lists.
+-- Lists made by place and lists joined, one stretch after another.
 -- Assumes nothing.
-use mathlib.Core.Path.{_≡_, refl, ap}
+use mathlib.Core.Path.{_≡_, refl}
 use mathlib.Core.List.{List, [], _∷_, _++_, map, append-assoc, append-nil}
 use Prim.Native.Nat.{ℕ, zero, suc, _+_, _<_}
 use native.Mathlib.Omega.{arith}
@@ -29,17 +29,7 @@ module _ {A : Type 0} where
       let e : a + suc b ≡ suc (a + b) = omega arith in
       rw (e, joined-append a b f, append-assoc)
 
-  module _ {C : Type 0} (g : C → A) where
-    pub map-append : (l m : List C) → map g (l ++ m) ≡ map g l ++ map g m
-    map-append [] m = refl
-    map-append (x ∷ l) m = ap (λ (t : List A). g x ∷ t) (map-append l m)
-
-    pub map-joined : (n : ℕ) (f : ℕ → List C) → map g (joined n f) ≡ joined n (λ i. map g (f i))
-    unfolding joined
-    map-joined zero f = refl
-    map-joined (suc n) f = rw (map-append (joined n f) (f n), map-joined n f)
-
-    pub listOf-map : (l : List C) (d : C) (f : ℕ → A) → ((i : ℕ) → i < length l → f i ≡ g (getD l i d)) → listOf (length l) f ≡ map g l
-    unfolding listOf
-    listOf-map [] d f same = refl
-    listOf-map (x ∷ l) d f same = rw (same 0 (omega arith), listOf-map l d (λ i. f (suc i)) (λ i below. same (suc i) (omega arith)))
+  pub listOf-map : {C : Type 0} (g : C → A) (l : List C) (d : C) (f : ℕ → A) → ((i : ℕ) → i < length l → f i ≡ g (getD l i d)) → listOf (length l) f ≡ map g l
+  unfolding listOf
+  listOf-map g [] d f same = refl
+  listOf-map g (x ∷ l) d f same = rw (same 0 (omega arith), listOf-map g l d (λ i. f (suc i)) (λ i below. same (suc i) (omega arith)))

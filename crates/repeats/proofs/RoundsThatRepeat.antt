@@ -1,5 +1,5 @@
 -- Rounds that repeat, in the user's words.
--- Assumes AnsweredRoundIs of tasks, which is an argument here until it is proved there.
+-- Assumes nothing.
 use mathlib.Core.Path.{_≡_, sym, _∙_}
 use mathlib.Core.Logic.{_⊎_, inl, inr}
 use mathlib.Core.List.{List}
@@ -13,12 +13,12 @@ use Rattle.model.specs.Steps.{sharesOf}
 use Rattle.model.specs.PriceBytes.{pricesOf}
 use Rattle.model.proofs.Sites.{sound-site}
 use Rattle.tasks.specs.LaidOut.{layOut}
-use Rattle.tasks.specs.Rounds.{AnsweredRoundIs}
+use Rattle.tasks.proofs.Rounds.{answered-round-is}
 use Rattle.repeats.specs.Repeats.{RepeatsApart}
 use Rattle.repeats.specs.RoundsThatRepeat.{RoundsThatRepeat}
 use Rattle.repeats.proofs.Ends.{latest-none, latest-met}
 use Rattle.repeats.proofs.Repeats.{rounds-repeat}
-use Rattle.repeats.proofs.LaidOutRepeats.{laid-out-repeats, laid-out-inside}
+use Rattle.repeats.proofs.LaidOutRepeats.{laid-out-repeats}
 
 -- jobs whose windows end within H ticks
 inside-apart : (jobs : List Job) (H : ℕ) → ((j : ℕ) → j < length jobs → jobOf jobs j .deadline ≤ H) → RepeatsApart H jobs
@@ -28,13 +28,13 @@ inside-apart jobs H inside = go (eq-zero-or-pos (length jobs))
     go (inl none) = omega (arith, latest-none jobs none)
     go (inr some) = let met = latest-met jobs some in omega (arith, met .2, inside (met .0) (met .1))
 
-pub rounds-that-repeat : (answered : AnsweredRoundIs) → RoundsThatRepeat
-rounds-that-repeat answered taskBytes room round e site valid jobs plan prices accepted r =
-    let is = answered taskBytes room round e in
+pub rounds-that-repeat : RoundsThatRepeat
+rounds-that-repeat taskBytes room round e site valid jobs plan prices accepted r =
+    let is = answered-round-is taskBytes room round e in
     let H = round .multiple in
     let laid-out : site .jobs ≡ layOut (is .tasks) H = jobs ∙ is .jobs-are in
     let apart : RepeatsApart H (site .jobs) =
-    rw laid-out (inside-apart (layOut (is .tasks) H) H (laid-out-inside (is .tasks) (is .valid-tasks) H (is .multiple .common))) in
+    rw jobs (inside-apart (round .jobs) H (λ j below. is .jobs-inside j)) in
     record {
       tasks = is .tasks;
       read = is .read;

@@ -1,9 +1,7 @@
 -- Tasks laid out over several multiples of their periods (document 02, Change 1).
-use Prim.Native.Nat.{ℕ, _*_, _<_, _≤_}
+use Prim.Native.Nat.{ℕ, _*_}
 use mathlib.Core.Path.{_≡_}
 use mathlib.Core.List.{List}
-use lib.ListN.{length}
-use Rattle.model.specs.Jobs.{jobOf}
 use Rattle.tasks.specs.declared.Task.{Task}
 use Rattle.tasks.specs.Tasks.{ValidTasks}
 use Rattle.tasks.specs.Multiples.{CommonMultiple}
@@ -16,9 +14,3 @@ abbrev pub LaidOutRepeats : Type 0
 LaidOutRepeats =
     (tasks : List Task) → ValidTasks tasks → (H : ℕ) → CommonMultiple tasks H
     → (r : ℕ) → layOut tasks (r * H) ≡ repeatJobs H r (layOut tasks H)
-
--- And no job that is released in the first H ticks has its deadline after them, so that repeats do not overlap.
-abbrev pub LaidOutInside : Type 0
-LaidOutInside =
-    (tasks : List Task) → ValidTasks tasks → (H : ℕ) → CommonMultiple tasks H
-    → (j : ℕ) → j < length (layOut tasks H) → jobOf (layOut tasks H) j .deadline ≤ H
