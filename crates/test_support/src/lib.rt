@@ -1,4 +1,5 @@
-// Helpers of the test programs: cases in lines of text, tables in bytes, and printing.
+// Helpers of the test programs: cases in lines of text, tables in bytes, lent buffers, and printing.
+pub mod buffers;
 pub mod encode;
 pub mod show;
 pub mod text;
