@@ -27,7 +27,10 @@ use Rattle.windows.specs.declared.window.SpareAnswer.the-variants.{Spare, Refus
 use Rattle.windows.specs.Answers.{spareAnswer}
 use Rattle.audit.specs.declared.checking.CheckAnswer.the-variants.{Accepted, Refused as CheckRefused}
 use Rattle.audit.specs.Answers.{checkAnswer}
-use Rattle.capi.specs.Results.{checkResult, settingResult, spareResult}
+use Rattle.tasks.specs.Rounds.{Round, tableLength, rounds}
+use Rattle.rounds.specs.declared.operation.RoundsAnswer.the-variants.{LaidOut, Refused as RoundRefused}
+use Rattle.rounds.specs.RoundAnswers.{roundsAnswer, RoundsContract}
+use Rattle.capi.specs.Results.{checkResult, settingResult, spareResult, roundsResult, RoundsCall}
 
 accepted-result : (outcome : Outcome ℕ) (energy : ℕ) → Accepted energy ≡ checkAnswer outcome
     → record { number = 0; place = 0; energy = energy } ≡ checkResult outcome
@@ -72,6 +75,22 @@ no-spare-result (refused n p) number place e =
     λ k. record { number = same-number k; place = same-place k; spare = pos 0 }
 no-spare-result (answer found) number place e = cc e
 
+laid-out-result : (outcome : Outcome Round) (length multiple : ℕ) → LaidOut length multiple ≡ roundsAnswer outcome
+    → record { number = 0; place = 0; length = length; multiple = multiple } ≡ roundsResult outcome
+laid-out-result (refused number place) length multiple e = cc e
+laid-out-result (answer round) length multiple e =
+    let same-length : length ≡ tableLength (round .jobs) = cc e in
+    let same-multiple : multiple ≡ round .multiple = cc e in
+    λ k. record { number = 0; place = 0; length = same-length k; multiple = same-multiple k }
+
+no-round-result : (outcome : Outcome Round) (number place : ℕ) → RoundRefused number place ≡ roundsAnswer outcome
+    → record { number = number; place = place; length = 0; multiple = 0 } ≡ roundsResult outcome
+no-round-result (refused n p) number place e =
+    let same-number : number ≡ n = cc e in
+    let same-place : place ≡ p = cc e in
+    λ k. record { number = same-number k; place = same-place k; length = 0; multiple = 0 }
+no-round-result (answer round) number place e = cc e
+
 -- the outcome is that of an operation on bytes
 module _ (levelBytes jobBytes plan prices : List ℕ) where
   pub check-accepted : (energy : ℕ) → Accepted energy ≡ checkAnswer (check levelBytes jobBytes plan prices)
@@ -99,6 +118,17 @@ module _ (levelBytes jobBytes : List ℕ) (start end : ℕ) where
   pub spare-refused : (number place : ℕ) → SpareRefused number place ≡ spareAnswer (spare levelBytes jobBytes start end)
       → record { number = number; place = place; spare = pos 0 } ≡ spareResult (spare levelBytes jobBytes start end)
   spare-refused = no-spare-result (spare levelBytes jobBytes start end)
+
+module _ (taskBytes before after : List ℕ) where
+  pub rounds-laid-out : (size multiple : ℕ) → RoundsContract taskBytes before after (LaidOut size multiple)
+      → RoundsCall taskBytes before after (record { number = 0; place = 0; length = size; multiple = multiple })
+  rounds-laid-out size multiple h =
+      record { result-is = laid-out-result (rounds taskBytes (length before)) size multiple (h .answer-is); buffer-is = h .buffer-is }
+
+  pub rounds-refused : (number place : ℕ) → RoundsContract taskBytes before after (RoundRefused number place)
+      → RoundsCall taskBytes before after (record { number = number; place = place; length = 0; multiple = 0 })
+  rounds-refused number place h =
+      record { result-is = no-round-result (rounds taskBytes (length before)) number place (h .answer-is); buffer-is = h .buffer-is }
 
 -- no working level is above the highest frequency
 module _ (processor : Processor) (valid : ValidProcessor processor) where

@@ -3,6 +3,7 @@
 use Prim.Native.Nat.{ℕ}
 use mathlib.Core.Path.{_≡_}
 use mathlib.Core.List.{List}
+use lib.ListN.{length}
 use lib.IntN.{ℤ, pos}
 use Rattle.model.specs.Outcome.{Outcome, refused, answer}
 use Rattle.model.specs.Setting.{Setting}
@@ -10,10 +11,12 @@ use Rattle.planning.specs.declared.operation.PlanAnswer.{PlanAnswer}
 use Rattle.planning.specs.declared.operation.PlanAnswer.the-variants.{Plan, Overfull, Refused}
 use Rattle.planning.specs.MadePlans.{Buffers}
 use Rattle.planning.specs.PlanAnswers.{PlanContract}
+use Rattle.tasks.specs.Rounds.{Round, tableLength, rounds, bufferAfter}
 use Rattle.capi.specs.declared.CheckResult.{CheckResult}
 use Rattle.capi.specs.declared.SettingResult.{SettingResult}
 use Rattle.capi.specs.declared.SpareResult.{SpareResult}
 use Rattle.capi.specs.declared.PlanResult.{PlanResult}
+use Rattle.capi.specs.declared.RoundsResult.{RoundsResult}
 
 abbrev pub checkResult : Outcome ℕ → CheckResult
 checkResult (refused number place) = record { number = number; place = place; energy = 0 }
@@ -41,3 +44,12 @@ pub record PlanCall (levelBytes jobBytes : List ℕ) (before after : Buffers) (r
   pub answered : PlanAnswer
   pub result-is : result ≡ planResult answered
   pub contract : PlanContract levelBytes jobBytes before after answered
+
+abbrev pub roundsResult : Outcome Round → RoundsResult
+roundsResult (refused number place) = record { number = number; place = place; length = 0; multiple = 0 }
+roundsResult (answer round) = record { number = 0; place = 0; length = tableLength (round .jobs); multiple = round .multiple }
+
+-- A call that lays out a round from C: what it returns, and what the job buffer holds afterwards.
+pub record RoundsCall (taskBytes before after : List ℕ) (result : RoundsResult) : Type 0 where
+  pub result-is : result ≡ roundsResult (rounds taskBytes (length before))
+  pub buffer-is : after ≡ bufferAfter (rounds taskBytes (length before)) before

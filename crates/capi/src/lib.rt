@@ -4,10 +4,11 @@ ghost use mathlib.Core.Path.{_≡_};
 ghost use Rattle.model.specs.Checking.{check};
 ghost use Rattle.model.specs.Setting.{setting};
 ghost use Rattle.model.specs.Windows.{spare};
-ghost use Rattle.capi.specs.Results.{checkResult, settingResult, spareResult, PlanCall};
+ghost use Rattle.capi.specs.Results.{checkResult, settingResult, spareResult, PlanCall, RoundsCall};
 use audit::CheckAnswer;
 use levels::SettingAnswer;
 use planning::PlanAnswer;
+use rounds::RoundsAnswer;
 use windows::SpareAnswer;
 
 // The check of a plan and its price list. Number 0: accepted; otherwise the refusal's number and place, and 0.
@@ -48,6 +49,16 @@ pub struct PlanResult {
     pub start: u32,
     pub end: u32,
     pub spare: i64,
+}
+
+// Laying out a round. Number 0: a job table was written, with its length in bytes and the multiple after which the round
+// repeats; otherwise the refusal's number and place, and zeros.
+#[repr(C)]
+pub struct RoundsResult {
+    pub number: u32,
+    pub place: u32,
+    pub length: u32,
+    pub multiple: u32,
 }
 
 #[no_mangle]
@@ -163,6 +174,27 @@ pub extern "C" fn ramyearly_plan(
             start: 0,
             end: 0,
             spare: 0,
+        },
+    }
+}
+
+#[no_mangle]
+pub extern "C" fn ramyearly_rounds(tasks: &[u8], jobs: &mut [u8]) -> RoundsResult
+    ensures { λ r. ⌜ RoundsCall (now (tasks .entry)) (now (jobs .entry)) (now (jobs .exit)) r ⌝ }
+{
+    let answer = rounds::rounds(tasks, jobs);
+    match answer {
+        RoundsAnswer::LaidOut { length, multiple } => RoundsResult {
+            number: 0,
+            place: 0,
+            length,
+            multiple,
+        },
+        RoundsAnswer::Refused { number, place } => RoundsResult {
+            number,
+            place,
+            length: 0,
+            multiple: 0,
         },
     }
 }

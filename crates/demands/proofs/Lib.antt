@@ -1,2 +1,3 @@
--- The three demands hold.
+-- The three demands hold, and rounds repeat.
 pub mod ThreeDemands
+pub mod RepeatedRounds

@@ -3,7 +3,9 @@
 use mathlib.Core.Path.{_≡_, refl, sym, _∙_, ap}
 use mathlib.Core.List.{List}
 use Prim.Native.Nat.{ℕ}
+use native.Mathlib.Omega.{arith}
 use lib.ListN.{length}
+use Rattle.model.specs.Outcome.{Outcome, refused, answer}
 use Rattle.model.specs.Sites.{Site, siteOf, ValidSite}
 use Rattle.model.specs.Steps.{sharesOf}
 use Rattle.model.specs.Checking.{figureOf}
@@ -19,6 +21,10 @@ use Rattle.planning.specs.declared.operation.PlanAnswer.{PlanAnswer}
 use Rattle.planning.specs.declared.operation.PlanAnswer.the-variants.{Plan, Overfull, Refused}
 use Rattle.planning.specs.PlanAnswers.{outcomeOf}
 use Rattle.planning.proofs.PlanStages.{planned-as}
+use Rattle.tasks.specs.Rounds.{Round, rounds, bufferAfter}
+use Rattle.tasks.proofs.Rounds.{rounds-refuse}
+use Rattle.rounds.specs.declared.operation.RoundsAnswer.the-variants.{Refused as RoundRefused}
+use Rattle.rounds.specs.RoundAnswers.{roundsAnswer}
 use Rattle.demands.specs.ThreeDemands.{
   Call,
   PlanComesOut,
@@ -31,6 +37,12 @@ use Rattle.demands.specs.ThreeDemands.{
   NothingShutOut,
 }
 
+-- a refused round leaves the buffer
+refused-keeps : (before after : List ℕ) (outcome : Outcome Round) (number place : ℕ) → RoundRefused number place ≡ roundsAnswer outcome
+    → after ≡ bufferAfter outcome before → after ≡ before
+refused-keeps before after (refused n p) number place told left = left
+refused-keeps before after (answer round) number place told left = let z : _≡_ {A = ℕ} 0 1 = cc told in absurd (omega (arith, z))
+
 pub demand-one : DemandOne
 demand-one =
     record {
@@ -42,6 +54,9 @@ demand-one =
       walking = walk-by;
       planning = λ call number place e. planning-by _ _ _ _ _ number place (sym (call .contract .outcome) ∙ e);
       changes-nothing = λ call no-plan. call .contract .untouched no-plan;
+      laying-out = rounds-refuse;
+      lays-out-nothing = λ tasks before after answered contract number place is.
+          refused-keeps before after (rounds tasks (length before)) number place (sym is ∙ contract .answer-is) (contract .buffer-is);
     }
 
 -- an accepted plan is such a plan, and its prices fit

@@ -10,6 +10,7 @@
 --     check levels jobs plan prices      checkAnswer (check levels jobs plan prices)
 --     start, next and step_at            stepAnswer (walk plan) at the number of the step
 --     plan levels jobs and the buffers   an answer that `PlanContract` holds of
+--     rounds tasks and the buffer        roundsAnswer (rounds tasks room), with the buffer that `RoundsContract` names
 --
 -- An answer's enum has a case for each case of the outcome, with the same numbers. So what is stated here of an outcome
 -- on the right holds of what the caller gets.
@@ -42,6 +43,10 @@ use Rattle.planning.specs.declared.operation.PlanAnswer.{PlanAnswer}
 use Rattle.planning.specs.declared.operation.PlanAnswer.the-variants.{Plan, Overfull}
 use Rattle.planning.specs.MadePlans.{Buffers}
 use Rattle.planning.specs.PlanAnswers.{outcomeOf, PlanContract}
+use Rattle.tasks.specs.Rounds.{rounds}
+use Rattle.rounds.specs.declared.operation.RoundsAnswer.{RoundsAnswer}
+use Rattle.rounds.specs.declared.operation.RoundsAnswer.the-variants.{Refused}
+use Rattle.rounds.specs.RoundAnswers.{RoundsContract}
 
 -- One call of planning: what it was lent, what it left there, and its answer, with the contract that holds of every call.
 pub record Call : Type 0 where
@@ -64,8 +69,8 @@ abbrev pub pricesWritten : Call → (intervals : ℕ) → List ℕ
 pricesWritten call intervals = take (2 + 5 * intervals) (call .after .prices)
 
 -- Demand 1. "Whoever calls an operation, with bytes of any length and content, gets a result or a numbered refusal from
--- document 01; nothing is required of the caller first, and a refused call changes nothing lent to it." Planning alone
--- is lent anything that it may change.
+-- document 01; nothing is required of the caller first, and a refused call changes nothing lent to it." Planning and laying
+-- out a round alone are lent anything that they may change.
 pub record DemandOne : Type 0 where
   pub reading-levels : (bytes : List ℕ) → RefusesBy (From 1 5) (readLevels bytes)
   pub reading-jobs : (bytes : List ℕ) → RefusesBy (From 6 10) (readJobs bytes)
@@ -76,6 +81,10 @@ pub record DemandOne : Type 0 where
   -- 11 is the case Overfull, with its window and spare
   pub planning : (call : Call) (number place : ℕ) → outcomeOf (call .answered) ≡ refusal number place → From 1 10 number ⊎ From 12 14 number
   pub changes-nothing : (call : Call) → (PlanComesOut call → ⊥) → call .after ≡ call .before
+  -- document 02's numbers join those of document 01
+  pub laying-out : (tasks : List ℕ) (room : ℕ) → RefusesBy (λ n. From 12 12 n ⊎ From 28 30 n) (rounds tasks room)
+  pub lays-out-nothing : (tasks before after : List ℕ) (answered : RoundsAnswer) → RoundsContract tasks before after answered
+      → (number place : ℕ) → answered ≡ Refused number place → after ≡ before
 
 -- Demand 2. "A plan gives each job exactly its cycles between release and deadline, one job at a time, by the workload and
 -- processor model of George's 2005 thesis, with the energy figure that document 01 defines."

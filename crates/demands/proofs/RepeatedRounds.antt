@@ -1,0 +1,87 @@
+-- Rounds repeat, over the calls themselves.
+-- Assumes nothing.
+use mathlib.Core.Path.{_≡_, refl, sym, _∙_, ap}
+use mathlib.Core.List.{List, _++_}
+use Prim.Native.Nat.{ℕ, _*_, _+_}
+use native.Mathlib.Omega.{arith}
+use lib.ListN.{length as size, take, drop}
+use lib.Seq.{take-at}
+use Rattle.model.specs.Outcome.{Outcome, refused, answer}
+use Rattle.model.specs.Levels.{readLevels}
+use Rattle.model.specs.Jobs.{readJobs, encodeJobs}
+use Rattle.model.specs.Sites.{Site, siteOf, readSite}
+use Rattle.model.specs.Accepted.{Accepted}
+use Rattle.model.specs.Demands.{ValidTables}
+use Rattle.model.proofs.Outcome.{andThen-answered, answer-injective}
+use Rattle.model.proofs.Sites.{sites-are-valid}
+use Rattle.model.proofs.Accepted.{check-accepts, check-read}
+use Rattle.model.proofs.Hypotheses.{every-valid-table}
+use Rattle.tasks.specs.Rounds.{Round, tableLength, rounds, bufferAfter}
+use Rattle.tasks.proofs.Rounds.{answered-round-is}
+use Rattle.rounds.specs.declared.operation.RoundsAnswer.the-variants.{LaidOut}
+use Rattle.rounds.specs.RoundAnswers.{roundsAnswer}
+use Rattle.repeats.proofs.RoundsThatRepeat.{rounds-that-repeat}
+use Rattle.demands.specs.RepeatedRounds.{RoundsCall, jobsWritten, Repeated, RepeatedRounds}
+
+-- The round that a call answered.
+record Answered (laid : RoundsCall) (length multiple : ℕ) : Type 0 where
+  round : Round
+  is : rounds (laid .taskBytes) (size (laid .before)) ≡ answer round
+  same-length : length ≡ tableLength (round .jobs)
+  same-multiple : multiple ≡ round .multiple
+  left : laid .after ≡ encodeJobs (round .jobs) ++ drop (tableLength (round .jobs)) (laid .before)
+
+answered-round : (laid : RoundsCall) (length multiple : ℕ) → laid .answered ≡ LaidOut length multiple → Answered laid length multiple
+answered-round laid length multiple told = go (rounds (laid .taskBytes) (size (laid .before))) refl (sym told ∙ laid .contract .answer-is) (laid .contract .buffer-is)
+  where
+    go : (outcome : Outcome Round) → rounds (laid .taskBytes) (size (laid .before)) ≡ outcome → LaidOut length multiple ≡ roundsAnswer outcome
+        → laid .after ≡ bufferAfter outcome (laid .before) → Answered laid length multiple
+    go (refused number place) is told left = let z : _≡_ {A = ℕ} 0 1 = cc told in absurd (omega (arith, z))
+    go (answer round) is told left = record { round = round; is = is; same-length = cc told; same-multiple = cc told; left = left }
+
+module _ (laid : RoundsCall) (length multiple : ℕ) (found : Answered laid length multiple) where
+  -- the bytes written are the round's job table
+  written : jobsWritten laid length ≡ encodeJobs (found .round .jobs)
+  written =
+      let law = answered-round-is (laid .taskBytes) (size (laid .before)) (found .round) (found .is) in
+      rw (found .left, found .same-length) (take-at (encodeJobs (found .round .jobs)) _ _ (law .table-length))
+
+  -- and read back as its jobs
+  jobs-read : readJobs (jobsWritten laid length) ≡ answer (found .round .jobs)
+  jobs-read = rw written (answered-round-is (laid .taskBytes) (size (laid .before)) (found .round) (found .is) .reads-back)
+
+  same-jobs : (levelBytes : List ℕ) (site : Site) → ValidTables levelBytes (jobsWritten laid length) site → site .jobs ≡ found .round .jobs
+  unfolding readSite
+  same-jobs levelBytes site tables =
+      let (levels, levels-read, rest) = andThen-answered (readLevels levelBytes) _ tables in
+      let (jobs, read, rest) = andThen-answered (readJobs (jobsWritten laid length)) _ rest in
+      let same : siteOf levels jobs ≡ site = answer-injective rest in
+      ap (λ (s : Site). s .jobs) (sym same) ∙ answer-injective (sym read ∙ jobs-read)
+
+  repeats : (levelBytes : List ℕ) (site : Site) → ValidTables levelBytes (jobsWritten laid length) site
+      → (plan prices : List ℕ) → Accepted site plan prices → (r : ℕ) → Repeated laid multiple site plan prices r
+  repeats levelBytes site tables plan prices accepted r =
+      let same = same-jobs levelBytes site tables in
+      let round : Round = record { multiple = multiple; jobs = site .jobs } in
+      let e : found .round ≡ round = rw (found .same-multiple, same) in
+      rounds-that-repeat (laid .taskBytes) (size (laid .before)) round (found .is ∙ ap answer e) site (sites-are-valid _ _ site tables) refl plan prices accepted r
+
+pub repeated-rounds : RepeatedRounds
+repeated-rounds =
+    record {
+      planned = λ laid length multiple told call same site tables intervals steps energy is r.
+          repeats laid length multiple (answered-round laid length multiple told) (call .levelBytes) site (rw same at tables) _ _
+          (call .contract .best site tables intervals steps energy is .placed-and-priced) r;
+      checked = λ laid length multiple told levelBytes plan prices figure accepted site tables r.
+          repeats laid length multiple (answered-round laid length multiple told) levelBytes site tables plan prices
+          (check-accepts site plan prices figure .0 (sym (check-read levelBytes _ plan prices site tables) ∙ accepted) .0) r;
+      every-round = λ laid length multiple told levelBytes levels read.
+          (siteOf levels _, every-valid-table levelBytes (jobsWritten laid length) levels _ read (jobs-read laid length multiple (answered-round laid length multiple told)));
+      every-call = λ taskBytes before after answered contract. (
+        record { taskBytes = taskBytes; before = before; after = after; answered = answered; contract = contract },
+        refl,
+        refl,
+        refl,
+        refl,
+      );
+    }

@@ -1,0 +1,57 @@
+-- Rounds that repeat, over the calls themselves: tasks laid out by one call, planned by another, and the plan written run again
+-- and again. Document 02, Change 1: "Jobs are laid out over the least common multiple of the periods .., by release, then task
+-- number. For any number of repeats, the repeated plan is the least for the repeated jobs, table limits aside." Proved in
+-- proofs/RepeatedRounds.antt.
+use Prim.Native.Nat.{ℕ}
+use mathlib.Core.Path.{_≡_}
+use mathlib.Core.List.{List}
+use lib.ListN.{take}
+use Rattle.model.specs.declared.Level.{Level}
+use Rattle.model.specs.Outcome.{answer}
+use Rattle.model.specs.Levels.{readLevels}
+use Rattle.model.specs.Sites.{Site}
+use Rattle.model.specs.Checking.{check}
+use Rattle.model.specs.Demands.{ValidTables}
+use Rattle.planning.specs.declared.operation.PlanAnswer.the-variants.{Plan}
+use Rattle.rounds.specs.declared.operation.RoundsAnswer.{RoundsAnswer}
+use Rattle.rounds.specs.declared.operation.RoundsAnswer.the-variants.{LaidOut}
+use Rattle.rounds.specs.RoundAnswers.{RoundsContract}
+use Rattle.repeats.specs.RoundsThatRepeat.{RepeatedRound}
+use Rattle.demands.specs.ThreeDemands.{Call, planWritten, pricesWritten}
+
+-- One call that lays out a round: what it was lent, what it left there, and its answer, with the contract that holds of every
+-- call.
+pub record RoundsCall : Type 0 where
+  pub taskBytes : List ℕ
+  pub before : List ℕ
+  pub after : List ℕ
+  pub answered : RoundsAnswer
+  pub contract : RoundsContract taskBytes before after answered
+
+-- The job table that a call wrote where it answers this length.
+abbrev pub jobsWritten : RoundsCall → (length : ℕ) → List ℕ
+jobsWritten call length = take length (call .after)
+
+-- r repeats, one every `multiple` ticks, of a plan with its prices at a site that was read with a round's job table.
+abbrev pub Repeated : RoundsCall → (multiple : ℕ) → Site → (plan prices : List ℕ) → (r : ℕ) → Type 0
+Repeated laid multiple site plan prices r =
+    RepeatedRound (laid .taskBytes) (record { multiple = multiple; jobs = site .jobs }) site plan prices r
+
+pub record RepeatedRounds : Type 0 where
+  -- Tasks laid out, and the job table written planned: for every r the plan written is a least one for r repeats.
+  pub planned : (laid : RoundsCall) (length multiple : ℕ) → laid .answered ≡ LaidOut length multiple
+      → (call : Call) → call .jobBytes ≡ jobsWritten laid length
+      → (site : Site) → ValidTables (call .levelBytes) (call .jobBytes) site
+      → (intervals steps energy : ℕ) → call .answered ≡ Plan intervals steps energy
+      → (r : ℕ) → Repeated laid multiple site (planWritten call steps) (pricesWritten call intervals) r
+  -- And so is any plan that the check accepts with its prices for that job table, whoever made it.
+  pub checked : (laid : RoundsCall) (length multiple : ℕ) → laid .answered ≡ LaidOut length multiple
+      → (levelBytes plan prices : List ℕ) (figure : ℕ) → check levelBytes (jobsWritten laid length) plan prices ≡ answer figure
+      → (site : Site) → ValidTables levelBytes (jobsWritten laid length) site
+      → (r : ℕ) → Repeated laid multiple site plan prices r
+  -- The job table that was written is read with every level table that is read: these hypotheses shut no round out.
+  pub every-round : (laid : RoundsCall) (length multiple : ℕ) → laid .answered ≡ LaidOut length multiple
+      → (levelBytes : List ℕ) (levels : List Level) → readLevels levelBytes ≡ answer levels
+      → (site : Site) × ValidTables levelBytes (jobsWritten laid length) site
+  pub every-call : (taskBytes before after : List ℕ) (answered : RoundsAnswer) → RoundsContract taskBytes before after answered
+      → (laid : RoundsCall) × (laid .taskBytes ≡ taskBytes) × (laid .before ≡ before) × (laid .after ≡ after) × (laid .answered ≡ answered)
