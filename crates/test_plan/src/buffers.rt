@@ -8,7 +8,6 @@ pub(crate) const PRICE_ROOM: usize = 640;
 
 pub(crate) const SHARE_ROOM: usize = 8_130;
 
-pub(crate) const MARK: u8 = 165;
 // More than the most cycles of a job.
 pub(crate) const SHARE_MARK: u32 = 2_779_096_485;
 
@@ -40,18 +39,7 @@ pub(crate) fn within_numbers(length: usize, buffer: &[u32]) -> usize
     }
 }
 
-// Whether all bytes from a place on have the mark.
-pub(crate) fn bytes_kept(bytes: &[u8], start: usize) -> bool {
-    let mut i = start;
-    while i < bytes.len() {
-        if bytes[i] != MARK {
-            return false;
-        }
-        i += 1;
-    }
-    true
-}
-
+// Whether all numbers from a place on have the mark.
 pub(crate) fn numbers_kept(numbers: &[u32], start: usize) -> bool {
     let mut i = start;
     while i < numbers.len() {

@@ -2,7 +2,6 @@
 ghost use Prim.Native.Nat.{_≤_};
 ghost use lib.ListN.{length};
 use crate::buffers::Lengths;
-use crate::buffers::MARK;
 use crate::buffers::PLAN_ROOM;
 use crate::buffers::PRICE_ROOM;
 use crate::buffers::SHARE_MARK;
@@ -12,6 +11,7 @@ use crate::buffers::within_numbers;
 use crate::print;
 use crate::written;
 use planning::PlanAnswer;
+use test_support::buffers::MARK;
 use test_support::encode::ROOM;
 use test_support::encode::encode;
 use test_support::show;

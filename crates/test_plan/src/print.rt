@@ -1,8 +1,8 @@
 // Printing what planning and the check answer.
 use crate::buffers::Lengths;
-use crate::buffers::bytes_kept;
 use crate::buffers::numbers_kept;
 use audit::CheckAnswer;
+use test_support::buffers::kept;
 use test_support::show;
 
 pub(crate) fn plan(intervals: u32, energy: u64) {
@@ -31,8 +31,8 @@ pub(crate) fn checked(answer: CheckAnswer) {
 
 // Whether each buffer past what was written has the mark.
 pub(crate) fn rest(plan: &[u8], prices: &[u8], shares: &[u32], written: Lengths) {
-    let plan_kept = bytes_kept(plan, written.plan);
-    let prices_kept = bytes_kept(prices, written.prices);
+    let plan_kept = kept(plan, written.plan);
+    let prices_kept = kept(prices, written.prices);
     let shares_kept = numbers_kept(shares, written.shares);
     if plan_kept & prices_kept & shares_kept {
         show::words(b" rest kept");
