@@ -9,8 +9,7 @@
  * lists them. Fields that a case does not fill are 0.
  *
  * No function uses a heap or writable static data. The deepest stack that was measured, on x86-64, is 15 kB for planning, 10 kB
- * for checking, 5 kB for the spare and 2 kB for the setting (docs/BENCHMARK.md).
- * Rounds: to be measured. */
+ * for checking, 5 kB for the spare and 2 kB for the setting and for rounds (docs/BENCHMARK.md). */
 #ifndef RAMYEARLY_H
 #define RAMYEARLY_H
 
