@@ -7,6 +7,7 @@ pub mod RepeatedEnergy
 pub mod Repeats
 pub mod RisingLists
 pub mod OwnBounds
+pub mod OverfullRepeats
 pub mod LaidOutRepeats
 pub mod RoundsThatRepeat
 pub mod Samples
