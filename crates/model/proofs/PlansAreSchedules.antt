@@ -86,7 +86,11 @@ module _ (idlePower : ℕ) (levels : List Level) (jobs : List Job) (bounds : Lis
           (sum-cong (q * lengthOf bounds i) (λ u less. slot-power idlePower levels rising jobs (pointIn i u) (jobIn i u) (point-in u)))
           ∙ powers-add curve (band-in .1)
 
-      given-in : (u : ℕ) → u < q * lengthOf bounds i → IsGiven levels jobs (slotIn i u)
+      -- a slot that runs has a given level and a given job
+      pub given-in : (u : ℕ) → u < slotsPerTick (working (points idlePower levels)) * lengthOf bounds i
+          → IsGiven levels jobs (slotOfPoint
+          (pointNumber (points idlePower levels) (pointInSlot idlePower levels jobs bounds shares i u))
+          (jobInSlot idlePower levels jobs bounds shares i u))
       unfolding pointInSlot deliveredBefore jobInSlot load
       given-in u below =
           slot-given idlePower levels rising jobs (pointIn i u) (jobIn i u) (point-in u)
@@ -96,8 +100,11 @@ module _ (idlePower : ℕ) (levels : List Level) (jobs : List Job) (bounds : Lis
     positive : 0 < q
     positive = slots-positive curve
 
-    slot-found : (i u : ℕ) → i < intervalCount bounds → u < q * lengthOf bounds i
-        → slotOf idlePower levels jobs bounds shares (firstSlot q bounds i + u) ≡ slotIn i u
+    pub slot-found : (i u : ℕ) → i < intervalCount bounds → u < slotsPerTick (working (points idlePower levels)) * lengthOf bounds i
+        → slotOf idlePower levels jobs bounds shares (firstSlot (slotsPerTick (working (points idlePower levels))) bounds i + u)
+        ≡ slotOfPoint
+        (pointNumber (points idlePower levels) (pointInSlot idlePower levels jobs bounds shares i u))
+        (jobInSlot idlePower levels jobs bounds shares i u)
     unfolding slotOf intervalOfSlot
     slot-found i u inside below =
         let e : firstSlot q bounds i + u - firstSlot q bounds i ≡ u = omega arith in

@@ -18,7 +18,7 @@ use Rattle.model.specs.CarriedOut.{pointNumber, slotOfPoint}
 use Rattle.model.proofs.Search.{firstBelow-is}
 use Rattle.model.proofs.SumMore.{onlyIf-zero}
 use Rattle.model.proofs.Points.{points-length, points-level, frequencies-rise}
-use Rattle.model.proofs.Working.{Place, place}
+use Rattle.model.proofs.Working.{Place, place, first-place}
 
 -- the number of a working point is its place among all points
 number-is : (ps : List Point) → RisingPoints ps → {k i : ℕ} → Place ps k i → pointNumber ps k ≡ i
@@ -33,6 +33,10 @@ number-is ps rising {k} {i} found =
     other l before =
         ne-eqb (pointAt ps l .frequency) (frequencyOf (working ps) k)
         (λ e. omega (arith, same, frequencies-rise ps rising l i before (found .inside)))
+
+-- idling is the first of all points and the first working point
+pub idling-number : (ps : List Point) → RisingPoints ps → pointNumber ps 0 ≡ 0
+idling-number ps rising = number-is ps rising (first-place ps (omega (arith, rising .some)))
 
 module _ (idlePower : ℕ) (levels : List Level) where
   -- the slot of point number i

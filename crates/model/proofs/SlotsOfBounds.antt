@@ -30,7 +30,7 @@ module _ {jobs : List Job} {bounds : List ℕ} (B : Bounds jobs bounds) (q : ℕ
       rw ticks (omega arith)
 
   -- the slots of all intervals are those from earliest release to latest deadline
-  all-slots : firstSlot q bounds (intervalCount bounds) ≡ q * horizon jobs
+  pub all-slots : firstSlot q bounds (intervalCount bounds) ≡ q * horizon jobs
   unfolding horizon
   all-slots = rw (B .first, B .last)
 
