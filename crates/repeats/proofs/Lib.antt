@@ -4,6 +4,7 @@ pub mod Lists
 pub mod RepeatedBounds
 pub mod RepeatedShares
 pub mod RepeatedEnergy
+pub mod RunAgain
 pub mod Repeats
 pub mod RisingLists
 pub mod OwnBounds

@@ -128,13 +128,16 @@ module _ (site : Site) {H : ℕ} (R : Repeatable H (site .jobs) (site .bounds)) 
     abbrev RS : Shares
     RS = repeatShares H site shares
 
-    share-in : (k i j : ℕ) → i < N → j < n → RS (k * P + i) (k * n + j) ≡ shares i j
+    pub share-in : (k i j : ℕ) → i < intervalCount (site .bounds) → j < length (site .jobs)
+        → repeatShares H site shares (k * roundSize H (site .bounds) + i) (k * length (site .jobs) + j) ≡ shares i j
     unfolding repeatShares
     share-in k i j column job =
         let under : i < P = omega (arith, size-low R) in
         rw (row-at P k i under, column-at P k i under, row-at n k j job, column-at n k j job, eq-eqb k k refl, lt-ltb i N column)
 
-    share-other : (k i l j : ℕ) → i < P → j < n → (k ≡ l → i < N → ⊥) → RS (k * P + i) (l * n + j) ≡ 0
+    pub share-other : (k i l j : ℕ) → i < roundSize H (site .bounds) → j < length (site .jobs)
+        → (k ≡ l → i < intervalCount (site .bounds) → ⊥)
+        → repeatShares H site shares (k * roundSize H (site .bounds) + i) (l * length (site .jobs) + j) ≡ 0
     unfolding repeatShares
     share-other k i l j under job not-here =
         rw (row-at P k i under, column-at P k i under, row-at n l j job, column-at n l j job) (go (true-or-false (eqb k l)) (true-or-false (ltb i N)))

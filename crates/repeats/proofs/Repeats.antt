@@ -32,11 +32,13 @@ use Rattle.repeats.specs.Repeats.{
   repeatSite,
   energyOfRounds,
   RepeatsApart,
-  RoundsRepeat,
 }
+use Rattle.repeats.specs.RunAgain.{RunAgain}
+use Rattle.repeats.specs.RepeatedPlan.{RoundsRepeat}
 use Rattle.repeats.proofs.RepeatedBounds.{length-repeatJobs, Repeatable, releases-first, bounds-repeat}
 use Rattle.repeats.proofs.RepeatedShares.{gives-repeat, prices-repeat}
 use Rattle.repeats.proofs.RepeatedEnergy.{energy-repeats}
+use Rattle.repeats.proofs.RunAgain.{run-again, nothing-runs}
 
 -- a round of at least one job
 pub repeatable : {H : ℕ} {jobs : List Job} {bounds : List ℕ} → 0 < length jobs → ReleasesFirst jobs → Bounds jobs bounds → RepeatsApart H jobs
@@ -158,6 +160,18 @@ parts site sound B shares gives prices fitting H apart (suc more) = go (eq-zero-
           no-energy = λ empty. absurd (omega arith);
         }
 
+-- the plan of the one round, run again, is the repeated plan carried out
+runs-again : (site : Site) → SoundSite (site .processor .idlePower) (site .processor .levels) (site .jobs) → Bounds (site .jobs) (site .bounds)
+    → (shares : Shares) → Gives (topOf (site .processor)) (site .jobs) (site .bounds) shares
+    → (H : ℕ) → RepeatsApart H (site .jobs)
+    → (r : ℕ) → RunAgain H r site shares
+runs-again site sound B shares gives H apart zero = nothing-runs H 0 site shares (sound .rising) (omega arith)
+runs-again site sound B shares gives H apart (suc more) = go (eq-zero-or-pos (length (site .jobs)))
+  where
+    go : (length (site .jobs) ≡ 0) ⊎ (0 < length (site .jobs)) → RunAgain H (suc more) site shares
+    go (inl empty) = nothing-runs H (suc more) site shares (sound .rising) (rw empty (omega arith))
+    go (inr some) = run-again site (repeatable some (sound .ordered) B apart) more shares (sound .rising) gives
+
 pub rounds-repeat : RoundsRepeat
 rounds-repeat site sound B shares gives prices fitting H apart r =
     let all = parts site sound B shares gives prices fitting H apart r in
@@ -171,6 +185,7 @@ rounds-repeat site sound B shares gives prices fitting H apart r =
       gives = all .gives;
       fitting = all .fitting;
       carried-out = plans-are-schedules idlePower levels (repeated .jobs) sounds (repeated .bounds) (all .are-bounds) RS (all .gives);
+      run-again = runs-again site sound B shares gives H apart r;
       least = certificate idlePower levels (repeated .jobs) sounds (repeated .bounds) (all .are-bounds) RS (all .gives)
           (repeatPrices H (site .bounds) prices) (all .fitting);
       energy = all .energy;

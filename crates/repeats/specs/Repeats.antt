@@ -1,7 +1,5 @@
--- Rounds that repeat (document 02, Change 1): what r repeats of a site's round are, one every H ticks, and the theorem of
--- repeats. It holds for job lists and bounds of any size, whatever idling draws, and for every r: table limits aside.
-use Prim.Native.Nat.{ℕ, zero, suc, _+_, _-_, _*_, _/_, _%_, _<_, _≤_}
-use mathlib.Core.Path.{_≡_}
+-- Rounds that repeat (document 02, Change 1): what r repeats of a site's round are, one every H ticks.
+use Prim.Native.Nat.{ℕ, zero, suc, _+_, _-_, _*_, _/_, _%_, _≤_}
 use mathlib.Core.Bool.{cond, _&&_}
 use mathlib.Core.List.{List, []}
 use lib.ListN.{length}
@@ -10,15 +8,13 @@ use Rattle.model.specs.declared.Job.{Job}
 use Rattle.model.specs.Sum.{onlyIf}
 use Rattle.model.specs.Entries.{listOf}
 use Rattle.model.specs.Jobs.{jobOf}
-use Rattle.model.specs.Processors.{workingOf, topOf}
-use Rattle.model.specs.Intervals.{intervalCount, boundAt, earliestRelease, latestDeadline, Bounds}
+use Rattle.model.specs.Processors.{workingOf}
+use Rattle.model.specs.Intervals.{intervalCount, boundAt, earliestRelease, latestDeadline}
 use Rattle.model.specs.Sites.{Site}
-use Rattle.model.specs.Plans.{Shares, Gives}
-use Rattle.model.specs.Prices.{PriceList, FittingPrices}
+use Rattle.model.specs.Plans.{Shares}
+use Rattle.model.specs.Prices.{PriceList}
 use Rattle.model.specs.Energy.{exactEnergy}
-use Rattle.model.specs.Schedules.{Serves}
-use Rattle.model.specs.LeastEnergy.{SoundSite, CarriedOut}
-use Rattle.model.specs.Accepted.{ScheduleFor, powersFor, gapsOf}
+use Rattle.model.specs.Accepted.{gapsOf}
 
 -- A job some ticks later.
 abbrev pub laterBy : (ticks : ℕ) → Job → Job
@@ -71,43 +67,3 @@ energyOfRounds r site shares between = r * energyAt site shares + (r - 1) * (bet
 -- Repeats do not overlap: each ends, at the latest deadline, no later than the next one starts, at its earliest release.
 abbrev pub RepeatsApart : (H : ℕ) → List Job → Type 0
 RepeatsApart H jobs = latestDeadline jobs ≤ H + earliestRelease jobs
-
-module _ (H r : ℕ) (site : Site) (shares : Shares) (prices : PriceList) where
-  abbrev repeated : Site
-  repeated = repeatSite H r site
-
-  abbrev repeatedShares : Shares
-  repeatedShares = repeatShares H site shares
-
-  -- What holds of a plan, given by its shares, that is repeated r times.
-  pub record RepeatedPlan : Type 0 where
-    -- the bounds cut the time from the first repeat's earliest release to the last one's latest deadline, as the theory asks
-    pub bounds : Bounds (repeated .jobs) (repeated .bounds)
-    -- each job of each repeat has exactly its cycles between its own release and deadline, and no interval is loaded past
-    -- its length × top frequency
-    pub gives : Gives (topOf (repeated .processor)) (repeated .jobs) (repeated .bounds) repeatedShares
-    -- the repeated prices fit
-    pub fitting : FittingPrices (workingOf (repeated .processor)) (repeated .jobs) (repeated .bounds) repeatedShares
-        (repeatPrices H (site .bounds) prices)
-    -- carried out it is a schedule that meets all deadlines of all repeats, of equal exact energy
-    pub carried-out : CarriedOut (repeated .processor .idlePower) (repeated .processor .levels) (repeated .jobs) (repeated .bounds)
-        repeatedShares
-    -- no schedule over the same levels that meets all deadlines of all repeats, whatever its q, has less than its exact energy
-    pub least : (schedule : ScheduleFor repeated) → Serves schedule
-        → schedule .q * energyAt repeated repeatedShares ≤ gapsOf repeated * powersFor repeated schedule
-    -- its exact energy is that of the round for each repeat, and what idling draws in the ticks between each two of them
-    pub energy : 0 < length (site .jobs)
-        → (between : ℕ) → latestDeadline (site .jobs) + between ≡ H + earliestRelease (site .jobs)
-        → energyAt repeated repeatedShares ≡ energyOfRounds r site shares between
-    -- and 0 where there is no job
-    pub no-energy : length (site .jobs) ≡ 0 → energyAt repeated repeatedShares ≡ 0
-
--- The theorem of repeats, proved in proofs/Repeats.antt. A site as the theory asks, its bounds the jobs' own or with further
--- ones; a plan for one round and prices that fit it; repeats that do not overlap. Then the repeated plan is a least one.
-abbrev pub RoundsRepeat : Type 0
-RoundsRepeat =
-    (site : Site) → SoundSite (site .processor .idlePower) (site .processor .levels) (site .jobs) → Bounds (site .jobs) (site .bounds)
-    → (shares : Shares) → Gives (topOf (site .processor)) (site .jobs) (site .bounds) shares
-    → (prices : PriceList) → FittingPrices (workingOf (site .processor)) (site .jobs) (site .bounds) shares prices
-    → (H : ℕ) → RepeatsApart H (site .jobs)
-    → (r : ℕ) → RepeatedPlan H r site shares prices

@@ -15,7 +15,8 @@ use Rattle.tasks.specs.Tasks.{readTasks}
 use Rattle.tasks.specs.Multiples.{LeastCommonMultiple}
 use Rattle.tasks.specs.LaidOut.{layOut}
 use Rattle.tasks.specs.Rounds.{Round, rounds}
-use Rattle.repeats.specs.Repeats.{repeatJobs, RepeatedPlan}
+use Rattle.repeats.specs.Repeats.{repeatJobs}
+use Rattle.repeats.specs.RepeatedPlan.{RepeatedPlan}
 
 -- What holds of r repeats of a round that was laid out from a table of tasks, at a site whose plan is repeated with it.
 pub record RepeatedRound (taskBytes : List ℕ) (round : Round) (site : Site) (plan prices : List ℕ) (r : ℕ) : Type 0 where
@@ -29,6 +30,8 @@ pub record RepeatedRound (taskBytes : List ℕ) (round : Round) (site : Site) (p
   -- "the repeated plan is the least": it gives each of these jobs exactly its cycles between release and deadline; carried
   -- out it is a schedule that meets all deadlines; and no schedule over the same levels that meets all deadlines, whatever
   -- whole number of slots it cuts a tick into, has less than its exact energy. What this energy is stands there too.
+  -- "One plan will then run for weeks": the kernel loads this one plan, runs it again whenever the multiple has passed, and
+  -- idles in between. Slot by slot that is the repeated plan carried out: `run-again` says it.
   pub repeated-plan : RepeatedPlan (round .multiple) r site (sharesOf plan) (pricesOf prices)
 
 -- Tasks laid out, planned, repeated: a round answered for the bytes of a task table; a site with the round's jobs, whatever
