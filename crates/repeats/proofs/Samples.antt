@@ -4,17 +4,21 @@ use mathlib.Core.Path.{_≡_, refl}
 use mathlib.Core.List.{List, [], _∷_}
 use Prim.Native.Nat.{ℕ, _+_, _*_}
 use Rattle.model.specs.Sum.{sum, product}
-use Rattle.model.specs.Search.{someBelow}
+use Rattle.model.specs.Search.{someBelow, firstFrom}
 use Rattle.model.specs.Entries.{listOf, joined}
 use Rattle.model.specs.Points.{points, drops, dropped, selectFrom, working}
 use Rattle.model.specs.Bands.{gap, rise, scale, price}
 use Rattle.model.specs.Intervals.{insertTime, boundsOf, lengthOf}
+use Rattle.model.specs.Setting.{bandOf, settingOf}
 use Rattle.model.specs.Sites.{Site}
 use Rattle.model.specs.Plans.{Shares, sharesIn, load}
 use Rattle.model.specs.Energy.{bandCycles, intervalEnergy, exactEnergy}
+use Rattle.model.specs.Schedules.{Slot, idles, runs}
+use Rattle.model.specs.CarriedOut.{slotsPerTick, pointNumber, pointInSlot, deliveredBefore, jobInSlot, intervalOfSlot, slotOf}
 use Rattle.tasks.specs.declared.Task.{Task}
 use Rattle.tasks.specs.LaidOut.{layOut, jobsAt, releasedBy, releasesAt}
 use Rattle.repeats.specs.Repeats.{repeatJobs, roundSize, repeatBounds, repeatShares, repeatPrices, repeatSite, energyAt, energyOfRounds}
+use Rattle.repeats.specs.RunAgain.{slotAt}
 
 -- rounds from 0 to 2, every 2 ticks: the last bound of one is the first of the next
 joined-rounds : repeatBounds 2 (0 ∷ 1 ∷ 2 ∷ []) 3 ≡ 0 ∷ 1 ∷ 2 ∷ 3 ∷ 4 ∷ 5 ∷ 6 ∷ []
@@ -83,6 +87,22 @@ energies : (energyAt (repeatSite 5 3 (twoJobs 0)) (repeatShares 5 (twoJobs 0) tw
     × (energyOfRounds 3 (twoJobs 10) twoShares 2 ≡ 4 * (3 * 600 + 2 * 20))
 unfolding repeatJobs repeatBounds repeatShares roundSize listOf sum product someBelow points drops dropped selectFrom working gap rise scale price lengthOf load bandCycles intervalEnergy exactEnergy
 energies = (refl, refl, refl, refl)
+
+-- A tick is cut into 2 × 4 × 2 × 2 slots, a round has 3 ticks. Slot 64 starts the second interval. In the second repeat it is
+-- slot 5 × 32 + 64, the second job having number 3; from slot 5 × 32 + 96 on the processor idles up to the third repeat.
+abbrev repeatedSlot : (slot : ℕ) → Slot
+repeatedSlot = slotAt (repeatSite 5 3 (twoJobs 0)) (repeatShares 5 (twoJobs 0) twoShares)
+
+slots : (slotAt (twoJobs 0) twoShares 63 ≡ runs 0 0)
+    × (slotAt (twoJobs 0) twoShares 64 ≡ runs 0 1)
+    × (repeatedSlot (160 + 63) ≡ runs 0 2)
+    × (repeatedSlot (160 + 64) ≡ runs 0 3)
+    × (repeatedSlot (160 + 95) ≡ runs 0 3)
+    × (repeatedSlot (160 + 96) ≡ idles)
+    × (repeatedSlot (160 + 159) ≡ idles)
+    × (repeatedSlot (160 + 160) ≡ runs 0 4)
+unfolding repeatJobs repeatBounds repeatShares roundSize listOf sum product someBelow firstFrom points drops dropped selectFrom working gap scale lengthOf load bandOf settingOf slotsPerTick pointNumber pointInSlot deliveredBefore jobInSlot intervalOfSlot slotOf
+slots = (refl, refl, refl, refl, refl, refl, refl, refl)
 
 -- two tasks, of periods 4 and 6, in twice 12 ticks
 abbrev twoTasks : List Task
