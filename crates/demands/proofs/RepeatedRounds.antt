@@ -1,25 +1,31 @@
 -- Rounds repeat, over the calls themselves.
 -- Assumes nothing.
 use mathlib.Core.Path.{_≡_, refl, sym, _∙_, ap}
+use mathlib.Core.Bool.{true}
 use mathlib.Core.List.{List, _++_}
-use Prim.Native.Nat.{ℕ, _*_, _+_}
+use Prim.Native.Nat.{ℕ, _*_, _-_, _<_}
 use native.Mathlib.Omega.{arith}
 use lib.ListN.{length as size, take, drop}
 use lib.Seq.{take-at}
+use borrow.Author.Tests.{lt-ltb}
+use Rattle.model.specs.declared.Job.{Job}
 use Rattle.model.specs.Outcome.{Outcome, refused, answer}
 use Rattle.model.specs.Levels.{readLevels}
 use Rattle.model.specs.Jobs.{readJobs, encodeJobs}
+use Rattle.model.specs.Processors.{topOf}
 use Rattle.model.specs.Sites.{Site, siteOf, readSite}
+use Rattle.model.specs.Windows.{cyclesInside, isOverfull}
 use Rattle.model.specs.Accepted.{Accepted}
 use Rattle.model.specs.Demands.{ValidTables}
 use Rattle.model.proofs.Outcome.{andThen-answered, answer-injective}
-use Rattle.model.proofs.Sites.{sites-are-valid}
+use Rattle.model.proofs.Sites.{sites-are-valid, sound-site}
 use Rattle.model.proofs.Accepted.{check-accepts, check-read}
 use Rattle.model.proofs.Hypotheses.{every-valid-table}
 use Rattle.tasks.specs.Rounds.{Round, tableLength, rounds, bufferAfter}
 use Rattle.tasks.proofs.Rounds.{answered-round-is}
 use Rattle.rounds.specs.declared.operation.RoundsAnswer.the-variants.{LaidOut}
 use Rattle.rounds.specs.RoundAnswers.{roundsAnswer}
+use Rattle.repeats.proofs.OverfullRepeats.{overfull-repeats}
 use Rattle.repeats.proofs.RoundsThatRepeat.{rounds-that-repeat}
 use Rattle.demands.specs.RepeatedRounds.{RoundsCall, jobsWritten, Repeated, RepeatedRounds}
 
@@ -66,6 +72,11 @@ module _ (laid : RoundsCall) (length multiple : ℕ) (found : Answered laid leng
       let e : found .round ≡ round = rw (found .same-multiple, same) in
       rounds-that-repeat (laid .taskBytes) (size (laid .before)) round (found .is ∙ ap answer e) site (sites-are-valid _ _ site tables) refl plan prices accepted r
 
+-- a window whose own jobs need more than the top frequency gives there is overfull
+needs-more : (top : ℕ) (jobs : List Job) (start end : ℕ) → (end - start) * top < cyclesInside jobs start end → isOverfull top jobs start end ≡ true
+unfolding isOverfull
+needs-more top jobs start end more = lt-ltb _ _ more
+
 pub repeated-rounds : RepeatedRounds
 repeated-rounds =
     record {
@@ -75,6 +86,9 @@ repeated-rounds =
       checked = λ laid length multiple told levelBytes plan prices figure accepted site tables r.
           repeats laid length multiple (answered-round laid length multiple told) levelBytes site tables plan prices
           (check-accepts site plan prices figure .0 (sym (check-read levelBytes _ plan prices site tables) ∙ accepted) .0) r;
+      overfull = λ laid length multiple told call same site tables start end spare is r some.
+          overfull-repeats site (sound-site (sites-are-valid _ _ site tables)) start end
+          (needs-more (topOf (site .processor)) (site .jobs) start end (call .contract .window site tables start end spare is .needs-more)) multiple r some;
       every-round = λ laid length multiple told levelBytes levels read.
           (siteOf levels _, every-valid-table levelBytes (jobsWritten laid length) levels _ read (jobs-read laid length multiple (answered-round laid length multiple told)));
       every-call = λ taskBytes before after answered contract. (

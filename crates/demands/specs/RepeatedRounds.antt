@@ -2,20 +2,24 @@
 -- and again. Document 02, Change 1: "Jobs are laid out over the least common multiple of the periods .., by release, then task
 -- number. For any number of repeats, the repeated plan is the least for the repeated jobs, table limits aside." Proved in
 -- proofs/RepeatedRounds.antt.
-use Prim.Native.Nat.{ℕ}
+use Prim.Native.Nat.{ℕ, _<_}
 use mathlib.Core.Path.{_≡_}
 use mathlib.Core.List.{List}
 use lib.ListN.{take}
+use lib.IntN.{ℤ}
 use Rattle.model.specs.declared.Level.{Level}
 use Rattle.model.specs.Outcome.{answer}
 use Rattle.model.specs.Levels.{readLevels}
 use Rattle.model.specs.Sites.{Site}
+use Rattle.model.specs.Schedules.{Serves}
 use Rattle.model.specs.Checking.{check}
+use Rattle.model.specs.Accepted.{ScheduleFor}
 use Rattle.model.specs.Demands.{ValidTables}
-use Rattle.planning.specs.declared.operation.PlanAnswer.the-variants.{Plan}
+use Rattle.planning.specs.declared.operation.PlanAnswer.the-variants.{Plan, Overfull}
 use Rattle.rounds.specs.declared.operation.RoundsAnswer.{RoundsAnswer}
 use Rattle.rounds.specs.declared.operation.RoundsAnswer.the-variants.{LaidOut}
 use Rattle.rounds.specs.RoundAnswers.{RoundsContract}
+use Rattle.repeats.specs.Repeats.{repeatSite}
 use Rattle.repeats.specs.RoundsThatRepeat.{RepeatedRound}
 use Rattle.demands.specs.ThreeDemands.{Call, planWritten, pricesWritten}
 
@@ -49,6 +53,12 @@ pub record RepeatedRounds : Type 0 where
       → (levelBytes plan prices : List ℕ) (figure : ℕ) → check levelBytes (jobsWritten laid length) plan prices ≡ answer figure
       → (site : Site) → ValidTables levelBytes (jobsWritten laid length) site
       → (r : ℕ) → Repeated laid multiple site plan prices r
+  -- Where planning answers an overfull window, repeating does not help: no schedule meets all deadlines of one or more repeats.
+  pub overfull : (laid : RoundsCall) (length multiple : ℕ) → laid .answered ≡ LaidOut length multiple
+      → (call : Call) → call .jobBytes ≡ jobsWritten laid length
+      → (site : Site) → ValidTables (call .levelBytes) (call .jobBytes) site
+      → (start end : ℕ) (spare : ℤ) → call .answered ≡ Overfull start end spare
+      → (r : ℕ) → 0 < r → (schedule : ScheduleFor (repeatSite multiple r site)) → Serves schedule → ⊥
   -- The job table that was written is read with every level table that is read: these hypotheses shut no round out.
   pub every-round : (laid : RoundsCall) (length multiple : ℕ) → laid .answered ≡ LaidOut length multiple
       → (levelBytes : List ℕ) (levels : List Level) → readLevels levelBytes ≡ answer levels
