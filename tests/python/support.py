@@ -15,6 +15,16 @@ PAIR = bytes.fromhex("0200 0200 0400 0a00 1400")
 TWO_JOBS = bytes.fromhex("0200 00000000 04000000 02000000 03000000 06000000 04000000")
 PLAN = bytes.fromhex("0300 0300 0000 4100 8000 04000000 04000000 02000000")
 PRICES = bytes.fromhex("0300 02000000 03000000 04000000 01 02 01")
+LISTING = """\
+sizes 2 3 3
+span 0 2 4 1 4 2 1
+span 2 3 4 2 2 2 2
+span 3 4 2 1 2 2 1
+step 0 0 4
+step 1 1 4
+step 2 0 2
+energy 2200
+"""
 
 
 def write(path, content):

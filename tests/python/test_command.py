@@ -7,18 +7,7 @@ import sys
 import unittest
 
 from ramyearly import command
-from support import PACKAGES, PAIR, PLAN, PRICES, TWO_JOBS, InFolder, read
-
-LISTING = """\
-sizes 2 3 3
-span 0 2 4 1 4 2 1
-span 2 3 4 2 2 2 2
-span 3 4 2 1 2 2 1
-step 0 0 4
-step 1 1 4
-step 2 0 2
-energy 2200
-"""
+from support import LISTING, PACKAGES, PAIR, PLAN, PRICES, TWO_JOBS, InFolder, read
 
 
 class Verbs(InFolder):

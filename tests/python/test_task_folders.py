@@ -5,23 +5,13 @@ import shutil
 import unittest
 
 from ramyearly import tables
-from support import PAIR, ROOT, InFolder, read, write
+from support import LISTING, PAIR, ROOT, InFolder, read, write
 
+# One round of these tasks is document 01's example.
 LEVELS = "2 10\n4 20\n"
 TASKS = "# phase, period, deadline, cycles\n0 4 4 6\n\n2 4 1 4\n"
 TASK_BYTES = bytes.fromhex("0200 00000000 04000000 02000000 04000000 04000000 06000000 01000000 04000000")
 JOBS = "0 4 6\n2 3 4\n"
-# Document 01's example, which is one round of these tasks.
-LISTING = """\
-sizes 2 3 3
-span 0 2 4 1 4 2 1
-span 2 3 4 2 2 2 2
-span 3 4 2 1 2 2 1
-step 0 0 4
-step 1 1 4
-step 2 0 2
-energy 2200
-"""
 FORMS = {
     "tasks_txt": TASKS,
     "tasks_csv": b"\xef\xbb\xbfphase,period,deadline,cycles\r\n0,4,4,6\r\n2,4,1,4\r\n",

@@ -10,7 +10,7 @@ use lib.ListN.{length}
 use Rattle.model.proofs.Divides.{multiples-apart}
 use Rattle.tasks.specs.declared.Task.{Task}
 use Rattle.tasks.specs.Tasks.{taskOf, ValidTasks}
-use Rattle.tasks.specs.Multiples.{maxMultiple, multipleOf, CommonMultiple}
+use Rattle.tasks.specs.Multiples.{maxMultiple, multipleOf}
 use Rattle.tasks.proofs.Multiples.{least-divides, least-is-multiple, multiple-is-least}
 use Rattle.rounds.specs.FoundMultiples.{CommonFound, MultipleFound}
 

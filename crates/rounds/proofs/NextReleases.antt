@@ -1,20 +1,19 @@
 -- Laws of the next releases: the first ones, those after a tick, and that nothing is released before the earliest.
 -- Assumes nothing.
-use mathlib.Core.Path.{_≡_, refl, _∙_, sym}
-use mathlib.Core.Bool.{Bool, true, false, cond, _&&_}
+use mathlib.Core.Path.{_≡_, _∙_}
+use mathlib.Core.Bool.{true, false}
 use mathlib.Core.Logic.{_⊎_, inl, inr}
-use mathlib.Core.List.{List, [], _∷_, _++_}
-use Prim.Native.Nat.{ℕ, zero, suc, _+_, _-_, _*_, _%_, _<_, _≤_, _∣_}
+use mathlib.Core.List.{List, [], _∷_}
+use Prim.Native.Nat.{ℕ, _+_, _-_, _<_, _≤_, _∣_}
 use native.Mathlib.Nat.{eq-or-lt-of-le, dvd-of-mod-eq-zero, mod-eq-zero-of-dvd, dvd-add, dvd-refl, dvd-zero}
 use native.Mathlib.Omega.{arith}
-use lib.Dec.{leb, eqb}
+use lib.Dec.{leb}
 use lib.ListN.{length, getD, set, replicate, length-set, length-replicate}
 use lib.Seq.{getD-set-same, getD-set-other}
-use borrow.Author.Tests.{le-leb, lt-leb, eq-eqb, leb-true, eqb-true}
-use Rattle.model.specs.declared.Job.{Job}
+use borrow.Author.Tests.{le-leb, eq-eqb, leb-true, eqb-true}
 use Rattle.model.specs.Entries.{joined}
-use Rattle.model.proofs.Joined.{joined-shorter, joined-next, joined-cong}
-use Rattle.model.proofs.Numbers.{lt-or-le, true-or-false, true≢false, both-true}
+use Rattle.model.proofs.Joined.{joined-shorter}
+use Rattle.model.proofs.Numbers.{lt-or-le, true-or-false, both-true}
 use Rattle.model.proofs.Divides.{multiples-apart}
 use Rattle.tasks.specs.declared.Task.{Task}
 use Rattle.tasks.specs.Tasks.{maxTasks, taskOf}

@@ -1,13 +1,13 @@
 -- Laws of the operation's answer, one for each way out.
 -- Assumes nothing.
-use mathlib.Core.Path.{_≡_, refl, sym, _∙_, ap}
+use mathlib.Core.Path.{_≡_, refl, sym}
 use mathlib.Core.List.{List, _++_}
 use Prim.Native.Nat.{ℕ, _+_, _*_, _<_, _≤_}
 use native.Mathlib.Omega.{arith}
 use lib.ListN.{length, drop, replicate}
 use borrow.Author.Tests.{lt-ltb, le-ltb}
 use Rattle.model.specs.Limits.{maxJobs}
-use Rattle.model.specs.Outcome.{Outcome, refused, answer}
+use Rattle.model.specs.Outcome.{refused, answer}
 use Rattle.model.specs.Jobs.{encodeJobs}
 use Rattle.tables.specs.Tables.{jobsIn, readingOf}
 use Rattle.tables.specs.declared.Reading.the-variants.{Refused as NotRead}
@@ -16,13 +16,13 @@ use Rattle.tasks.specs.declared.Task.{Task}
 use Rattle.tasks.specs.Tasks.{taskEntries, readTasks}
 use Rattle.tasks.specs.Multiples.{maxMultiple, multipleOf}
 use Rattle.tasks.specs.LaidOut.{layOut}
-use Rattle.tasks.specs.Rounds.{Round, roundOf, tableLength, rounds, bufferAfter}
+use Rattle.tasks.specs.Rounds.{roundOf, rounds}
 use Rattle.tasks.proofs.Multiples.{multiple-is-least}
 use Rattle.rounds.specs.declared.operation.RoundsAnswer.the-variants.{LaidOut, Refused}
 use Rattle.rounds.specs.TaskBytes.{TasksRead, RoundRead}
 use Rattle.rounds.specs.FoundMultiples.{MultipleFound}
 use Rattle.rounds.specs.ListedJobs.{JobArrays, RoundListed}
-use Rattle.rounds.specs.RoundAnswers.{roundsAnswer, RoundsContract}
+use Rattle.rounds.specs.RoundAnswers.{RoundsContract}
 
 -- arrays of zeros
 pub empty-arrays : JobArrays (replicate maxJobs 0) (replicate maxJobs 0) (replicate maxJobs 0)

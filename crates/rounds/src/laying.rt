@@ -1,9 +1,7 @@
 // Laying out the jobs of a round, by release and then task number. For each task the tick of its next release is kept; the
 // earliest of these is the next tick at which jobs are released.
-ghost use mathlib.Core.Path.{_≡_};
 ghost use mathlib.Core.List.{List, _++_};
-ghost use Prim.Native.Nat.{ℕ, _+_, _<_, _≤_};
-ghost use lib.ListN.{getD};
+ghost use Prim.Native.Nat.{_+_, _<_, _≤_};
 ghost use Rattle.model.specs.declared.Job.{Job};
 ghost use Rattle.model.specs.Limits.{maxJobs};
 ghost use Rattle.tasks.specs.Tasks.{maxTasks, taskEntries};

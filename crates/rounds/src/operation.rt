@@ -1,9 +1,7 @@
 // The operation: from a task table's bytes to a job table in the lent buffer.
-ghost use mathlib.Core.Path.{_≡_};
 ghost use lib.ListN.{length};
-ghost use Rattle.tasks.specs.Rounds.{rounds as roundsOf, bufferAfter};
 ghost use Rattle.rounds.specs.TaskBytes.{TasksRead};
-ghost use Rattle.rounds.specs.RoundAnswers.{roundsAnswer, RoundsContract};
+ghost use Rattle.rounds.specs.RoundAnswers.{RoundsContract};
 use crate::laying::lay_out;
 use crate::multiple::multiple_of;
 use crate::reading::read_tasks;

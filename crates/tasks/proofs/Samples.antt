@@ -2,17 +2,15 @@
 -- Assumes nothing.
 use mathlib.Core.Path.{_≡_, refl}
 use mathlib.Core.List.{List, [], _∷_}
-use Prim.Native.Nat.{ℕ, _+_, _*_}
-use Rattle.model.specs.declared.Job.{Job}
 use Rattle.model.specs.Bytes.{numberAt, bytesOf}
 use Rattle.model.specs.Entries.{listOf, joined, encodeEach}
-use Rattle.model.specs.Outcome.{Outcome, answer, refused, byEntryFrom}
+use Rattle.model.specs.Outcome.{answer, refused, byEntryFrom}
 use Rattle.model.specs.Search.{firstFrom}
 use Rattle.tasks.specs.declared.Task.{Task}
 use Rattle.tasks.specs.Tasks.{readTasks, encodeTasks, taskAt, faultOfTask}
 use Rattle.tasks.specs.Multiples.{multipleOf, periodProduct, isCommonMultiple}
 use Rattle.tasks.specs.LaidOut.{layOut, jobsAt, releasedBy, releasesAt}
-use Rattle.tasks.specs.Rounds.{Round, rounds}
+use Rattle.tasks.specs.Rounds.{rounds}
 
 abbrev two : List Task
 two = record { phase = 1; period = 4; deadline = 2; cycles = 7 } ∷ record { phase = 0; period = 6; deadline = 1; cycles = 5 } ∷ []

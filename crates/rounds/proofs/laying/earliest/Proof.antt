@@ -1,6 +1,6 @@
 -- `laying::earliest` meets its contract. The loop's invariant: the earliest of the first `i` next releases and of the end
 -- was found. Assumes nothing.
-use Prim.Native.Nat.{ℕ, _+_, _-_, _<_, _≤_}
+use Prim.Native.Nat.{_-_, _≤_}
 use mathlib.Core.Path.{_≡_}
 use mathlib.Core.Logic.{⊎-elim}
 use Rattle.rounds.specs.NextReleases.{Earliest}

@@ -1,9 +1,7 @@
 -- `laying::lay_out` meets its contract. The loop's invariant: all jobs that are released before the tick are listed
 -- (proofs/TickByTick.antt). Assumes nothing.
-use mathlib.Core.Path.{_≡_}
 use mathlib.Core.List.{List}
 use Prim.Native.Nat.{ℕ, _-_, _<_}
-use borrow.Author.Needs.{needs}
 use denote.Ref.{now}
 use lib.ListN.{length}
 use Rattle.tasks.specs.Tasks.{taskEntries}

@@ -4,7 +4,6 @@ use mathlib.Core.List.{List}
 use denote.Ref.{now}
 use Prim.Native.Nat.{ℕ, _+_, _*_}
 use Rattle.model.specs.Bytes.{number32}
-use Rattle.tasks.specs.declared.Task.{Task}
 use Rattle.tasks.specs.Tasks.{taskCount, taskAt}
 use borrow.Author.Needs.{needs}
 use Rattle.rounds.proofs.reading.task_at.Statement.{statement}

@@ -1,8 +1,8 @@
 -- `reading::task_fault` meets its contract. Each way out rests on the tests that led there. Assumes nothing.
 use mathlib.Core.Path.{_≡_, sym}
-use mathlib.Core.Bool.{Bool, true, false, _||_, cond}
+use mathlib.Core.Bool.{true, false, cond}
 use mathlib.Core.Logic.{_⊎_, inl, inr}
-use Prim.Native.Nat.{ℕ, _+_, _<_, _≤_}
+use Prim.Native.Nat.{ℕ}
 use native.Mathlib.Omega.{arith}
 use Rattle.model.proofs.Numbers.{true-or-false}
 use Rattle.tasks.specs.declared.Task.{Task}
