@@ -12,7 +12,9 @@ use Rattle.model.specs.Entries.{listOf, encodeEach}
 use Rattle.model.specs.Jobs.{encodeJobs}
 use Rattle.model.proofs.Bytes.{length-bytesOf}
 use Rattle.model.proofs.Entries.{length-listOf, length-encodeEach}
+use Rattle.model.proofs.Jobs.{length-encodeJobs}
 use Rattle.tables.specs.Tables.{jobsIn}
+use Rattle.tables.proofs.Read.{length-jobsIn}
 use Rattle.writing.specs.JobBytes.{windowBytes, jobCycleBytes}
 use Rattle.writing.proofs.Stores.{sets-after, sets-front}
 use Rattle.writing.proofs.NumberStores.{numbers-none, length-numbers, numbers-next, numbers-whole}
@@ -64,9 +66,6 @@ module _ (count : ℕ) (releases deadlines cycles : List ℕ) where
   length-windows : length (windowBytes count releases deadlines) ≡ 8 * count
   length-windows = rw (length-encodeEach (window releases deadlines) 8 (length-window releases deadlines), length-listOf)
 
-  length-cycles : length (jobCycleBytes count cycles) ≡ 4 * count
-  length-cycles = rw (length-encodeEach bytes32 4 (length-bytesOf 4), length-listOf)
-
   -- the parts of the table are those of its jobs
   table-parts : encodeJobs (jobsIn count releases deadlines cycles) ≡ bytes16 count ++ (windowBytes count releases deadlines ++ jobCycleBytes count cycles)
   unfolding encodeJobs jobsIn
@@ -79,7 +78,7 @@ module _ (count : ℕ) (releases deadlines cycles : List ℕ) where
       )
 
   length-table : length (encodeJobs (jobsIn count releases deadlines cycles)) ≡ 2 + 12 * count
-  length-table = rw table-parts (simp (length-append, length-bytesOf) (omega (arith, length-windows, length-cycles)))
+  length-table = rw (length-encodeJobs, length-jobsIn)
 
   -- the count, the windows and the cycles one after another
   pub whole-job-table : (before first second after : List ℕ) → 2 + 12 * count ≤ length before
