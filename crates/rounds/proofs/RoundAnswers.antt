@@ -32,8 +32,7 @@ empty-arrays = record { releases-room = refl; deadlines-room = refl; cycles-room
 pub round-read : (bytes : List ℕ) (count : ℕ) → TasksRead bytes count → (multiple : ℕ) → MultipleFound (taskEntries bytes) multiple
     → multiple ≤ maxMultiple → RoundRead bytes count multiple
 round-read bytes count read multiple found small =
-    let is = found .exact small in
-    record { tasks-read = read; multiple-is = is; least = rw is (multiple-is-least (taskEntries bytes) (read .valid)); small = small }
+    record { tasks-read = read; least = rw (found .exact small) (multiple-is-least (taskEntries bytes) (read .valid)); small = small }
 
 module _ (bytes before : List ℕ) where
   -- an outcome that is a refusal

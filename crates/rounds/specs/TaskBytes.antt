@@ -5,7 +5,7 @@ use mathlib.Core.List.{List}
 use lib.ListN.{length}
 use Rattle.model.specs.Outcome.{answer}
 use Rattle.tasks.specs.Tasks.{maxTasks, taskCount, taskEntries, readTasks, ValidTasks}
-use Rattle.tasks.specs.Multiples.{maxMultiple, multipleOf, LeastCommonMultiple}
+use Rattle.tasks.specs.Multiples.{maxMultiple, LeastCommonMultiple}
 
 -- Bytes as long as their number of tasks asks for.
 pub record TaskBytes (bytes : List ℕ) (count : ℕ) : Type 0 where
@@ -22,6 +22,5 @@ pub record TasksRead (bytes : List ℕ) (count : ℕ) : Type 0 where
 -- A table that was read, with the multiple of its periods, which is not above the limit.
 pub record RoundRead (bytes : List ℕ) (count multiple : ℕ) : Type 0 where
   pub tasks-read : TasksRead bytes count
-  pub multiple-is : multiple ≡ multipleOf (taskEntries bytes)
   pub least : LeastCommonMultiple (taskEntries bytes) multiple
   pub small : multiple ≤ maxMultiple
