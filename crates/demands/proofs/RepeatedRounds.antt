@@ -27,17 +27,17 @@ use Rattle.rounds.specs.declared.operation.RoundsAnswer.the-variants.{LaidOut}
 use Rattle.rounds.specs.RoundAnswers.{roundsAnswer}
 use Rattle.repeats.proofs.OverfullRepeats.{overfull-repeats}
 use Rattle.repeats.proofs.RoundsThatRepeat.{rounds-that-repeat}
-use Rattle.demands.specs.RepeatedRounds.{RoundsCall, jobsWritten, Repeated, RepeatedRounds}
+use Rattle.demands.specs.RepeatedRounds.{LayOutCall, jobsWritten, Repeated, RepeatedRounds}
 
 -- The round that a call answered.
-record Answered (laid : RoundsCall) (length multiple : ℕ) : Type 0 where
+record Answered (laid : LayOutCall) (length multiple : ℕ) : Type 0 where
   round : Round
   is : rounds (laid .taskBytes) (size (laid .before)) ≡ answer round
   same-length : length ≡ tableLength (round .jobs)
   same-multiple : multiple ≡ round .multiple
   left : laid .after ≡ encodeJobs (round .jobs) ++ drop (tableLength (round .jobs)) (laid .before)
 
-answered-round : (laid : RoundsCall) (length multiple : ℕ) → laid .answered ≡ LaidOut length multiple → Answered laid length multiple
+answered-round : (laid : LayOutCall) (length multiple : ℕ) → laid .answered ≡ LaidOut length multiple → Answered laid length multiple
 answered-round laid length multiple told = go (rounds (laid .taskBytes) (size (laid .before))) refl (sym told ∙ laid .contract .answer-is) (laid .contract .buffer-is)
   where
     go : (outcome : Outcome Round) → rounds (laid .taskBytes) (size (laid .before)) ≡ outcome → LaidOut length multiple ≡ roundsAnswer outcome
@@ -45,7 +45,7 @@ answered-round laid length multiple told = go (rounds (laid .taskBytes) (size (l
     go (refused number place) is told left = let z : _≡_ {A = ℕ} 0 1 = cc told in absurd (omega (arith, z))
     go (answer round) is told left = record { round = round; is = is; same-length = cc told; same-multiple = cc told; left = left }
 
-module _ (laid : RoundsCall) (length multiple : ℕ) (found : Answered laid length multiple) where
+module _ (laid : LayOutCall) (length multiple : ℕ) (found : Answered laid length multiple) where
   -- the bytes written are the round's job table
   written : jobsWritten laid length ≡ encodeJobs (found .round .jobs)
   written =

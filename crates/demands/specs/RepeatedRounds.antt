@@ -25,7 +25,7 @@ use Rattle.demands.specs.ThreeDemands.{Call, planWritten, pricesWritten}
 
 -- One call that lays out a round: what it was lent, what it left there, and its answer, with the contract that holds of every
 -- call.
-pub record RoundsCall : Type 0 where
+pub record LayOutCall : Type 0 where
   pub taskBytes : List ℕ
   pub before : List ℕ
   pub after : List ℕ
@@ -33,35 +33,35 @@ pub record RoundsCall : Type 0 where
   pub contract : RoundsContract taskBytes before after answered
 
 -- The job table that a call wrote where it answers this length.
-abbrev pub jobsWritten : RoundsCall → (length : ℕ) → List ℕ
+abbrev pub jobsWritten : LayOutCall → (length : ℕ) → List ℕ
 jobsWritten call length = take length (call .after)
 
 -- r repeats, one every `multiple` ticks, of a plan with its prices at a site that was read with a round's job table.
-abbrev pub Repeated : RoundsCall → (multiple : ℕ) → Site → (plan prices : List ℕ) → (r : ℕ) → Type 0
+abbrev pub Repeated : LayOutCall → (multiple : ℕ) → Site → (plan prices : List ℕ) → (r : ℕ) → Type 0
 Repeated laid multiple site plan prices r =
     RepeatedRound (laid .taskBytes) (record { multiple = multiple; jobs = site .jobs }) site plan prices r
 
 pub record RepeatedRounds : Type 0 where
   -- Tasks laid out, and the job table written planned: for every r the plan written is a least one for r repeats.
-  pub planned : (laid : RoundsCall) (length multiple : ℕ) → laid .answered ≡ LaidOut length multiple
+  pub planned : (laid : LayOutCall) (length multiple : ℕ) → laid .answered ≡ LaidOut length multiple
       → (call : Call) → call .jobBytes ≡ jobsWritten laid length
       → (site : Site) → ValidTables (call .levelBytes) (call .jobBytes) site
       → (intervals steps energy : ℕ) → call .answered ≡ Plan intervals steps energy
       → (r : ℕ) → Repeated laid multiple site (planWritten call steps) (pricesWritten call intervals) r
   -- And so is any plan that the check accepts with its prices for that job table, whoever made it.
-  pub checked : (laid : RoundsCall) (length multiple : ℕ) → laid .answered ≡ LaidOut length multiple
+  pub checked : (laid : LayOutCall) (length multiple : ℕ) → laid .answered ≡ LaidOut length multiple
       → (levelBytes plan prices : List ℕ) (figure : ℕ) → check levelBytes (jobsWritten laid length) plan prices ≡ answer figure
       → (site : Site) → ValidTables levelBytes (jobsWritten laid length) site
       → (r : ℕ) → Repeated laid multiple site plan prices r
   -- Where planning answers an overfull window, repeating does not help: no schedule meets all deadlines of one or more repeats.
-  pub overfull : (laid : RoundsCall) (length multiple : ℕ) → laid .answered ≡ LaidOut length multiple
+  pub overfull : (laid : LayOutCall) (length multiple : ℕ) → laid .answered ≡ LaidOut length multiple
       → (call : Call) → call .jobBytes ≡ jobsWritten laid length
       → (site : Site) → ValidTables (call .levelBytes) (call .jobBytes) site
       → (start end : ℕ) (spare : ℤ) → call .answered ≡ Overfull start end spare
       → (r : ℕ) → 0 < r → (schedule : ScheduleFor (repeatSite multiple r site)) → Serves schedule → ⊥
   -- The job table that was written is read with every level table that is read: these hypotheses shut no round out.
-  pub every-round : (laid : RoundsCall) (length multiple : ℕ) → laid .answered ≡ LaidOut length multiple
+  pub every-round : (laid : LayOutCall) (length multiple : ℕ) → laid .answered ≡ LaidOut length multiple
       → (levelBytes : List ℕ) (levels : List Level) → readLevels levelBytes ≡ answer levels
       → (site : Site) × ValidTables levelBytes (jobsWritten laid length) site
   pub every-call : (taskBytes before after : List ℕ) (answered : RoundsAnswer) → RoundsContract taskBytes before after answered
-      → (laid : RoundsCall) × (laid .taskBytes ≡ taskBytes) × (laid .before ≡ before) × (laid .after ≡ after) × (laid .answered ≡ answered)
+      → (laid : LayOutCall) × (laid .taskBytes ≡ taskBytes) × (laid .before ≡ before) × (laid .after ≡ after) × (laid .answered ≡ answered)
