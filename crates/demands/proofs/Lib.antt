@@ -1,3 +1,4 @@
--- The three demands hold, and rounds repeat.
+-- The three demands hold, rounds repeat, and idling is not free.
 pub mod ThreeDemands
 pub mod RepeatedRounds
+pub mod IdlingIsNotFree

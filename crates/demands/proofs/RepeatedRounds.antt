@@ -10,7 +10,7 @@ use lib.Seq.{take-at}
 use borrow.Author.Tests.{lt-ltb}
 use Rattle.model.specs.declared.Job.{Job}
 use Rattle.model.specs.Outcome.{Outcome, refused, answer}
-use Rattle.model.specs.Levels.{readLevels}
+use Rattle.model.specs.LevelTables.{readLevels}
 use Rattle.model.specs.Jobs.{readJobs, encodeJobs}
 use Rattle.model.specs.Processors.{topOf}
 use Rattle.model.specs.Sites.{Site, siteOf, readSite}

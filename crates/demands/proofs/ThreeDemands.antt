@@ -148,6 +148,6 @@ nothing-shut-out =
         refl,
         refl,
       );
-      every-table = λ levelBytes jobBytes levels jobs levels-read jobs-read.
-          (siteOf levels jobs, every-valid-table levelBytes jobBytes levels jobs levels-read jobs-read, refl, refl);
+      every-table = λ levelBytes jobBytes entries jobs levels-read jobs-read.
+          (siteOf entries jobs, every-valid-table levelBytes jobBytes entries jobs levels-read jobs-read, refl, refl);
     }

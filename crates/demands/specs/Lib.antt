@@ -1,3 +1,4 @@
--- The three demands, for a reader who reads nothing else; and rounds that repeat, over the calls themselves.
+-- The three demands, for a reader who reads nothing else; rounds that repeat, and idling that is not free, over the calls.
 pub mod ThreeDemands
 pub mod RepeatedRounds
+pub mod IdlingIsNotFree

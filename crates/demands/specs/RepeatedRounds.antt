@@ -9,7 +9,7 @@ use lib.ListN.{take}
 use lib.IntN.{ℤ}
 use Rattle.model.specs.declared.Level.{Level}
 use Rattle.model.specs.Outcome.{answer}
-use Rattle.model.specs.Levels.{readLevels}
+use Rattle.model.specs.LevelTables.{readLevels}
 use Rattle.model.specs.Sites.{Site}
 use Rattle.model.specs.Schedules.{Serves}
 use Rattle.model.specs.Checking.{check}
@@ -61,7 +61,7 @@ pub record RepeatedRounds : Type 0 where
       → (r : ℕ) → 0 < r → (schedule : ScheduleFor (repeatSite multiple r site)) → Serves schedule → ⊥
   -- The job table that was written is read with every level table that is read: these hypotheses shut no round out.
   pub every-round : (laid : LayOutCall) (length multiple : ℕ) → laid .answered ≡ LaidOut length multiple
-      → (levelBytes : List ℕ) (levels : List Level) → readLevels levelBytes ≡ answer levels
+      → (levelBytes : List ℕ) (entries : List Level) → readLevels levelBytes ≡ answer entries
       → (site : Site) × ValidTables levelBytes (jobsWritten laid length) site
   pub every-call : (taskBytes before after : List ℕ) (answered : RoundsAnswer) → RoundsContract taskBytes before after answered
       → (laid : LayOutCall) × (laid .taskBytes ≡ taskBytes) × (laid .before ≡ before) × (laid .after ≡ after) × (laid .answered ≡ answered)

@@ -23,11 +23,11 @@ use lib.IntN.{ℤ}
 use Rattle.model.specs.declared.Level.{Level}
 use Rattle.model.specs.declared.Job.{Job}
 use Rattle.model.specs.Outcome.{answer, From, RefusesBy}
-use Rattle.model.specs.Levels.{readLevels}
+use Rattle.model.specs.LevelTables.{readLevels, LevelNumbers}
 use Rattle.model.specs.Jobs.{readJobs}
-use Rattle.model.specs.Processors.{workingOf, topOf}
+use Rattle.model.specs.Processors.{workingOf, topOf, processorOf}
 use Rattle.model.specs.Setting.{setting}
-use Rattle.model.specs.Sites.{Site}
+use Rattle.model.specs.Sites.{Site, SiteNumbers}
 use Rattle.model.specs.Windows.{spare}
 use Rattle.model.specs.Plans.{Gives}
 use Rattle.model.specs.Prices.{FittingPrices}
@@ -70,18 +70,18 @@ pricesWritten call intervals = take (2 + 5 * intervals) (call .after .prices)
 
 -- Demand 1. "Whoever calls an operation, with bytes of any length and content, gets a result or a numbered refusal from
 -- document 01; nothing is required of the caller first, and a refused call changes nothing lent to it." Planning and laying
--- out a round alone are lent anything that they may change.
+-- out a round alone are lent anything that they may change. Document 02's numbers join those of document 01: `LevelNumbers` are 1
+-- to 5, 31 and 32, and `SiteNumbers` 1 to 10, 31 and 32.
 pub record DemandOne : Type 0 where
-  pub reading-levels : (bytes : List ℕ) → RefusesBy (From 1 5) (readLevels bytes)
+  pub reading-levels : (bytes : List ℕ) → RefusesBy LevelNumbers (readLevels bytes)
   pub reading-jobs : (bytes : List ℕ) → RefusesBy (From 6 10) (readJobs bytes)
-  pub setting-one : (levels : List ℕ) (length load : ℕ) → RefusesBy (λ n. From 1 5 n ⊎ From 25 26 n) (setting levels length load)
-  pub spare-of-window : (levels jobs : List ℕ) (start end : ℕ) → RefusesBy (λ n. From 1 10 n ⊎ From 27 27 n) (spare levels jobs start end)
-  pub checking : (levels jobs plan prices : List ℕ) → RefusesBy (λ n. From 1 10 n ⊎ From 15 24 n) (check levels jobs plan prices)
+  pub setting-one : (levels : List ℕ) (length load : ℕ) → RefusesBy (λ n. LevelNumbers n ⊎ From 25 26 n) (setting levels length load)
+  pub spare-of-window : (levels jobs : List ℕ) (start end : ℕ) → RefusesBy (λ n. SiteNumbers n ⊎ From 27 27 n) (spare levels jobs start end)
+  pub checking : (levels jobs plan prices : List ℕ) → RefusesBy (λ n. SiteNumbers n ⊎ From 15 24 n) (check levels jobs plan prices)
   pub walking : (plan : List ℕ) → RefusesBy (From 15 15) (walk plan)
   -- 11 is the case Overfull, with its window and spare
-  pub planning : (call : Call) (number place : ℕ) → outcomeOf (call .answered) ≡ refusal number place → From 1 10 number ⊎ From 12 14 number
+  pub planning : (call : Call) (number place : ℕ) → outcomeOf (call .answered) ≡ refusal number place → SiteNumbers number ⊎ From 12 14 number
   pub changes-nothing : (call : Call) → (PlanComesOut call → ⊥) → call .after ≡ call .before
-  -- document 02's numbers join those of document 01
   pub laying-out : (tasks : List ℕ) (room : ℕ) → RefusesBy (λ n. From 12 12 n ⊎ From 28 30 n) (rounds tasks room)
   pub lays-out-nothing : (tasks before after : List ℕ) (answered : RoundsAnswer) → RoundsContract tasks before after answered
       → (number place : ℕ) → answered ≡ Refused number place → after ≡ before
@@ -162,6 +162,6 @@ pub record NothingShutOut : Type 0 where
       → PlanContract levelBytes jobBytes before after answered
       → (call : Call) × (call .levelBytes ≡ levelBytes) × (call .jobBytes ≡ jobBytes) × (call .before ≡ before) × (call .after ≡ after)
       × (call .answered ≡ answered)
-  pub every-table : (levelBytes jobBytes : List ℕ) (levels : List Level) (jobs : List Job)
-      → readLevels levelBytes ≡ answer levels → readJobs jobBytes ≡ answer jobs
-      → (site : Site) × ValidTables levelBytes jobBytes site × (site .processor .levels ≡ levels) × (site .jobs ≡ jobs)
+  pub every-table : (levelBytes jobBytes : List ℕ) (entries : List Level) (jobs : List Job)
+      → readLevels levelBytes ≡ answer entries → readJobs jobBytes ≡ answer jobs
+      → (site : Site) × ValidTables levelBytes jobBytes site × (site .processor ≡ processorOf entries) × (site .jobs ≡ jobs)

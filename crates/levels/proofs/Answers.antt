@@ -11,12 +11,11 @@ use borrow.Author.Tests.{lt-ltb, le-ltb, lt-leb, le-leb}
 use Rattle.model.specs.declared.Level.{Level}
 use Rattle.model.specs.Limits.{maxDeadline}
 use Rattle.model.specs.Outcome.{refused, answer}
-use Rattle.model.specs.Levels.{readLevels, ValidLevels}
+use Rattle.model.specs.LevelTables.{runningLevels, readLevels, ValidLevelTable}
 use Rattle.model.specs.Points.{topFrequency}
 use Rattle.model.specs.Bands.{Curve}
 use Rattle.model.specs.Processors.{workingOf, processorOf}
 use Rattle.model.specs.Setting.{settingOf, settingFor, setting}
-use Rattle.model.proofs.Points.{valid-points-rise}
 use Rattle.model.proofs.Sites.{valid-processor}
 use Rattle.model.proofs.Working.{working-curve, working-top}
 use Rattle.tables.specs.Tables.{levelsIn}
@@ -38,7 +37,7 @@ module _ (bytes : List ℕ) (ticks load : ℕ) where
   unfolding setting
   levels-answered levels e = rw e
 
-module _ (count : ℕ) (frequencies voltages : List ℕ) (valid : ValidLevels (levelsIn count frequencies voltages)) where
+module _ (count : ℕ) (frequencies voltages : List ℕ) (valid : ValidLevelTable (levelsIn count frequencies voltages)) where
   pub top-load : (ticks : ℕ) → ticks ≤ maxDeadline → ticks * getD frequencies (count - 1) 0 ≤ 1_000_000_000
   top-load ticks few =
       omega (arith, mul-le-mul few (top-high count frequencies voltages valid))
@@ -53,21 +52,22 @@ module _ (count : ℕ) (frequencies voltages : List ℕ) (ticks load : ℕ) wher
   pub too-long : 1 ≤ ticks → maxDeadline < ticks → Refused 25 0 ≡ settingAnswer (settingFor (processorOf levels) ticks load)
   too-long some long = rw (le-leb 1 ticks some, lt-leb ticks maxDeadline long)
 
-  module _ (valid : ValidLevels levels) (some : 1 ≤ ticks) (few : ticks ≤ maxDeadline) where
+  module _ (valid : ValidLevelTable levels) (some : 1 ≤ ticks) (few : ticks ≤ maxDeadline) where
     pub overloaded : ticks * getD frequencies (count - 1) 0 < load → Refused 26 0 ≡ settingAnswer (settingFor (processorOf levels) ticks load)
     overloaded over =
-        let high : ticks * topFrequency levels < load = rw (← top-in count frequencies voltages valid) at over in
+        let high : ticks * topFrequency (runningLevels levels) < load = rw (← top-in count frequencies voltages valid) at over in
         rw (le-leb 1 ticks some, le-leb ticks maxDeadline few, lt-ltb _ _ high)
 
     module _ (fits : load ≤ ticks * getD frequencies (count - 1) 0) (table : PointTable) (working : table ≡ pointTable (workingOf (processorOf levels))) where
-      top-fits : load ≤ ticks * topFrequency levels
+      top-fits : load ≤ ticks * topFrequency (runningLevels levels)
       top-fits = rw (← top-in count frequencies voltages valid) at fits
 
       pub working-fits : (SmallPoints table × Curve (pointsOf table)) × ((ticks ≤ maxDeadline) × Fits (pointsOf table) ticks load)
       working-fits =
-          let rising = valid-points-rise levels valid in
-          rw (working, working-held (processorOf levels) (valid-processor levels valid), working-top 0 levels rising)
-          ((working-small (processorOf levels) (valid-processor levels valid), working-curve _ rising), (few, top-fits))
+          let processor = processorOf levels in
+          let sound = valid-processor levels valid in
+          rw (working, working-held processor sound, working-top (processor .idlePower) (processor .levels) (sound .rising))
+          ((working-small processor sound, working-curve _ (sound .rising)), (few, top-fits))
 
       pub settled : (result : SettingAnswer) → result ≡ answered (settingOf (pointsOf table) ticks load)
           → result ≡ settingAnswer (settingFor (processorOf levels) ticks load)

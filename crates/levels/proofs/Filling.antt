@@ -1,72 +1,92 @@
--- Laws of the points of a level table that stands in arrays, put into a table of points one level after another.
+-- Laws of the points of a level table that stands in arrays, put into a table of points: idling, and then one running level
+-- after another.
 -- Assumes nothing.
 use mathlib.Core.Path.{_≡_, refl, sym, _∙_, ap}
-use mathlib.Core.List.{List}
-use Prim.Native.Nat.{ℕ, suc, _+_, _<_, _≤_}
-use native.Mathlib.Numerals.{add-one}
+use mathlib.Core.List.{List, [], _∷_}
+use Prim.Native.Nat.{ℕ, suc, _+_, _-_, _<_, _≤_}
 use native.Mathlib.Omega.{arith}
 use lib.ListN.{length, getD, take, set, replicate}
-use lib.Seq.{take-all, length-take-le}
+use lib.Seq.{take-all}
 use Rattle.model.specs.declared.Level.{Level}
-use Rattle.model.specs.Limits.{maxLevels, maxFrequency, maxVoltage, maxPoints}
-use Rattle.model.specs.Levels.{ValidLevels}
+use Rattle.model.specs.Limits.{maxFrequency, maxVoltage, maxPower, maxPoints}
 use Rattle.model.specs.Entries.{listOf}
+use Rattle.model.specs.Levels.{levelOf}
 use Rattle.model.specs.Points.{Point, points, pointAt, powerOf, pointOfLevel}
+use Rattle.model.specs.LevelTables.{idleEntries, idlePowerOf, runningLevels, ValidLevelTable}
+use Rattle.model.specs.Processors.{allPoints, processorOf}
 use Rattle.model.proofs.Points.{points-length, points-level}
+use Rattle.model.proofs.LevelTables.{first-voltage}
 use Rattle.tables.specs.Column.{columnOf}
 use Rattle.tables.specs.Tables.{levelsIn}
-use Rattle.tables.proofs.Read.{length-levelsIn, level-in}
+use Rattle.tables.proofs.Read.{level-in, levels-count, running-count, running-in}
+use Rattle.tables.proofs.CheckedLevels.{entryIn, first-is}
 use Rattle.levels.specs.declared.points.PointTable.{PointTable}
-use Rattle.levels.specs.PointTables.{pointTable, tableOf}
+use Rattle.levels.specs.PointTables.{pointTable}
 use Rattle.levels.proofs.PointTables.{withPoint, table-next}
 
 -- idling alone
-pub idling-table : (levels : List Level)
-    → record { count = 1; frequencies = replicate maxPoints 0; powers = replicate maxPoints 0 } ≡ pointTable (take 1 (points 0 levels))
+idling-table : (idlePower : ℕ) (levels : List Level)
+    → record { count = 1; frequencies = replicate maxPoints 0; powers = set (replicate maxPoints 0) 0 idlePower } ≡ pointTable (take 1 (points idlePower levels))
 unfolding points columnOf listOf
-idling-table levels = refl
+idling-table idlePower levels = refl
 
-module _ (count : ℕ) (frequencies voltages : List ℕ) where
-  abbrev levels : List Level
-  levels = levelsIn count frequencies voltages
+module _ (count : ℕ) (frequencies voltages : List ℕ) (valid : ValidLevelTable (levelsIn count frequencies voltages)) where
+  abbrev entries : List Level
+  entries = levelsIn count frequencies voltages
 
-  pub level-high : ValidLevels levels → (i : ℕ) → i < count → (getD frequencies i 0 ≤ maxFrequency) × (getD voltages i 0 ≤ maxVoltage)
-  level-high valid i below =
-      let inside : i < length levels = rw (length-levelsIn count frequencies voltages) below in
-      let here = level-in count frequencies voltages i below in
-      (rw here at (valid .frequency-high i inside), rw here at (valid .voltage-high i inside))
+  abbrev pointsIn : List Point
+  pointsIn = allPoints (processorOf entries)
 
-  count-points : length (points 0 levels) ≡ suc count
-  count-points = points-length 0 levels ∙ ap suc (length-levelsIn count frequencies voltages)
+  -- the first running level
+  abbrev firstIn : ℕ
+  firstIn = idleEntries entries
 
-  -- level number i is point i + 1
-  level-is-point : (i : ℕ) → i < count
-      → pointOfLevel (record { frequency = getD frequencies i 0; voltage = getD voltages i 0 }) ≡ pointAt (points 0 levels) (suc i)
-  level-is-point i below = ap pointOfLevel (sym (level-in count frequencies voltages i below)) ∙ sym (points-level 0 levels i)
+  some : 1 ≤ count
+  some = levels-count count frequencies voltages valid .0
 
-  -- and so the next one after idling and i levels
-  next-point : (i : ℕ) (table : PointTable) (point : Point) → i < count → count ≤ maxLevels
-      → table ≡ pointTable (take (suc i) (points 0 levels))
-      → point ≡ pointOfLevel (record { frequency = getD frequencies i 0; voltage = getD voltages i 0 })
-      → withPoint table point ≡ pointTable (take (suc (i + 1)) (points 0 levels))
-  next-point i table point below few filled is-next =
-      rw (filled, is-next ∙ level-is-point i below, add-one i)
-      (table-next (points 0 levels) (suc i) (omega (arith, count-points)) (omega (arith, count-points)))
+  first-in : levelOf entries 0 ≡ entryIn count frequencies voltages 0
+  first-in = level-in count frequencies voltages 0 some
 
-  table-count : (i : ℕ) (table : PointTable) → i ≤ count → table ≡ pointTable (take (suc i) (points 0 levels)) → table .count ≡ i + 1
-  table-count i table below filled =
-      ap (λ (t : PointTable). t .count) filled ∙ (length-take-le (suc i) (points 0 levels) (omega (arith, count-points)) ∙ sym (add-one i))
+  pub first-small : getD voltages 0 0 ≤ maxPower
+  first-small = rw first-in at (first-voltage entries valid)
 
-  -- put in its place in the arrays
-  pub level-next : (i power : ℕ) (table : PointTable) → i < count → count ≤ maxLevels
-      → table ≡ pointTable (take (suc i) (points 0 levels))
-      → power ≡ powerOf (record { frequency = getD frequencies i 0; voltage = getD voltages i 0 })
-      → tableOf (i + 1 + 1) (set (table .frequencies) (i + 1) (getD frequencies i 0)) (set (table .powers) (i + 1) power)
-      ≡ pointTable (take (suc (i + 1)) (points 0 levels))
-  level-next i power table below few filled is-power =
-      let point : Point = record { frequency = getD frequencies i 0; power = power } in
-      rw (table-count i table (omega arith) filled) at (next-point i table point below few filled (rw is-power))
+  pub first-found : (first : ℕ) → first ≡ idleEntries (entryIn count frequencies voltages 0 ∷ []) → first ≡ firstIn
+  first-found first counted = first-is count frequencies voltages some first counted
 
-  -- after the last level
-  pub levels-all : (i : ℕ) (table : PointTable) → count ≤ i → table ≡ pointTable (take (suc i) (points 0 levels)) → table ≡ pointTable (points 0 levels)
-  levels-all i table past filled = filled ∙ rw (take-all (suc i) (points 0 levels) (omega (arith, count-points)))
+  pub idling-filled : (idlePower : ℕ) → idlePower ≡ idlePowerOf (entryIn count frequencies voltages 0 ∷ [])
+      → record { count = 1; frequencies = replicate maxPoints 0; powers = set (replicate maxPoints 0) 0 idlePower } ≡ pointTable (take 1 pointsIn)
+  idling-filled idlePower drawn =
+      rw (drawn ∙ ap (λ (entry : Level). idlePowerOf (entry ∷ [])) (sym first-in)) (idling-table (idlePowerOf entries) (runningLevels entries))
+
+  count-points : length pointsIn ≡ suc (count - firstIn)
+  count-points = points-length (idlePowerOf entries) (runningLevels entries) ∙ ap suc (running-count count frequencies voltages valid)
+
+  module _ (i : ℕ) (past : firstIn ≤ i) where
+    -- the table with idling and the running levels before entry i
+    module _ (table : PointTable) (filled : table ≡ pointTable (take (suc (i - firstIn)) pointsIn)) where
+      -- after the last level
+      pub levels-all : count ≤ i → table ≡ pointTable pointsIn
+      levels-all all = filled ∙ rw (take-all (suc (i - firstIn)) pointsIn (omega (arith, count-points)))
+
+    module _ (below : i < count) where
+      pub level-high : (getD frequencies i 0 ≤ maxFrequency) × (getD voltages i 0 ≤ maxVoltage)
+      level-high =
+          let inside : i - firstIn < length (runningLevels entries) = omega (arith, running-count count frequencies voltages valid) in
+          let here = running-in count frequencies voltages valid i past below in
+          (rw here at (valid .running .frequency-high (i - firstIn) inside), rw here at (valid .running .voltage-high (i - firstIn) inside))
+
+      -- entry i is the next point
+      entry-is-point : pointOfLevel (entryIn count frequencies voltages i) ≡ pointAt pointsIn (suc (i - firstIn))
+      entry-is-point =
+          ap pointOfLevel (sym (running-in count frequencies voltages valid i past below))
+          ∙ sym (points-level (idlePowerOf entries) (runningLevels entries) (i - firstIn))
+
+      pub level-next : (power : ℕ) (table : PointTable) → table ≡ pointTable (take (suc (i - firstIn)) pointsIn)
+          → power ≡ powerOf (entryIn count frequencies voltages i)
+          → withPoint table (record { frequency = getD frequencies i 0; power = power }) ≡ pointTable (take (suc (i + 1 - firstIn)) pointsIn)
+      level-next power table filled is-power =
+          let place : i + 1 - firstIn ≡ suc (i - firstIn) = omega arith in
+          let point : record { frequency = getD frequencies i 0; power = power } ≡ pointAt pointsIn (suc (i - firstIn)) = rw is-power entry-is-point in
+          rw (filled, place)
+          (ap (withPoint (pointTable (take (suc (i - firstIn)) pointsIn))) point
+          ∙ table-next pointsIn (suc (i - firstIn)) (omega (arith, count-points)) (omega (arith, count-points, levels-count count frequencies voltages valid)))

@@ -1,5 +1,4 @@
 -- Laws of the definitions, for the proofs of the functions.
-pub mod Products
 pub mod PointTables
 pub mod SmallPoints
 pub mod Filling

@@ -5,17 +5,16 @@ use mathlib.Core.Path.{_≡_, refl}
 use mathlib.Core.Bool.{not}
 use mathlib.Core.List.{List}
 use Prim.Native.Nat.{ℕ, zero, suc, _<_, _≤_}
-use native.Mathlib.Nat.{mul-le-mul}
 use native.Mathlib.Omega.{arith}
 use lib.ListN.{length}
 use Rattle.model.specs.Limits.{maxPoints}
 use Rattle.model.specs.declared.Level.{Level}
 use Rattle.model.specs.Outcome.{Outcome, refused, answer, andThen}
-use Rattle.model.specs.Levels.{readLevels, ValidLevels}
+use Rattle.model.specs.LevelTables.{readLevels, ValidLevelTable}
 use Rattle.model.specs.Points.{Point, pointAt, dropped, working, RisingPoints}
 use Rattle.model.specs.Processors.{Processor, allPoints, workingOf, processorOf, readProcessor, ValidProcessor}
-use Rattle.model.proofs.Levels.{levels-valid}
-use Rattle.model.proofs.Points.{points-length, points-level}
+use Rattle.model.proofs.LevelTables.{levels-valid}
+use Rattle.model.proofs.Points.{points-length, points-level, power-high}
 use Rattle.model.proofs.Sites.{valid-processor}
 use Rattle.model.proofs.Working.{place, working-curve}
 use Rattle.model.proofs.Selection.{select-length}
@@ -58,7 +57,7 @@ module _ (processor : Processor) (valid : ValidProcessor processor) where
       rw (points-level (processor .idlePower) (processor .levels) i)
       (record {
         frequency-high = levels .frequency-high i below;
-        power-high = omega (arith, mul-le-mul (mul-le-mul (levels .frequency-high i below) (levels .voltage-high i below)) (levels .voltage-high i below));
+        power-high = power-high (processor .levels) levels i below;
       })
 
   -- idling draws less than the first level
@@ -96,7 +95,7 @@ module _ (processor : Processor) (valid : ValidProcessor processor) where
 pub read-few : (bytes : List ℕ) → length (workingRead (readProcessor bytes)) ≤ maxPoints
 read-few bytes = go (readLevels bytes) (levels-valid bytes)
   where
-    go : (outcome : Outcome (List Level)) → ((levels : List Level) → outcome ≡ answer levels → ValidLevels levels)
-        → length (workingRead (andThen outcome (λ levels. answer (processorOf levels)))) ≤ maxPoints
+    go : (outcome : Outcome (List Level)) → ((entries : List Level) → outcome ≡ answer entries → ValidLevelTable entries)
+        → length (workingRead (andThen outcome (λ entries. answer (processorOf entries)))) ≤ maxPoints
     go (refused number place) valid = omega arith
-    go (answer levels) valid = working-small (processorOf levels) (valid-processor levels (valid levels refl)) .few
+    go (answer entries) valid = working-small (processorOf entries) (valid-processor entries (valid entries refl)) .few

@@ -2,7 +2,7 @@
 ghost use mathlib.Core.Path.{_≡_};
 ghost use Prim.Native.Nat.{_≤_};
 ghost use Rattle.model.specs.Limits.{maxDeadline};
-ghost use Rattle.model.specs.Levels.{ValidLevels};
+ghost use Rattle.model.specs.LevelTables.{ValidLevelTable};
 ghost use Rattle.model.specs.Bands.{Curve};
 ghost use Rattle.model.specs.Processors.{processorOf};
 ghost use Rattle.model.specs.Setting.{settingOf, settingFor, setting as settingOfBytes, bandOf};
@@ -46,7 +46,7 @@ fn setting_in(
     length: u64,
     load: u64,
 ) -> SettingAnswer
-    requires { ⌜ ValidLevels (levelsIn count (now frequencies) (now voltages)) ⌝ }
+    requires { ⌜ ValidLevelTable (levelsIn count (now frequencies) (now voltages)) ⌝ }
     ensures { λ r. ⌜ r ≡ settingAnswer (settingFor (processorOf (levelsIn count (now (frequencies .entry)) (now (voltages .entry)))) length load) ⌝ }
 {
     if length < 1 {

@@ -1,14 +1,18 @@
-// Idling and the levels as points in plain arrays. Point 0 is idling, and level i is point i + 1.
+// Idling and the running levels as points in plain arrays. Point 0 is idling, and running level i is point i + 1.
 ghost use mathlib.Core.Path.{_≡_};
 ghost use mathlib.Core.List.{[]};
-ghost use Prim.Native.Nat.{_<_, _≤_};
-ghost use Rattle.model.specs.Limits.{maxFrequency, maxVoltage, maxPoints};
-ghost use Rattle.model.specs.Levels.{ValidLevels};
-ghost use Rattle.model.specs.Points.{points, powerOf};
+ghost use Prim.Native.Nat.{_<_};
+ghost use Rattle.model.specs.Limits.{maxPoints};
+ghost use Rattle.model.specs.LevelTables.{ValidLevelTable};
+ghost use Rattle.model.specs.Processors.{allPoints, processorOf};
 ghost use Rattle.tables.specs.Tables.{levelsIn};
 ghost use Rattle.levels.specs.PointTables.{asPoint, pointIn, pointTable};
+use model::Level;
 use model::MAX_LEVELS;
 use model::MAX_POINTS;
+use tables::idle_entries;
+use tables::idle_power;
+use tables::power_of;
 
 // Frequencies and powers of a list of points, zeros past the last.
 pub struct PointTable {
@@ -23,23 +27,28 @@ pub(crate) struct Point {
     pub power: u64,
 }
 
-// All points of a level table. Idling draws no power.
+// All points of a level table: idling, and then the running levels upward.
 pub(crate) fn all_points(
     frequencies: &[u64; MAX_LEVELS],
     voltages: &[u64; MAX_LEVELS],
     count: usize,
 ) -> PointTable
-    requires { ⌜ ValidLevels (levelsIn count (now frequencies) (now voltages)) ⌝ }
-    ensures { λ r. ⌜ r ≡ pointTable (points 0 (levelsIn count (now (frequencies .entry)) (now (voltages .entry)))) ⌝ }
+    requires { ⌜ ValidLevelTable (levelsIn count (now frequencies) (now voltages)) ⌝ }
+    ensures { λ r. ⌜ r ≡ pointTable (allPoints (processorOf (levelsIn count (now (frequencies .entry)) (now (voltages .entry))))) ⌝ }
 {
+    let entry = Level {
+        frequency: frequencies[0],
+        voltage: voltages[0],
+    };
     let mut table = PointTable {
         count: 1,
         frequencies: [0; MAX_POINTS],
         powers: [0; MAX_POINTS],
     };
-    let mut i = 0;
+    table.powers[0] = idle_power(entry);
+    let mut i = idle_entries(entry);
     while i < count {
-        let at = i + 1;
+        let at = table.count;
         table.frequencies[at] = frequencies[i];
         table.powers[at] = power_of(frequencies[i], voltages[i]);
         table.count = at + 1;
@@ -57,14 +66,6 @@ pub(crate) fn no_points() -> PointTable
         frequencies: [0; MAX_POINTS],
         powers: [0; MAX_POINTS],
     }
-}
-
-// A level's power is frequency × voltage × voltage.
-fn power_of(frequency: u64, voltage: u64) -> u64
-    requires { ⌜ (frequency ≤ maxFrequency) × (voltage ≤ maxVoltage) ⌝ }
-    ensures { λ r. ⌜ r ≡ powerOf (record { frequency = frequency; voltage = voltage }) ⌝ }
-{
-    frequency * voltage * voltage
 }
 
 // Point number i.

@@ -2,7 +2,7 @@
 ghost use mathlib.Core.Path.{_≡_};
 ghost use Prim.Native.Nat.{_<_};
 ghost use Rattle.model.specs.Limits.{maxFrequency, maxPower};
-ghost use Rattle.model.specs.Levels.{ValidLevels};
+ghost use Rattle.model.specs.LevelTables.{ValidLevelTable};
 ghost use Rattle.model.specs.Points.{drops as dropsPoint, dropped as isDropped, working};
 ghost use Rattle.model.specs.Processors.{workingOf, processorOf, readProcessor};
 ghost use Rattle.tables.specs.Tables.{levelsIn};
@@ -42,7 +42,7 @@ pub fn working_levels(
     voltages: &[u64; MAX_LEVELS],
     count: usize,
 ) -> PointTable
-    requires { ⌜ ValidLevels (levelsIn count (now frequencies) (now voltages)) ⌝ }
+    requires { ⌜ ValidLevelTable (levelsIn count (now frequencies) (now voltages)) ⌝ }
     ensures { λ r. ⌜ r ≡ pointTable (workingOf (processorOf (levelsIn count (now (frequencies .entry)) (now (voltages .entry))))) ⌝ }
 {
     let all = all_points(frequencies, voltages, count);

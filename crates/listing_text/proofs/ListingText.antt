@@ -91,7 +91,7 @@ module _ {levelBytes jobBytes : List ℕ} {left : Buffers} {answered : PlanAnswe
             left = left;
             planned = planned;
             text-is = is;
-            one-to-ten = λ number place refused. site-by levelBytes jobBytes number place (read-refused number place refused);
+            of-reading = λ number place refused. site-by levelBytes jobBytes number place (read-refused number place refused);
           };
           length-is = omega (arith, put .next-is);
           written = put .after-is ∙ sets-start before text;

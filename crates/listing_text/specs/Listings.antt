@@ -4,8 +4,8 @@ use mathlib.Core.Path.{_≡_}
 use mathlib.Core.List.{List, _++_}
 use lib.ListN.{length, take, drop, replicate}
 use Rattle.model.specs.Limits.{maxJobs, maxIntervals}
-use Rattle.model.specs.Outcome.{Outcome, refused, answer, From}
-use Rattle.model.specs.Sites.{Site, readSite}
+use Rattle.model.specs.Outcome.{Outcome, refused, answer}
+use Rattle.model.specs.Sites.{Site, readSite, SiteNumbers}
 use Rattle.model.specs.Plans.{sharesIn}
 use Rattle.model.specs.PriceBytes.{pricesOf}
 use Rattle.planning.specs.declared.operation.PlanAnswer.{PlanAnswer}
@@ -53,8 +53,9 @@ pub record Listed (levelBytes jobBytes text : List ℕ) : Type 0 where
   pub left : Buffers
   pub planned : PlanContract levelBytes jobBytes zeroBuffers left answered
   pub text-is : text ≡ listingText (readSite levelBytes jobBytes) answered left
-  -- "refused, number, place (1 to 10 ..)": no buffer is too short, and 11 is an overfull window
-  pub one-to-ten : (number place : ℕ) → answered ≡ Refused number place → From 1 10 number
+  -- "refused, number, place (1 to 10, and later numbers that its files can meet)": those of reading a site; no buffer is too
+  -- short, and 11 is an overfull window
+  pub of-reading : (number place : ℕ) → answered ≡ Refused number place → SiteNumbers number
 
 -- The whole promise: the length of a listing's text is answered, as many of its bytes as have room stand in the buffer, and the
 -- rest of the buffer stays.

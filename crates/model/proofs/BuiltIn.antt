@@ -13,14 +13,14 @@ use borrow.Author.Tests.{eqb-true}
 use Rattle.model.specs.declared.Level.{Level}
 use Rattle.model.specs.Search.{someBelow}
 use Rattle.model.specs.Points.{points, drops, dropped, selectFrom, working}
-use Rattle.model.specs.Processors.{workingOf, processorOf}
+use Rattle.model.specs.Processors.{allPoints, workingOf, processorOf}
 use Rattle.model.specs.BuiltIn.{firstBuiltIn, secondBuiltIn}
 use Rattle.model.proofs.Numbers.{both-true}
 use Rattle.model.proofs.Selection.{select-all}
 
 -- a table has as many working points as points
 works-all : List Level → Bool
-works-all levels = eqb (length (workingOf (processorOf levels))) (length (points 0 levels))
+works-all levels = eqb (length (workingOf (processorOf levels))) (length (allPoints (processorOf levels)))
 
 each-works : List (List Level) → Bool
 each-works [] = true
@@ -34,12 +34,12 @@ unfolding each-works works-all points working selectFrom dropped someBelow drops
 tested = refl
 
 -- so that no level is dropped
-nothing-dropped : (levels : List Level) → works-all levels ≡ true → workingOf (processorOf levels) ≡ points 0 levels
+nothing-dropped : (levels : List Level) → works-all levels ≡ true → workingOf (processorOf levels) ≡ allPoints (processorOf levels)
 unfolding works-all working
-nothing-dropped levels e = select-all (λ i. not (dropped (points 0 levels) i)) 0 (points 0 levels) (eqb-true _ _ e)
+nothing-dropped levels e = let ps = allPoints (processorOf levels) in select-all (λ i. not (dropped ps i)) 0 ps (eqb-true _ _ e)
 
 each-whole : (tables : List (List Level)) → each-works tables ≡ true → (i : ℕ) → i < length tables
-    → workingOf (processorOf (getD tables i [])) ≡ points 0 (getD tables i [])
+    → workingOf (processorOf (getD tables i [])) ≡ allPoints (processorOf (getD tables i []))
 unfolding each-works
 each-whole [] e i below = absurd (omega arith)
 each-whole (table ∷ tables) e zero below = nothing-dropped table (both-true (works-all table) _ e .0)

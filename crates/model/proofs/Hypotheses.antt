@@ -9,6 +9,7 @@ use Rattle.model.specs.Points.{points, pointAt}
 use Rattle.model.specs.Sites.{readSite}
 use Rattle.model.specs.Schedules.{Slot, idles, runs, IsGiven}
 use Rattle.model.specs.Hypotheses.{
+  EveryLevels,
   EveryLevelTable,
   EveryJobTable,
   EveryTableRead,
@@ -22,14 +23,14 @@ use Rattle.model.specs.Hypotheses.{
   EveryBuffer,
 }
 use Rattle.model.proofs.Sites.{valid-tables, sites-are-valid}
-use Rattle.model.proofs.Levels.{levels-valid}
+use Rattle.model.proofs.LevelTables.{levels-valid, plain-table, idle-table}
 use Rattle.model.proofs.Jobs.{jobs-valid}
 use Rattle.model.proofs.BoundsOf.{bounds-of}
 use Rattle.model.proofs.Points.{points-length, points-level, points-rise}
 use Rattle.model.proofs.LeastEnergy.{valid-site}
 
-pub every-level-table : EveryLevelTable
-every-level-table levels some few frequencies rising voltages never-falling =
+pub every-levels : EveryLevels
+every-levels levels some few frequencies rising voltages never-falling =
     record {
       some = some;
       few = few;
@@ -40,6 +41,9 @@ every-level-table levels some few frequencies rising voltages never-falling =
       voltage-high = λ i below. voltages i below .1;
       voltage-never-falls = never-falling;
     }
+
+pub every-level-table : EveryLevelTable
+every-level-table = (plain-table, λ draw levels valid few high low. idle-table draw levels valid few high low)
 
 pub every-job-table : EveryJobTable
 every-job-table jobs few windows cycles =
@@ -106,7 +110,7 @@ every-site-read = (sites-are-valid, valid-tables)
 
 pub every-valid-table : EveryValidTable
 unfolding readSite
-every-valid-table levelBytes jobBytes levels jobs levels-read jobs-read = rw (levels-read, jobs-read)
+every-valid-table levelBytes jobBytes entries jobs levels-read jobs-read = rw (levels-read, jobs-read)
 
 pub every-buffer : EveryBuffer
 every-buffer site planRoom priceRoom shareRoom plan-room price-room share-room =

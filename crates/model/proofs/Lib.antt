@@ -15,6 +15,7 @@ pub mod Intervals
 pub mod OpenSets
 pub mod Windows
 pub mod Points
+pub mod LevelTables
 pub mod Working
 pub mod Support
 pub mod Bands
@@ -36,6 +37,7 @@ pub mod PlansAreSchedules
 pub mod LeastEnergy
 pub mod Sites
 pub mod Hypotheses
+pub mod IdleDraw
 pub mod SiteLines
 pub mod Steps
 pub mod Faults

@@ -13,6 +13,7 @@ use lib.Dec.{ltb, leb}
 use lib.ListN.{length, length-map, List·getD-map}
 use borrow.Author.Tests.{leb-true, leb-false, le-leb, lt-leb, ltb-true, lt-ltb, le-ltb}
 use Rattle.model.specs.declared.Level.{Level}
+use Rattle.model.specs.Limits.{maxPower}
 use Rattle.model.specs.Levels.{idling, levelOf, ValidLevels}
 use Rattle.model.specs.Points.{Point, powerOf, pointOfLevel, points, pointAt, drops, dropped, topFrequency, RisingPoints}
 use Rattle.model.specs.Search.{someBelow}
@@ -62,11 +63,18 @@ module _ (idlePower : ℕ) (levels : List Level) where
           (valid .voltage-low i (omega (arith, points-length)))
           (valid .voltage-never-falls i (omega (arith, points-length))))
 
--- idling draws no power in document 01
+-- every level draws power
+pub power-some : (levels : List Level) → ValidLevels levels → 0 < powerOf (levelOf levels 0)
+power-some levels valid = mul-pos (mul-pos (valid .frequency-low 0 (valid .some)) (valid .voltage-low 0 (valid .some))) (valid .voltage-low 0 (valid .some))
+
+-- and at most that of the highest frequency at the highest voltage
+pub power-high : (levels : List Level) → ValidLevels levels → (i : ℕ) → i < length levels → powerOf (levelOf levels i) ≤ maxPower
+power-high levels valid i below =
+    mul-le-mul (mul-le-mul (valid .frequency-high i below) (valid .voltage-high i below)) (valid .voltage-high i below)
+
+-- so that idling may draw none
 pub valid-points-rise : (levels : List Level) → ValidLevels levels → RisingPoints (points 0 levels)
-valid-points-rise levels valid =
-    points-rise 0 levels valid
-    (mul-pos (mul-pos (valid .frequency-low 0 (valid .some)) (valid .voltage-low 0 (valid .some))) (valid .voltage-low 0 (valid .some)))
+valid-points-rise levels valid = points-rise 0 levels valid (power-some levels valid)
 
 -- The shoelace sum of three points. With a, b and c from left to right, b lies on or above the line from a to c exactly
 -- when the sum of a, c and b is at most that of a, b and c.

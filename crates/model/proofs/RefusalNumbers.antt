@@ -5,7 +5,7 @@ use mathlib.Core.Bool.{Bool, true, false, cond, not, _&&_, _||_}
 use mathlib.Core.Logic.{_⊎_, inl, inr}
 use mathlib.Core.List.{List}
 use mathlib.Core.Option.{Option, none, some}
-use Prim.Native.Nat.{ℕ, zero, suc, _+_, _*_}
+use Prim.Native.Nat.{ℕ, zero, suc, _+_, _-_, _*_}
 use native.Mathlib.Omega.{arith}
 use lib.ListN.{length}
 use lib.Dec.{ltb, leb, eqb}
@@ -14,13 +14,16 @@ use Rattle.model.specs.declared.Job.{Job}
 use Rattle.model.specs.Limits.{maxLevels, maxJobs, maxDeadline}
 use Rattle.model.specs.Outcome.{Outcome, refused, answer, andThen, refuseWhen, refuseAt, refuseUnder, byEntryFrom, From, RefusesBy}
 use Rattle.model.specs.Entries.{listOf}
-use Rattle.model.specs.Levels.{levelCount, levelEntries, wrongFrequency, wrongVoltage, faultOfLevel, levelFault, readLevels}
+use Rattle.model.specs.Levels.{levelOf, wrongFrequency, wrongVoltage, faultOfLevel, levelFault}
+use Rattle.model.specs.Points.{powerOf}
+use Rattle.model.specs.LevelTables.{levelCount, levelEntries, idleEntries, idlePowerOf, runningLevels, standsAlone}
+use Rattle.model.specs.LevelTables.{orFault, drawFault, runningFault, tableFault, readLevels, LevelNumbers}
 use Rattle.model.specs.Jobs.{jobOf, jobCount, jobEntries, wrongWindow, wrongCycles as wrongJobCycles, faultOfJob, jobFault, readJobs}
 use Rattle.model.specs.Processors.{workingOf, topOf, processorOf, readProcessor}
 use Rattle.model.specs.Setting.{settingOf, setting}
 use Rattle.model.specs.Search.{someBelow}
 use Rattle.model.specs.Intervals.{intervalCount, boundAt, lengthOf, isOpen}
-use Rattle.model.specs.Sites.{Site, siteOf, readSite}
+use Rattle.model.specs.Sites.{Site, siteOf, readSite, SiteNumbers}
 use Rattle.model.specs.Windows.{Window, spareOf, earliestOverfull, spare}
 use Rattle.model.specs.Plans.{load}
 use Rattle.model.specs.Prices.{isBandNumber, fitsLoad}
@@ -52,6 +55,14 @@ module _ (numbers : ℕ → Type 0) where
   pub fault-cond : (test : Bool) (number other : ℕ) → numbers number → FaultBy numbers other → FaultBy numbers (cond test number other)
   fault-cond true number other mine rest = inr mine
   fault-cond false number other mine rest = rest
+
+  or-fault : (fault next : ℕ) → FaultBy numbers fault → FaultBy numbers next → FaultBy numbers (orFault fault next)
+  or-fault zero next mine rest = rest
+  or-fault (suc number) next mine rest = mine
+
+  fault-past : (test : Bool) (fault : ℕ) → FaultBy numbers fault → FaultBy numbers (cond test 0 fault)
+  fault-past true fault mine = inl refl
+  fault-past false fault mine = mine
 
   fault-unless : (test : Bool) (number : ℕ) → numbers number → FaultBy numbers (cond test 0 number)
   fault-unless true number mine = inl refl
@@ -95,20 +106,35 @@ module _ (numbers : ℕ → Type 0) where
 pub widen : {A : Type 0} {few many : ℕ → Type 0} {outcome : Outcome A} → ((n : ℕ) → few n → many n) → RefusesBy few outcome → RefusesBy many outcome
 widen wider by number place e = wider number (by number place e)
 
-level-fault : (before this : Level) → FaultBy (From 1 5) (faultOfLevel before this)
+level-fault : (before this : Level) → FaultBy LevelNumbers (faultOfLevel before this)
 unfolding faultOfLevel
 level-fault before this =
-    fault-cond (From 1 5) (wrongFrequency before this) 4 (cond (wrongVoltage before this) 5 0) (omega arith)
-    (fault-cond (From 1 5) (wrongVoltage before this) 5 0 (omega arith) (inl refl))
+    fault-cond LevelNumbers (wrongFrequency before this) 4 (cond (wrongVoltage before this) 5 0) (inl (omega arith))
+    (fault-cond LevelNumbers (wrongVoltage before this) 5 0 (inl (omega arith)) (inl refl))
 
-pub levels-by : (bytes : List ℕ) → RefusesBy (From 1 5) (readLevels bytes)
+draw-fault : (idlePower : ℕ) (first : Level) → FaultBy LevelNumbers (drawFault idlePower first)
+draw-fault idlePower first = fault-cond LevelNumbers (leb (powerOf first) idlePower) 32 0 (inr (omega arith)) (inl refl)
+
+running-fault : (idlePower : ℕ) (levels : List Level) (j : ℕ) → FaultBy LevelNumbers (runningFault idlePower levels j)
+unfolding runningFault
+running-fault idlePower levels zero = or-fault LevelNumbers (levelFault levels 0) _ (level-fault _ _) (draw-fault idlePower (levelOf levels 0))
+running-fault idlePower levels (suc j) = level-fault _ _
+
+table-fault : (entries : List Level) (i : ℕ) → FaultBy LevelNumbers (tableFault entries i)
+unfolding tableFault
+table-fault entries i =
+    fault-past LevelNumbers (ltb i (idleEntries entries)) _
+    (running-fault (idlePowerOf entries) (runningLevels entries) (i - idleEntries entries))
+
+pub levels-by : (bytes : List ℕ) → RefusesBy LevelNumbers (readLevels bytes)
 unfolding readLevels
 levels-by bytes =
-    by-when (From 1 5) (ltb (length bytes) 2) 1 (omega arith)
-    (by-when (From 1 5) (not (leb 1 (levelCount bytes) && leb (levelCount bytes) maxLevels)) 2 (omega arith)
-    (by-when (From 1 5) (not (eqb (length bytes) (2 + 4 * levelCount bytes))) 3 (omega arith)
-    (by-entries (From 1 5) 0 (levelCount bytes) (levelFault (levelEntries bytes)) (λ i. level-fault _ _)
-    (by-answer (From 1 5) (levelEntries bytes)))))
+    by-when LevelNumbers (ltb (length bytes) 2) 1 (inl (omega arith))
+    (by-when LevelNumbers (not (leb 1 (levelCount bytes) && leb (levelCount bytes) maxLevels)) 2 (inl (omega arith))
+    (by-when LevelNumbers (not (eqb (length bytes) (2 + 4 * levelCount bytes))) 3 (inl (omega arith))
+    (by-when LevelNumbers (standsAlone (levelEntries bytes)) 31 (inr (omega arith))
+    (by-entries LevelNumbers 0 (levelCount bytes) (tableFault (levelEntries bytes)) (table-fault (levelEntries bytes))
+    (by-answer LevelNumbers (levelEntries bytes))))))
 
 job-fault : (job : Job) → FaultBy (From 6 10) (faultOfJob job)
 unfolding faultOfJob
@@ -125,33 +151,38 @@ jobs-by bytes =
     (by-entries (From 6 10) 0 (jobCount bytes) (jobFault (jobEntries bytes)) (λ j. job-fault _)
     (by-answer (From 6 10) (jobEntries bytes)))))
 
-processor-by : (bytes : List ℕ) → RefusesBy (From 1 5) (readProcessor bytes)
-processor-by bytes = by-then (From 1 5) (readLevels bytes) _ (levels-by bytes) λ levels. by-answer (From 1 5) (processorOf levels)
+processor-by : (bytes : List ℕ) → RefusesBy LevelNumbers (readProcessor bytes)
+processor-by bytes = by-then LevelNumbers (readLevels bytes) _ (levels-by bytes) λ entries. by-answer LevelNumbers (processorOf entries)
 
-pub setting-by : (levels : List ℕ) (size load : ℕ) → RefusesBy (λ n. From 1 5 n ⊎ From 25 26 n) (setting levels size load)
+pub setting-by : (levels : List ℕ) (size load : ℕ) → RefusesBy (λ n. LevelNumbers n ⊎ From 25 26 n) (setting levels size load)
 unfolding setting
 setting-by levels size load =
-    let numbers : ℕ → Type 0 = λ n. From 1 5 n ⊎ From 25 26 n in
+    let numbers : ℕ → Type 0 = λ n. LevelNumbers n ⊎ From 25 26 n in
     by-then numbers (readProcessor levels) _ (widen (λ n low. inl low) (processor-by levels)) λ processor.
     by-when numbers (not (leb 1 size && leb size maxDeadline)) 25 (inr (omega arith))
     (by-when numbers (ltb (size * topOf processor) load) 26 (inr (omega arith))
     (by-answer numbers (settingOf (workingOf processor) size load)))
 
-pub site-by : (levels jobs : List ℕ) → RefusesBy (From 1 10) (readSite levels jobs)
+-- the numbers of both tables
+level-numbers : (n : ℕ) → LevelNumbers n → SiteNumbers n
+level-numbers n (inl low) = inl (omega (arith, low))
+level-numbers n (inr new) = inr new
+
+pub site-by : (levels jobs : List ℕ) → RefusesBy SiteNumbers (readSite levels jobs)
 unfolding readSite
 site-by levels jobs =
-    by-then (From 1 10) (readLevels levels) _ (widen (λ n low. omega (arith, low)) (levels-by levels)) λ read.
-    by-then (From 1 10) (readJobs jobs) _ (widen (λ n low. omega (arith, low)) (jobs-by jobs)) λ own.
-    by-answer (From 1 10) (siteOf read own)
+    by-then SiteNumbers (readLevels levels) _ (widen level-numbers (levels-by levels)) λ read.
+    by-then SiteNumbers (readJobs jobs) _ (widen (λ n low. inl (omega (arith, low))) (jobs-by jobs)) λ own.
+    by-answer SiteNumbers (siteOf read own)
 
 -- an operation that reads a site refuses as reading does, or by its own numbers
-site-then : (levels jobs : List ℕ) (past : ℕ → Type 0) → RefusesBy (λ n. From 1 10 n ⊎ past n) (readSite levels jobs)
+site-then : (levels jobs : List ℕ) (past : ℕ → Type 0) → RefusesBy (λ n. SiteNumbers n ⊎ past n) (readSite levels jobs)
 site-then levels jobs past = widen (λ n low. inl low) (site-by levels jobs)
 
-pub spare-by : (levels jobs : List ℕ) (start end : ℕ) → RefusesBy (λ n. From 1 10 n ⊎ From 27 27 n) (spare levels jobs start end)
+pub spare-by : (levels jobs : List ℕ) (start end : ℕ) → RefusesBy (λ n. SiteNumbers n ⊎ From 27 27 n) (spare levels jobs start end)
 unfolding spare
 spare-by levels jobs start end =
-    let numbers : ℕ → Type 0 = λ n. From 1 10 n ⊎ From 27 27 n in
+    let numbers : ℕ → Type 0 = λ n. SiteNumbers n ⊎ From 27 27 n in
     by-then numbers (readSite levels jobs) _ (site-then levels jobs (From 27 27)) λ site.
     by-when numbers (leb end start || ltb maxDeadline end) 27 (inr (omega arith))
     (by-answer numbers (spareOf (topOf (site .processor)) (site .jobs) start end))
@@ -161,7 +192,7 @@ unfolding walk
 walk-by plan = by-when (From 15 15) (wrongPlanLength plan) 15 (omega arith) (by-answer (From 15 15) (listOf (stepCount plan) (stepAt plan)))
 
 abbrev CheckNumbers : ℕ → Type 0
-CheckNumbers n = From 1 10 n ⊎ From 15 24 n
+CheckNumbers n = SiteNumbers n ⊎ From 15 24 n
 
 module _ (site : Site) (plan : List ℕ) where
   step-fault : (s : ℕ) → FaultBy CheckNumbers (stepFault site plan s)
@@ -226,7 +257,7 @@ check-by levels jobs plan prices =
 
 -- planning's own form of outcome
 abbrev PlanNumbers : ℕ → Type 0
-PlanNumbers n = From 1 10 n ⊎ From 12 14 n
+PlanNumbers n = SiteNumbers n ⊎ From 12 14 n
 
 abbrev PlanRefusesBy : PlanOutcome → Type 0
 PlanRefusesBy outcome = (number place : ℕ) → outcome ≡ refusal number place → PlanNumbers number

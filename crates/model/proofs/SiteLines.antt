@@ -1,12 +1,13 @@
--- Every line of document 01's table holds, by computing the definitions.
+-- Every line of the table holds, by computing the definitions.
 -- Assumes nothing.
 use mathlib.Core.Path.{_≡_, refl}
 use mathlib.Core.Bool.{true}
-use Rattle.model.specs.SiteLines.{pLines, workedLines, holds, allHold}
+use Rattle.model.specs.SiteLines.{pLines, workedLines, drawLines, holds, allHold}
 use Rattle.model.specs.Outcome.{byEntryFrom}
 use Rattle.model.specs.Bytes.{numberAt, bytesOf}
 use Rattle.model.specs.Entries.{listOf, encodeEach}
-use Rattle.model.specs.Levels.{readLevels, levelAt, faultOfLevel, encodeLevels}
+use Rattle.model.specs.Levels.{faultOfLevel}
+use Rattle.model.specs.LevelTables.{runningFault, tableFault, readLevels, levelAt, encodeLevels}
 use Rattle.model.specs.Jobs.{readJobs, jobAt, faultOfJob, encodeJobs}
 use Rattle.model.specs.Sum.{sum, product}
 use Rattle.model.specs.Search.{someBelow, firstFrom, leastBelow}
@@ -35,6 +36,6 @@ use Rattle.model.specs.Checking.{
 }
 use Rattle.model.specs.Planning.{planFor, planning}
 
-pub lines-hold : (allHold pLines ≡ true) × (allHold workedLines ≡ true)
-unfolding allHold holds pLines workedLines byEntryFrom numberAt bytesOf listOf encodeEach readLevels levelAt faultOfLevel encodeLevels readJobs jobAt faultOfJob encodeJobs sum product someBelow firstFrom leastBelow points drops dropped selectFrom working gap rise scale price bandOf settingOf setting insertTime boundsOf lengthOf cyclesInside spareOf isOverfull overfullTo earliestStart earliestEnd earliestOverfull spare load bandCycles intervalEnergy exactEnergy bandTotal energyFigure isOpen fitsLoad stepAt sharesOf pricesOf stepFault jobSum jobSumFault loadFault fitting entryFault priceFault cheaperFault pricing readSite checkFor check openCount openPairs planFor planning
-lines-hold = (refl, refl)
+pub lines-hold : (allHold pLines ≡ true) × (allHold workedLines ≡ true) × (allHold drawLines ≡ true)
+unfolding allHold holds pLines workedLines drawLines byEntryFrom numberAt bytesOf listOf encodeEach readLevels levelAt faultOfLevel runningFault tableFault encodeLevels readJobs jobAt faultOfJob encodeJobs sum product someBelow firstFrom leastBelow points drops dropped selectFrom working gap rise scale price bandOf settingOf setting insertTime boundsOf lengthOf cyclesInside spareOf isOverfull overfullTo earliestStart earliestEnd earliestOverfull spare load bandCycles intervalEnergy exactEnergy bandTotal energyFigure isOpen fitsLoad stepAt sharesOf pricesOf stepFault jobSum jobSumFault loadFault fitting entryFault priceFault cheaperFault pricing readSite checkFor check openCount openPairs planFor planning
+lines-hold = (refl, refl, refl)

@@ -1,4 +1,4 @@
--- Energy of a plan (document 01, "Energy"). Idling draws powerAt ws 0, which is 0 in document 01.
+-- Energy of a plan (document 01, "Energy"; document 02, Change 2). Idling draws powerAt ws 0: what the idle entry says, or 0.
 use Prim.Native.Nat.{ℕ, _+_, _-_, _*_, _/_, min}
 use mathlib.Core.List.{List}
 use Rattle.model.specs.declared.Job.{Job}
@@ -27,7 +27,7 @@ module _ (ws : List Point) (jobs : List Job) (bounds : List ℕ) (shares : Share
   unfoldable pub bandTotal : (band : ℕ) → ℕ
   bandTotal k = sum (intervalCount bounds) (λ i. bandCycles ws (lengthOf bounds i) (load jobs shares i) k)
 
-  -- The reported figure rounds each band's total, taken over all intervals, down and adds them.
+  -- The reported figure rounds each band's total, taken over all intervals, down and adds them, with what idling draws.
   unfoldable pub energyFigure : ℕ
   energyFigure =
       sum (bandCount ws) (λ k. bandTotal k * rise ws k / gap ws k)

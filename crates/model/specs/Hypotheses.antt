@@ -4,14 +4,15 @@
 use Prim.Native.Nat.{ℕ, suc, _+_, _*_, _<_, _≤_}
 use mathlib.Core.Path.{_≡_}
 use mathlib.Core.Logic.{_⊎_}
-use mathlib.Core.List.{List}
+use mathlib.Core.List.{List, _∷_}
 use lib.ListN.{length}
 use Rattle.model.specs.declared.Level.{Level}
 use Rattle.model.specs.declared.Job.{Job}
 use Rattle.model.specs.Outcome.{answer}
-use Rattle.model.specs.Levels.{levelOf, readLevels, ValidLevels}
+use Rattle.model.specs.Levels.{levelOf, ValidLevels}
 use Rattle.model.specs.Jobs.{jobOf, readJobs, ValidJobs}
 use Rattle.model.specs.Points.{powerOf}
+use Rattle.model.specs.LevelTables.{idleEntry, readLevels, ValidLevelTable, DrawFits}
 use Rattle.model.specs.Intervals.{boundsOf, intervalCount, boundAt, earliestRelease, latestDeadline, openPairs, Bounds}
 use Rattle.model.specs.Sites.{Site, siteOf, ValidSite, SitesAreValid}
 use Rattle.model.specs.Schedules.{Slot, idles, runs, horizon, Schedule}
@@ -19,14 +20,22 @@ use Rattle.model.specs.LeastEnergy.{SoundSite}
 use Rattle.model.specs.Demands.{ValidTables, LongEnough}
 
 -- "1 to 8 levels, frequencies 1 to 1,000 and strictly rising, voltages 1 to 500 and never falling": all such levels are valid.
-abbrev pub EveryLevelTable : Type 0
-EveryLevelTable =
+abbrev pub EveryLevels : Type 0
+EveryLevels =
     (levels : List Level) → 1 ≤ length levels → length levels ≤ 8
     → ((i : ℕ) → i < length levels → (1 ≤ levelOf levels i .frequency) × (levelOf levels i .frequency ≤ 1_000))
     → ((i : ℕ) → suc i < length levels → levelOf levels i .frequency < levelOf levels (suc i) .frequency)
     → ((i : ℕ) → i < length levels → (1 ≤ levelOf levels i .voltage) × (levelOf levels i .voltage ≤ 500))
     → ((i : ℕ) → suc i < length levels → levelOf levels i .voltage ≤ levelOf levels (suc i) .voltage)
     → ValidLevels levels
+
+-- Valid levels are a valid table by themselves and, where they are 7 at most, after an idle entry whose draw, in thousands of
+-- power units, is any number of 16 bits below the first one's power.
+abbrev pub EveryLevelTable : Type 0
+EveryLevelTable =
+    ((levels : List Level) → ValidLevels levels → ValidLevelTable levels × DrawFits levels)
+    × ((draw : ℕ) (levels : List Level) → ValidLevels levels → length levels ≤ 7 → draw ≤ 65_535 → 1_000 * draw < powerOf (levelOf levels 0)
+    → ValidLevelTable (idleEntry draw ∷ levels) × DrawFits (idleEntry draw ∷ levels))
 
 -- "0 to 64 jobs, deadlines up to 1,000,000, cycles 1 to 1,000,000,000", each release before its deadline: all such jobs
 -- are valid.
@@ -40,7 +49,7 @@ EveryJobTable =
 -- Every table that is read is valid.
 abbrev pub EveryTableRead : Type 0
 EveryTableRead =
-    ((bytes : List ℕ) (levels : List Level) → readLevels bytes ≡ answer levels → ValidLevels levels)
+    ((bytes : List ℕ) (entries : List Level) → readLevels bytes ≡ answer entries → ValidLevelTable entries)
     × ((bytes : List ℕ) (jobs : List Job) → readJobs bytes ≡ answer jobs → ValidJobs jobs)
 
 -- Levels, at least one and of any number, whose frequencies rise from above 0 and whose powers rise from above idling's, and
@@ -54,7 +63,7 @@ EverySite =
     → ((j : ℕ) → j < length jobs → jobOf jobs j .release < jobOf jobs j .deadline)
     → SoundSite idlePower levels jobs
 
--- Valid tables are such a site where idling draws nothing, as in document 01, and where it draws anything below the first
+-- Valid levels are such a site where idling draws nothing, as in document 01, and where it draws anything below the first
 -- level's power.
 abbrev pub EveryValidSite : Type 0
 EveryValidSite =
@@ -88,13 +97,13 @@ EverySchedule =
 -- Every site that is read is valid, and valid tables make one.
 abbrev pub EverySiteRead : Type 0
 EverySiteRead =
-    SitesAreValid × ((levels : List Level) (jobs : List Job) → ValidLevels levels → ValidJobs jobs → ValidSite (siteOf levels jobs))
+    SitesAreValid × ((entries : List Level) (jobs : List Job) → ValidLevelTable entries → ValidJobs jobs → ValidSite (siteOf entries jobs))
 
 -- "valid tables": wherever levels and jobs are read, their bytes are valid tables of the site that they make.
 abbrev pub EveryValidTable : Type 0
 EveryValidTable =
-    (levelBytes jobBytes : List ℕ) (levels : List Level) (jobs : List Job) → readLevels levelBytes ≡ answer levels
-    → readJobs jobBytes ≡ answer jobs → ValidTables levelBytes jobBytes (siteOf levels jobs)
+    (levelBytes jobBytes : List ℕ) (entries : List Level) (jobs : List Job) → readLevels levelBytes ≡ answer entries
+    → readJobs jobBytes ≡ answer jobs → ValidTables levelBytes jobBytes (siteOf entries jobs)
 
 -- "Buffers [are] long enough when none of 12 to 14" holds: 4 + 6K bytes, 2 + 5N bytes and n × N shares are enough.
 abbrev pub EveryBuffer : Type 0

@@ -9,6 +9,7 @@ pub mod BuiltIn
 pub mod Sum
 pub mod Search
 pub mod Points
+pub mod LevelTables
 pub mod Bands
 pub mod Processors
 pub mod Setting
@@ -28,4 +29,5 @@ pub mod Accepted
 pub mod Planning
 pub mod Demands
 pub mod Hypotheses
+pub mod IdleDraw
 pub mod SiteLines

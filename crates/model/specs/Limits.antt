@@ -1,6 +1,6 @@
--- The limits of document 01: 0 to 64 jobs, 1 to 8 levels, deadlines up to 1,000,000, cycles 1 to 1,000,000,000,
+-- The limits of document 01: 0 to 64 jobs, 1 to 8 levels, the idle entry counted with them, deadlines up to 1,000,000, cycles 1 to 1,000,000,000,
 -- frequencies 1 to 1,000 and voltages 1 to 500. Each is the largest number allowed.
--- The code has the same names in src/lib.rt.
+-- Those that the code needs have the same names in src/lib.rt.
 use Prim.Native.Nat.{ℕ, _*_}
 
 abbrev pub maxLevels : ℕ
@@ -11,6 +11,10 @@ maxFrequency = 1_000
 
 abbrev pub maxVoltage : ℕ
 maxVoltage = 500
+
+-- The draw of the idle entry stands in the 16 bits of a voltage (document 02, Change 2).
+abbrev pub maxDraw : ℕ
+maxDraw = 65_535
 
 -- The power of the highest frequency at the highest voltage.
 abbrev pub maxPower : ℕ

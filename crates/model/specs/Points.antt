@@ -18,7 +18,7 @@ pub record Point : Type 0 where
 abbrev pub powerOf : Level → ℕ
 powerOf level = level .frequency * level .voltage * level .voltage
 
--- Idling has frequency 0 and draws idlePower, 0 in document 01.
+-- Idling has frequency 0 and draws idlePower: 0 in document 01, and the draw of the idle entry in document 02.
 abbrev pub idlingPoint : (idlePower : ℕ) → Point
 idlingPoint idlePower = record { frequency = 0; power = idlePower }
 

@@ -1,10 +1,12 @@
--- The processor of a site: what its levels give and what idling draws (document 01, "Jobs, levels, time").
+-- The processor of a site: what its levels give and what idling draws (document 01, "Jobs, levels,
+-- time"; document 02, Change 2).
 use Prim.Native.Nat.{ℕ}
 use mathlib.Core.List.{List}
 use Rattle.model.specs.declared.Level.{Level}
 use Rattle.model.specs.Outcome.{Outcome, answer, andThen}
-use Rattle.model.specs.Levels.{ValidLevels, readLevels}
+use Rattle.model.specs.Levels.{ValidLevels}
 use Rattle.model.specs.Points.{Point, points, working, topFrequency, RisingPoints}
+use Rattle.model.specs.LevelTables.{readLevels, idlePowerOf, runningLevels}
 
 -- Idling's power, and the running levels upward.
 pub record Processor : Type 0 where
@@ -23,15 +25,15 @@ module _ (processor : Processor) where
   abbrev pub topOf : ℕ
   topOf = topFrequency (processor .levels)
 
--- Idling has frequency 0 and power 0.
-abbrev pub processorOf : List Level → Processor
-processorOf levels = record { idlePower = 0; levels = levels }
+-- "Idling is then the point (0, draw)", where the table begins with an idle entry; without it idling draws 0.
+abbrev pub processorOf : (entries : List Level) → Processor
+processorOf entries = record { idlePower = idlePowerOf entries; levels = runningLevels entries }
 
--- The processor of a level table in bytes: refusals 1 to 5.
+-- The processor of a level table in bytes: refusals 1 to 5, 31 and 32.
 abbrev pub readProcessor : List ℕ → Outcome Processor
 readProcessor levelBytes =
-    andThen (readLevels levelBytes) λ levels.
-    answer (processorOf levels)
+    andThen (readLevels levelBytes) λ entries.
+    answer (processorOf entries)
 
 -- What holds of every processor that is read, proved in proofs/Sites.antt: its levels keep document 01's limits, and
 -- frequencies and powers rise from idling on.

@@ -1,5 +1,5 @@
--- The lines of document 01's "Sites to try" that are marked P, as one table. That every line holds is one statement,
--- proved in proofs/SiteLines.antt by computing the definitions.
+-- The lines of document 01's "Sites to try" that are marked P, as one table, and lines of document 02's Change 2. That every
+-- line holds is one statement, proved in proofs/SiteLines.antt by computing the definitions.
 use Prim.Native.Nat.{ℕ, zero, suc, _+_, _*_}
 use mathlib.Core.Bool.{Bool, true, false, _&&_}
 use mathlib.Core.List.{List, [], _∷_, map}
@@ -8,7 +8,7 @@ use lib.Dec.{eqb}
 use Rattle.model.specs.declared.Level.{Level}
 use Rattle.model.specs.declared.Job.{Job}
 use Rattle.model.specs.Outcome.{Outcome, refused, answer}
-use Rattle.model.specs.Levels.{encodeLevels}
+use Rattle.model.specs.LevelTables.{idleEntry, readLevels, encodeLevels}
 use Rattle.model.specs.Jobs.{encodeJobs}
 use Rattle.model.specs.BuiltIn.{level, firstBuiltIn}
 use Rattle.model.specs.Points.{Point}
@@ -31,6 +31,9 @@ T = level 2 10 ∷ level 4 20 ∷ []
 
 -- What a line says of some tables.
 pub data SiteLine : Type 0 where
+  -- the bytes of these entries are read as they stand, or are refused
+  reads : List Level → SiteLine
+  refusesReading : List Level → (number place : ℕ) → SiteLine
   -- the setting of an interval answers band, extra and gap, or is refused
   sets : List Level → (length load : ℕ) → (band extra gap : ℕ) → SiteLine
   refusesSetting : List Level → (length load : ℕ) → (number : ℕ) → SiteLine
@@ -98,6 +101,21 @@ listedPlan =
 abbrev pub listedPrices : List ℕ
 listedPrices = 3 ∷ 0 ∷ 2 ∷ 0 ∷ 0 ∷ 0 ∷ 3 ∷ 0 ∷ 0 ∷ 0 ∷ 4 ∷ 0 ∷ 0 ∷ 0 ∷ 1 ∷ 2 ∷ 1 ∷ []
 
+-- The shares of a plan for jobs 0 2 150 and 5 6 100: 150 cycles in the first interval, 100 in the last.
+abbrev pub drawShares : Shares
+drawShares zero zero = 150
+drawShares zero (suc j) = 0
+drawShares (suc zero) j = 0
+drawShares (suc (suc i)) zero = 0
+drawShares (suc (suc i)) (suc j) = 100
+
+-- Its bytes, and those of its prices.
+abbrev pub drawPlan : List ℕ
+drawPlan = 3 ∷ 0 ∷ 2 ∷ 0 ∷ 0 ∷ 0 ∷ 129 ∷ 0 ∷ 150 ∷ 0 ∷ 0 ∷ 0 ∷ 100 ∷ 0 ∷ 0 ∷ 0 ∷ []
+
+abbrev pub drawPrices : List ℕ
+drawPrices = 3 ∷ 0 ∷ 2 ∷ 0 ∷ 0 ∷ 0 ∷ 5 ∷ 0 ∷ 0 ∷ 0 ∷ 6 ∷ 0 ∷ 0 ∷ 0 ∷ 1 ∷ 1 ∷ 1 ∷ []
+
 -- Further worked lines of document 01 that the definitions compute.
 unfoldable pub workedLines : List SiteLine
 workedLines =
@@ -114,6 +132,38 @@ workedLines =
     ∷ accepts T (job 0 4 6 ∷ job 2 3 4 ∷ []) listedPlan listedPrices 2_200
     ∷ []
 
+-- Levels 100 10 and 200 10 on a board that draws while it idles.
+abbrev pub idlesAt : (draw : ℕ) → List Level
+idlesAt draw = idleEntry draw ∷ level 100 10 ∷ level 200 10 ∷ []
+
+-- Lines of document 02, Change 2.
+unfoldable pub drawLines : List SiteLine
+drawLines =
+    -- a draw of 9 is below the first running level's power, 10,000; a draw of 10 is not
+    reads (idlesAt 9)
+    ∷ refusesReading (idlesAt 10) 32 1
+    -- a draw is not a voltage: 65,535 may stand before 300
+    ∷ reads (idleEntry 65_535 ∷ level 1_000 300 ∷ [])
+    -- the idle entry stands alone, and a running level may
+    ∷ refusesReading (idleEntry 9 ∷ []) 31 0
+    ∷ reads (level 100 10 ∷ [])
+    -- frequency 0 is an idle entry in the first place alone
+    ∷ refusesReading (idleEntry 9 ∷ idleEntry 9 ∷ level 100 10 ∷ []) 4 1
+    -- 100 works only because idling draws power
+    ∷ works (idlesAt 0) (200 ∷ [])
+    ∷ works (idlesAt 1) (100 ∷ 200 ∷ [])
+    ∷ sets (idlesAt 0) 2 150 1 150 200
+    ∷ sets (idlesAt 9) 2 150 1 150 100
+    -- without load the draw is all: 9,000 for each of 6 ticks, those between the jobs too
+    ∷ idleEnergy (idlesAt 9) (job 0 2 150 ∷ job 5 6 100 ∷ []) 54_000
+    -- and with 250 cycles at price 10 the energy is 2,500 above it
+    ∷ plans (idlesAt 9) (job 0 2 150 ∷ job 5 6 100 ∷ []) 16 17 6
+    ∷ needs (idlesAt 9) (job 0 2 150 ∷ job 5 6 100 ∷ []) drawShares 56_500 0 1
+    ∷ accepts (idlesAt 9) (job 0 2 150 ∷ job 5 6 100 ∷ []) drawPlan drawPrices 56_500
+    -- first built-in table with a draw of 100, one job 0 2 with 401 cycles: 401 × 2,330,000 / 300 and 2 × 100,000
+    ∷ needs (idleEntry 100 ∷ firstBuiltIn) (job 0 2 401 ∷ []) (λ i j. 401) 3_314_433 1 3
+    ∷ []
+
 sameSetting : Outcome Setting → (band extra gap : ℕ) → Bool
 sameSetting (refused number place) band extra gap = false
 sameSetting (answer setting) band extra gap = eqb (setting .band) band && eqb (setting .extra) extra && eqb (setting .gap) gap
@@ -122,9 +172,24 @@ sameNumber : Outcome ℕ → (wanted : ℕ) → Bool
 sameNumber (refused number place) wanted = false
 sameNumber (answer n) wanted = eqb n wanted
 
-sameRefusal : {A : Type 0} → Outcome A → (number : ℕ) → Bool
-sameRefusal (refused number place) wanted = eqb number wanted && eqb place 0
-sameRefusal (answer a) wanted = false
+sameNumbers : List ℕ → List ℕ → Bool
+sameNumbers [] [] = true
+sameNumbers [] (n ∷ ns) = false
+sameNumbers (m ∷ ms) [] = false
+sameNumbers (m ∷ ms) (n ∷ ns) = eqb m n && sameNumbers ms ns
+
+sameLevels : List Level → List Level → Bool
+sameLevels entries wanted =
+    sameNumbers (map (λ level. level .frequency) entries) (map (λ level. level .frequency) wanted)
+    && sameNumbers (map (λ level. level .voltage) entries) (map (λ level. level .voltage) wanted)
+
+sameEntries : Outcome (List Level) → List Level → Bool
+sameEntries (refused number place) wanted = false
+sameEntries (answer entries) wanted = sameLevels entries wanted
+
+refusedAt : {A : Type 0} → Outcome A → (number place : ℕ) → Bool
+refusedAt (refused number place) wanted at = eqb number wanted && eqb place at
+refusedAt (answer a) wanted at = false
 
 sameInteger : ℤ → ℤ → Bool
 sameInteger (pos m) (pos n) = eqb m n
@@ -135,12 +200,6 @@ sameInteger (negsuc m) (negsuc n) = eqb m n
 sameSpare : Outcome ℤ → ℤ → Bool
 sameSpare (refused number place) z = false
 sameSpare (answer found) z = sameInteger found z
-
-sameNumbers : List ℕ → List ℕ → Bool
-sameNumbers [] [] = true
-sameNumbers [] (n ∷ ns) = false
-sameNumbers (m ∷ ms) [] = false
-sameNumbers (m ∷ ms) (n ∷ ns) = eqb m n && sameNumbers ms ns
 
 -- the working points are idling and these
 sameWorking : List Point → List ℕ → Bool
@@ -158,9 +217,11 @@ isPlan comesOut = true
 
 -- The line holds, as the definitions compute.
 unfoldable pub holds : SiteLine → Bool
-unfolding sameSetting sameNumber sameRefusal sameInteger sameSpare sameNumbers sameWorking sameOverfull isPlan
+unfolding sameSetting sameNumber sameNumbers sameLevels sameEntries refusedAt sameInteger sameSpare sameWorking sameOverfull isPlan
+holds (reads entries) = sameEntries (readLevels (encodeLevels entries)) entries
+holds (refusesReading entries number place) = refusedAt (readLevels (encodeLevels entries)) number place
 holds (sets levels length load band extra gap) = sameSetting (setting (encodeLevels levels) length load) band extra gap
-holds (refusesSetting levels length load number) = sameRefusal (setting (encodeLevels levels) length load) number
+holds (refusesSetting levels length load number) = refusedAt (setting (encodeLevels levels) length load) number 0
 holds (spares levels jobs start end z) = sameSpare (spare (encodeLevels levels) (encodeJobs jobs) start end) z
 holds (works levels frequencies) = sameWorking (workingOf (processorOf levels)) frequencies
 holds (refusesOverfull levels jobs start end z) = sameOverfull (planning (encodeLevels levels) (encodeJobs jobs) 0 0 0) start end z
@@ -168,7 +229,7 @@ holds (plans levels jobs planRoom priceRoom shareRoom) =
     isPlan (planning (encodeLevels levels) (encodeJobs jobs) planRoom priceRoom shareRoom)
 holds (intervals jobs count) = eqb (intervalCount (boundsOf jobs)) count
 holds (idleEnergy levels jobs energy) =
-    eqb (exactEnergy (workingOf (processorOf levels)) jobs (boundsOf jobs) (λ i j. 0)) energy
+    eqb (exactEnergy (workingOf (processorOf levels)) jobs (boundsOf jobs) (λ i j. 0)) (energy * scale (workingOf (processorOf levels)))
     && eqb (energyFigure (workingOf (processorOf levels)) jobs (boundsOf jobs) (λ i j. 0)) energy
 holds (accepts levels jobs plan prices figure) = sameNumber (check (encodeLevels levels) (encodeJobs jobs) plan prices) figure
 holds (costs levels length load energy) =

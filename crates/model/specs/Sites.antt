@@ -1,13 +1,14 @@
 -- A site: what every operation works on once its tables were read. All that is stated after reading is stated over it.
 use Prim.Native.Nat.{ℕ, _≤_}
 use mathlib.Core.Path.{_≡_}
+use mathlib.Core.Logic.{_⊎_}
 use mathlib.Core.List.{List}
 use lib.ListN.{length}
 use Rattle.model.specs.declared.Level.{Level}
 use Rattle.model.specs.declared.Job.{Job}
 use Rattle.model.specs.Limits.{maxBounds}
-use Rattle.model.specs.Outcome.{Outcome, answer, andThen}
-use Rattle.model.specs.Levels.{readLevels}
+use Rattle.model.specs.Outcome.{Outcome, answer, andThen, From}
+use Rattle.model.specs.LevelTables.{readLevels}
 use Rattle.model.specs.Jobs.{ValidJobs, readJobs}
 use Rattle.model.specs.Processors.{Processor, ValidProcessor, processorOf}
 use Rattle.model.specs.Intervals.{boundsOf, Bounds}
@@ -19,15 +20,20 @@ pub record Site : Type 0 where
   pub bounds : List ℕ
 
 -- The site of two tables that were read.
-abbrev pub siteOf : List Level → List Job → Site
-siteOf levels jobs = record { processor = processorOf levels; jobs = jobs; bounds = boundsOf jobs }
+abbrev pub siteOf : (entries : List Level) → List Job → Site
+siteOf entries jobs = record { processor = processorOf entries; jobs = jobs; bounds = boundsOf jobs }
 
--- Reading a site: levels, then jobs. Refusals 1 to 10, in document 01's order, for every operation that reads both.
+-- Reading a site: levels, then jobs. Refusals 1 to 5, 31 and 32, and 6 to 10, each reading's in its own order, for every
+-- operation that reads both.
 unfoldable pub readSite : (levelBytes jobBytes : List ℕ) → Outcome Site
 readSite levelBytes jobBytes =
-    andThen (readLevels levelBytes) λ levels.
+    andThen (readLevels levelBytes) λ entries.
     andThen (readJobs jobBytes) λ jobs.
-    answer (siteOf levels jobs)
+    answer (siteOf entries jobs)
+
+-- The numbers that reading a site refuses by.
+abbrev pub SiteNumbers : ℕ → Type 0
+SiteNumbers n = From 1 10 n ⊎ From 31 32 n
 
 -- What holds of every site that is read: the tables keep document 01's limits, and the bounds cut the time as the theory
 -- asks.

@@ -1,7 +1,8 @@
 // The vocabulary of the code: a level, a job, and the limits of document 01 by name.
 // What the words mean is defined in specs/, and the laws on the definitions are proved in proofs/.
 
-// A frequency level of the processor: cycles per tick, and hundredths of a volt.
+// A frequency level of the processor: cycles per tick, and hundredths of a volt. A level table may begin with the idle entry:
+// 0, and what idling draws in thousands of power units.
 pub struct Level {
     pub frequency: u64,
     pub voltage: u64,

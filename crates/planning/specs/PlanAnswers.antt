@@ -27,7 +27,7 @@ pub record SitePlanned (site : Site) (before after : Buffers) (answered : PlanAn
 
 -- The whole promise of planning.
 pub record PlanContract (levelBytes jobBytes : List ℕ) (before after : Buffers) (answered : PlanAnswer) : Type 0 where
-  -- a plan or not, and which refusal or window: as the definition of planning says, refusals 1 to 14 in document 01's order
+  -- a plan or not, and which refusal or window: as the definition of planning says, refusals 1 to 14, 31 and 32 in their order
   pub outcome : outcomeOf answered ≡ planning levelBytes jobBytes (length (before .plan)) (length (before .prices)) (length (before .shares))
   -- without a plan everything lent is as it was
   pub untouched : (outcomeOf answered ≡ comesOut → ⊥) → after ≡ before

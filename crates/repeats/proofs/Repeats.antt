@@ -1,6 +1,6 @@
 -- The theorem of repeats.
 -- Assumes nothing.
-use mathlib.Core.Path.{_≡_, refl, _∙_, ap}
+use mathlib.Core.Path.{_≡_, refl, _∙_}
 use mathlib.Core.Logic.{_⊎_, inl, inr}
 use mathlib.Core.List.{List, [], _∷_}
 use Prim.Native.Nat.{ℕ, zero, suc, _+_, _-_, _*_, _<_}
@@ -8,11 +8,8 @@ use native.Mathlib.Nat.{eq-zero-or-pos, mul-pos}
 use native.Mathlib.Omega.{arith}
 use lib.ListN.{length}
 use borrow.Author.Tests.{le-ltb}
-use Rattle.model.specs.declared.Level.{Level}
 use Rattle.model.specs.declared.Job.{Job}
 use Rattle.model.specs.Sum.{sum}
-use Rattle.model.specs.Points.{Point, points, working}
-use Rattle.model.specs.Bands.{powerAt}
 use Rattle.model.specs.Processors.{workingOf, topOf}
 use Rattle.model.specs.Intervals.{intervalCount, boundAt, earliestRelease, latestDeadline, Bounds}
 use Rattle.model.specs.Sites.{Site}
@@ -22,7 +19,7 @@ use Rattle.model.specs.Energy.{exactEnergy}
 use Rattle.model.specs.LeastEnergy.{SoundSite}
 use Rattle.model.proofs.Intervals.{bounds-rise}
 use Rattle.model.proofs.BoundsOf.{ReleasesFirst}
-use Rattle.model.proofs.Working.{working-first}
+use Rattle.model.proofs.IdleDraw.{idle-power}
 use Rattle.model.proofs.LeastEnergy.{certificate, plans-are-schedules}
 use Rattle.repeats.specs.Repeats.{
   repeatJobs,
@@ -73,11 +70,6 @@ no-bounds H bounds none (suc more) = rw (le-ltb 0 (intervalCount bounds) (omega 
 pub no-repeats : (H : ℕ) (bounds : List ℕ) → repeatBounds H bounds 0 ≡ []
 unfolding repeatBounds
 no-repeats H bounds = refl
-
--- idling is the first of the working points
-idle-power : (idlePower : ℕ) (levels : List Level) → powerAt (working (points idlePower levels)) 0 ≡ idlePower
-unfolding points
-idle-power idlePower levels = ap (λ (point : Point). point .power) (working-first (points idlePower levels) (omega arith))
 
 module _ (site : Site) (shares : Shares) (prices : PriceList) (H r : ℕ) where
   abbrev RJ : List Job

@@ -40,6 +40,7 @@ rounds-that-repeat taskBytes room round e site valid jobs plan prices accepted r
       read = is .read;
       multiple = is .multiple;
       repeated-jobs = rw laid-out (sym (laid-out-repeats (is .tasks) (is .valid-tasks) H (is .multiple .common) r));
+      apart = apart;
       repeated-plan = rounds-repeat site (sound-site valid) (valid .bounds) (sharesOf plan) (accepted .gives)
           (pricesOf prices) (accepted .fitting) H apart r;
     }

@@ -15,7 +15,7 @@ use Rattle.tasks.specs.Tasks.{readTasks}
 use Rattle.tasks.specs.Multiples.{LeastCommonMultiple}
 use Rattle.tasks.specs.LaidOut.{layOut}
 use Rattle.tasks.specs.Rounds.{Round, rounds}
-use Rattle.repeats.specs.Repeats.{repeatJobs}
+use Rattle.repeats.specs.Repeats.{repeatJobs, RepeatsApart}
 use Rattle.repeats.specs.RepeatedPlan.{RepeatedPlan}
 
 -- What holds of r repeats of a round that was laid out from a table of tasks, at a site whose plan is repeated with it.
@@ -27,6 +27,8 @@ pub record RepeatedRound (taskBytes : List ℕ) (round : Round) (site : Site) (p
   pub multiple : LeastCommonMultiple tasks (round .multiple)
   -- "the repeated jobs" are exactly the jobs that the tasks release in r times that many ticks, by release, then task number
   pub repeated-jobs : repeatJobs (round .multiple) r (site .jobs) ≡ layOut tasks (r * round .multiple)
+  -- each repeat ends no later than the next one starts
+  pub apart : RepeatsApart (round .multiple) (site .jobs)
   -- "the repeated plan is the least": it gives each of these jobs exactly its cycles between release and deadline; carried
   -- out it is a schedule that meets all deadlines; and no schedule over the same levels that meets all deadlines, whatever
   -- whole number of slots it cuts a tick into, has less than its exact energy. What this energy is stands there too.

@@ -8,7 +8,7 @@ use lib.ListN.{getD}
 use Rattle.model.specs.declared.Level.{Level}
 use Rattle.model.specs.Limits.{maxJobs}
 use Rattle.model.specs.Outcome.{Outcome, refused, answer}
-use Rattle.model.specs.Levels.{readLevels}
+use Rattle.model.specs.LevelTables.{readLevels}
 use Rattle.model.specs.Jobs.{readJobs}
 use Rattle.model.specs.Intervals.{boundsOf}
 use Rattle.model.specs.Processors.{workingOf, topOf, processorOf}

@@ -1,4 +1,4 @@
-// Reading a site: its levels and its jobs, refusals 1 to 10. Every operation that works on both starts here.
+// Reading a site: its levels and its jobs, refusals 1 to 10, 31 and 32. Every operation that works on both starts here.
 ghost use mathlib.Core.Path.{_≡_};
 ghost use mathlib.Core.List.{List};
 ghost use Prim.Native.Nat.{ℕ};
@@ -6,7 +6,7 @@ ghost use lib.ListN.{replicate};
 ghost use Rattle.model.specs.declared.Level.{Level};
 ghost use Rattle.model.specs.Limits.{maxJobs, maxBounds};
 ghost use Rattle.model.specs.Outcome.{answer};
-ghost use Rattle.model.specs.Levels.{readLevels};
+ghost use Rattle.model.specs.LevelTables.{readLevels};
 ghost use Rattle.model.specs.Processors.{workingOf, topOf, processorOf};
 ghost use Rattle.model.specs.Sites.{readSite};
 ghost use Rattle.levels.specs.PointTables.{pointTable};

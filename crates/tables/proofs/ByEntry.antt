@@ -1,11 +1,12 @@
 -- Laws of the answer while the entries are gone through.
 -- Assumes nothing.
 use mathlib.Core.Path.{_≡_, refl, sym, _∙_, ap}
+use mathlib.Core.Bool.{Bool, true, false}
 use mathlib.Core.List.{List}
 use Prim.Native.Nat.{ℕ, _<_}
 use native.Mathlib.Omega.{arith}
 use lib.ListN.{length}
-use Rattle.model.specs.Outcome.{Outcome, refused, answer, byEntry}
+use Rattle.model.specs.Outcome.{Outcome, refused, answer, refuseWhen, byEntry}
 use Rattle.model.proofs.Outcome.{byEntry-passes, byEntry-stops, byEntry-answered}
 use Rattle.tables.specs.declared.Reading.the-variants.{Entries, Refused}
 use Rattle.tables.specs.Tables.{readingOf}
@@ -41,6 +42,12 @@ pub reading-answered : {A : Type 0} (count : ℕ) (fault : ℕ → ℕ) (entries
 reading-answered count fault entries n e =
     let found = some-answer (byEntry count fault (answer entries)) n e in
     found .1 ∙ sym (byEntry-answered fault (answer entries) count (found .1) .1)
+
+-- a refusal before the entries that did not come
+pub reading-past : {A : Type 0} (test : Bool) (own n : ℕ) (next : Outcome (List A)) → readingOf (refuseWhen test own next) ≡ Entries n
+    → refuseWhen test own next ≡ next
+reading-past true own n next e = absurd (entries≢refused (sym e))
+reading-past false own n next e = refl
 
 -- entries that are those of every answer of that many entries are the outcome's
 pub reading-held : {A : Type 0} (outcome : Outcome (List A)) (n : ℕ) (held : List A) → readingOf outcome ≡ Entries n

@@ -1,7 +1,7 @@
 -- Reading levels, one law for each way out: the refusals without a place; the refusal at an entry; and the answer, where
 -- the arrays that reading fills hold the entries of the bytes.
 -- Assumes nothing.
-use mathlib.Core.Path.{_≡_, refl, sym, _∙_}
+use mathlib.Core.Path.{_≡_, refl, sym, _∙_, ap}
 use mathlib.Core.List.{List}
 use Prim.Native.Nat.{ℕ, _+_, _*_, _<_, _≤_}
 use native.Mathlib.Omega.{arith}
@@ -10,15 +10,16 @@ use borrow.Author.Tests.{lt-ltb, le-ltb, lt-leb, le-leb, eq-eqb, ne-eqb}
 use Rattle.model.specs.declared.Level.{Level}
 use Rattle.model.specs.Limits.{maxLevels}
 use Rattle.model.specs.Bytes.{number16}
-use Rattle.model.specs.Outcome.{Outcome, refused, answer, byEntry}
-use Rattle.model.specs.Levels.{idling, levelCount, levelAt, levelEntries, levelFault, readLevels}
+use Rattle.model.specs.Outcome.{Outcome, refused, answer, refuseWhen, byEntry}
+use Rattle.model.specs.Levels.{idling}
+use Rattle.model.specs.LevelTables.{levelCount, levelAt, levelEntries, standsAlone, tableFault, readLevels}
 use Rattle.model.proofs.Entries.{listOf-cong}
 use Rattle.tables.specs.declared.Reading.{Reading}
 use Rattle.tables.specs.declared.Reading.the-variants.{Entries, Refused}
 use Rattle.tables.specs.Column.{columnOf}
 use Rattle.tables.specs.Tables.{levelsIn, levelTable, readingOf, checkedLevels}
 use Rattle.tables.proofs.Column.{column-at, column-of-entries}
-use Rattle.tables.proofs.ByEntry.{reading-refused, reading-answered}
+use Rattle.tables.proofs.ByEntry.{reading-refused, reading-answered, reading-past}
 
 module _ (bytes : List ℕ) where
   abbrev frequencyColumn : List ℕ
@@ -27,9 +28,12 @@ module _ (bytes : List ℕ) where
   abbrev voltageColumn : List ℕ
   voltageColumn = columnOf maxLevels (levelCount bytes) (λ i. number16 bytes (2 + 2 * levelCount bytes + 2 * i))
 
-  -- the outcome of going through the entries
+  -- the outcome of going through the entries, and with 31 before that
+  abbrev gone : Outcome (List Level)
+  gone = byEntry (levelCount bytes) (tableFault (levelEntries bytes)) (answer (levelEntries bytes))
+
   abbrev pub checked : Outcome (List Level)
-  checked = byEntry (levelCount bytes) (levelFault (levelEntries bytes)) (answer (levelEntries bytes))
+  checked = refuseWhen (standsAlone (levelEntries bytes)) 31 gone
 
   -- the levels in the arrays are the entries of the bytes
   levels-decoded : levelCount bytes ≤ maxLevels → levelsIn (levelCount bytes) frequencyColumn voltageColumn ≡ levelEntries bytes
@@ -42,7 +46,8 @@ module _ (bytes : List ℕ) where
       → record { reading = Entries n; frequencies = frequencyColumn; voltages = voltageColumn } ≡ levelTable checked
   unfolding levelAt
   levels-answered n e =
-      let whole : checked ≡ answer (levelEntries bytes) = reading-answered _ _ _ n e in
+      let past : checked ≡ gone = reading-past (standsAlone (levelEntries bytes)) 31 n gone e in
+      let whole : checked ≡ answer (levelEntries bytes) = past ∙ reading-answered _ _ _ n (ap readingOf (sym past) ∙ e) in
       rw (
         ← e,
         whole,

@@ -3,7 +3,7 @@
 -- Assumes nothing.
 use mathlib.Core.Path.{_≡_, sym, _∙_, ap}
 use mathlib.Core.List.{List}
-use Prim.Native.Nat.{ℕ, _-_, _<_, _≤_}
+use Prim.Native.Nat.{ℕ, _+_, _-_, _<_, _≤_}
 use native.Mathlib.Omega.{arith}
 use lib.ListN.{length, getD}
 use Rattle.model.specs.declared.Level.{Level}
@@ -11,11 +11,12 @@ use Rattle.model.specs.declared.Job.{Job}
 use Rattle.model.specs.Limits.{maxLevels, maxFrequency, maxJobs}
 use Rattle.model.specs.Outcome.{Outcome, refused, answer}
 use Rattle.model.specs.Entries.{listOf}
-use Rattle.model.specs.Levels.{idling, levelOf, readLevels, ValidLevels}
+use Rattle.model.specs.Levels.{idling, levelOf}
+use Rattle.model.specs.LevelTables.{idleEntries, runningLevels, readLevels, ValidLevelTable}
 use Rattle.model.specs.Jobs.{noJob, jobOf, readJobs, ValidJobs}
 use Rattle.model.specs.Points.{topFrequency}
 use Rattle.model.proofs.Entries.{length-listOf, getD-listOf, listOf-getD, listOf-cong}
-use Rattle.model.proofs.Levels.{levels-valid}
+use Rattle.model.proofs.LevelTables.{running-length, running-level, table-some, levels-valid}
 use Rattle.model.proofs.Jobs.{SoundJob, job-sound, jobs-faultless, jobs-valid}
 use Rattle.tables.specs.declared.Reading.{Reading}
 use Rattle.tables.specs.declared.Reading.the-variants.{Entries, Refused}
@@ -42,23 +43,36 @@ module _ (count : ℕ) (frequencies voltages : List ℕ) where
   unfolding levelsIn
   level-in i below = getD-listOf count _ i _ below
 
-  -- what a valid table says of its count and of the last frequency
-  module _ (valid : ValidLevels (levelsIn count frequencies voltages)) where
-    pub levels-count : (1 ≤ count) × (count ≤ maxLevels)
-    levels-count = omega (arith, valid .some, valid .few, length-levelsIn)
+  -- what a valid table says of its count, of its first entry, of its running levels, and of the last frequency
+  module _ (valid : ValidLevelTable (levelsIn count frequencies voltages)) where
+    abbrev levels : List Level
+    levels = levelsIn count frequencies voltages
 
-    pub top-in : topFrequency (levelsIn count frequencies voltages) ≡ getD frequencies (count - 1) 0
+    pub first-inside : idleEntries levels < count
+    first-inside = omega (arith, table-some levels valid, length-levelsIn)
+
+    pub levels-count : (1 ≤ count) × (count ≤ maxLevels)
+    levels-count = omega (arith, first-inside, valid .few, length-levelsIn)
+
+    pub running-count : length (runningLevels levels) ≡ count - idleEntries levels
+    running-count = rw length-levelsIn at (running-length levels)
+
+    pub running-in : (i : ℕ) → idleEntries levels ≤ i → i < count
+        → levelOf (runningLevels levels) (i - idleEntries levels) ≡ record { frequency = getD frequencies i 0; voltage = getD voltages i 0 }
+    running-in i past below =
+        let place : idleEntries levels + (i - idleEntries levels) ≡ i = omega arith in
+        running-level levels (i - idleEntries levels) ∙ ap (levelOf levels) place ∙ level-in i below
+
+    pub top-in : topFrequency (runningLevels levels) ≡ getD frequencies (count - 1) 0
     top-in =
-        let levels = levelsIn count frequencies voltages in
-        let last : count - 1 < count = omega (arith, levels-count) in
-        ap (λ (n : ℕ). levelOf levels (n - 1) .frequency) length-levelsIn
-        ∙ ap (λ (level : Level). level .frequency) (level-in (count - 1) last)
+        let place : length (runningLevels levels) - 1 ≡ count - 1 - idleEntries levels = omega (arith, running-count) in
+        ap (λ (i : ℕ). levelOf (runningLevels levels) i .frequency) place
+        ∙ ap (λ (level : Level). level .frequency) (running-in (count - 1) (omega (arith, first-inside)) (omega (arith, first-inside)))
 
     pub top-high : getD frequencies (count - 1) 0 ≤ maxFrequency
     top-high =
-        let levels = levelsIn count frequencies voltages in
-        let last : length levels - 1 < length levels = omega (arith, valid .some) in
-        rw (← top-in) (valid .frequency-high (length levels - 1) last)
+        let last : length (runningLevels levels) - 1 < length (runningLevels levels) = omega (arith, valid .running .some) in
+        rw (← top-in) (valid .running .frequency-high (length (runningLevels levels) - 1) last)
 
 -- the jobs in three arrays
 module _ (count : ℕ) (releases deadlines cycles : List ℕ) where

@@ -11,9 +11,9 @@ use Rattle.model.specs.declared.Level.{Level}
 use Rattle.model.specs.declared.Job.{Job}
 use Rattle.model.specs.Bytes.{IsBytes, bytesOf, bytes16, bytes32}
 use Rattle.model.specs.Entries.{encodeEach}
-use Rattle.model.specs.Levels.{encodeLevels}
+use Rattle.model.specs.LevelTables.{encodeLevels}
 use Rattle.model.specs.Jobs.{encodeJobs}
-use Rattle.model.proofs.Levels.{levels-read-back}
+use Rattle.model.proofs.LevelTables.{levels-read-back}
 use Rattle.model.proofs.Jobs.{jobs-read-back}
 use Rattle.tables.specs.Tables.{levelTable, jobTable}
 use Rattle.tables.specs.ReadingBack.{EncodingsAreBytes, LevelsComeBack, JobsComeBack}
@@ -62,9 +62,9 @@ encodings-are-bytes = (bytes-of-levels, bytes-of-jobs)
 pub levels-come-back : LevelsComeBack
 levels-come-back read meets =
     record {
-      encoded-read = λ levels valid bytes encoded.
+      encoded-read = λ levels valid fits bytes encoded.
           meets bytes
-          ∙ ap levelTable (levels-read-back (now bytes) levels (rw encoded (bytes-of-levels levels)) .1 (valid, encoded));
+          ∙ ap levelTable (levels-read-back (now bytes) levels (rw encoded (bytes-of-levels levels)) .1 (valid, fits, encoded));
       read-encoded = λ bytes small count answered.
           levels-read-back (now bytes) _ small .0 (levels-read (now bytes) (read bytes) (meets bytes) count answered);
     }

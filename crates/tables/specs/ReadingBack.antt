@@ -10,7 +10,8 @@ use Rattle.model.specs.declared.Level.{Level}
 use Rattle.model.specs.declared.Job.{Job}
 use Rattle.model.specs.Limits.{maxLevels, maxJobs}
 use Rattle.model.specs.Bytes.{IsBytes}
-use Rattle.model.specs.Levels.{levelOf, readLevels, ValidLevels, encodeLevels}
+use Rattle.model.specs.Levels.{levelOf}
+use Rattle.model.specs.LevelTables.{readLevels, ValidLevelTable, DrawFits, encodeLevels}
 use Rattle.model.specs.Jobs.{jobOf, readJobs, ValidJobs, encodeJobs}
 use Rattle.tables.specs.declared.Reading.the-variants.{Entries}
 use Rattle.tables.specs.declared.levels.LevelTable.{LevelTable}
@@ -24,9 +25,9 @@ EncodingsAreBytes = ((levels : List Level) → IsBytes (encodeLevels levels)) ×
 
 -- A reader of level tables, lent bytes.
 pub record ReadsLevelsBack (read : RefT (List ℕ) → LevelTable) : Type 0 where
-  -- lent the encoding of a valid table it answers exactly that table: the number of its levels, their frequencies and
-  -- their voltages, zeros past the last
-  pub encoded-read : (levels : List Level) → ValidLevels levels → (bytes : RefT (List ℕ)) → now bytes ≡ encodeLevels levels
+  -- lent the encoding of a valid table it answers exactly that table, its idle entry with it: the number of its entries,
+  -- their frequencies and their voltages, zeros past the last
+  pub encoded-read : (levels : List Level) → ValidLevelTable levels → DrawFits levels → (bytes : RefT (List ℕ)) → now bytes ≡ encodeLevels levels
       → read bytes ≡ record {
         reading = Entries (length levels);
         frequencies = columnOf maxLevels (length levels) (λ i. levelOf levels i .frequency);
@@ -35,7 +36,7 @@ pub record ReadsLevelsBack (read : RefT (List ℕ) → LevelTable) : Type 0 wher
   -- where it answers entries they are a valid table, and the bytes are its encoding
   pub read-encoded : (bytes : RefT (List ℕ)) → IsBytes (now bytes) → (count : ℕ) → read bytes .reading ≡ Entries count
       → let levels : List Level = levelsIn count (read bytes .frequencies) (read bytes .voltages) in
-      ValidLevels levels × (now bytes ≡ encodeLevels levels)
+      ValidLevelTable levels × DrawFits levels × (now bytes ≡ encodeLevels levels)
 
 -- A reader of job tables, lent bytes.
 pub record ReadsJobsBack (read : RefT (List ℕ) → JobTable) : Type 0 where

@@ -1,14 +1,15 @@
 -- What reading a table answers, for each outcome: the enum's case, and the entries in plain arrays beside it.
-use Prim.Native.Nat.{ℕ}
+use Prim.Native.Nat.{ℕ, _<_}
 use mathlib.Core.Path.{_≡_}
 use mathlib.Core.List.{List, []}
 use lib.ListN.{length, getD}
 use Rattle.model.specs.declared.Level.{Level}
 use Rattle.model.specs.declared.Job.{Job}
 use Rattle.model.specs.Limits.{maxLevels, maxJobs}
-use Rattle.model.specs.Outcome.{Outcome, refused, answer, byEntry}
+use Rattle.model.specs.Outcome.{Outcome, refused, answer, refuseWhen, byEntry}
 use Rattle.model.specs.Entries.{listOf}
-use Rattle.model.specs.Levels.{levelOf, levelFault}
+use Rattle.model.specs.Levels.{levelOf}
+use Rattle.model.specs.LevelTables.{standsAlone, tableFault}
 use Rattle.model.specs.Jobs.{jobOf, jobFault}
 use Rattle.tables.specs.declared.Reading.{Reading}
 use Rattle.tables.specs.declared.Reading.the-variants.{Entries, Refused}
@@ -53,7 +54,7 @@ pub record DecodedJobs (outcome : Outcome (List Job)) (reading : Reading) (relea
   pub held : (count : ℕ) → reading ≡ Entries count
       → record { reading = reading; releases = releases; deadlines = deadlines; cycles = cycles } ≡ jobTable outcome
 
--- The levels that stand in two arrays, the first `count` of them.
+-- The entries of a level table that stand in two arrays, the first `count` of them.
 unfoldable pub levelsIn : (count : ℕ) → (frequencies voltages : List ℕ) → List Level
 levelsIn count frequencies voltages =
     listOf count (λ i. record { frequency = getD frequencies i 0; voltage = getD voltages i 0 })
@@ -63,13 +64,23 @@ unfoldable pub jobsIn : (count : ℕ) → (releases deadlines cycles : List ℕ)
 jobsIn count releases deadlines cycles =
     listOf count (λ j. record { release = getD releases j 0; deadline = getD deadlines j 0; cycles = getD cycles j 0 })
 
--- Going through the entries that stand in arrays: refusals 4 and 5, or 9 and 10, or the entries.
+-- Going through the level entries that stand in arrays, by 4, 5 and 32.
+abbrev pub checkedEntries : (count : ℕ) → (frequencies voltages : List ℕ) → Outcome (List Level)
+checkedEntries count frequencies voltages =
+    let levels : List Level = levelsIn count frequencies voltages in
+    byEntry count (tableFault levels) (answer levels)
+
+-- With 31 before that.
 abbrev pub checkedLevels : (count : ℕ) → (frequencies voltages : List ℕ) → Outcome (List Level)
 checkedLevels count frequencies voltages =
-    let levels : List Level = levelsIn count frequencies voltages in
-    byEntry count (levelFault levels) (answer levels)
+    refuseWhen (standsAlone (levelsIn count frequencies voltages)) 31 (checkedEntries count frequencies voltages)
 
+-- Going through the jobs that stand in arrays, by 9 and 10.
 abbrev pub checkedJobs : (count : ℕ) → (releases deadlines cycles : List ℕ) → Outcome (List Job)
 checkedJobs count releases deadlines cycles =
     let jobs : List Job = jobsIn count releases deadlines cycles in
     byEntry count (jobFault jobs) (answer jobs)
+
+-- The numbers of a level table have 16 bits.
+abbrev pub SmallNumbers : List ℕ → Type 0
+SmallNumbers numbers = (i : ℕ) → i < maxLevels → getD numbers i 0 < 65_536

@@ -1,11 +1,15 @@
-// Reading levels: refusals 1 to 5.
+// Reading levels: refusals 1 to 5, 31 and 32. And a level's power.
 ghost use mathlib.Core.Path.{_≡_};
-ghost use Prim.Native.Nat.{_≤_};
-ghost use Rattle.model.specs.Limits.{maxLevels};
+ghost use Prim.Native.Nat.{ℕ, _<_, _≤_};
+ghost use Rattle.model.specs.Limits.{maxLevels, maxFrequency, maxVoltage};
 ghost use Rattle.model.specs.Outcome.{refused};
-ghost use Rattle.model.specs.Levels.{faultOfLevel, readLevels};
-ghost use Rattle.tables.specs.Tables.{readingOf, levelTable, checkedLevels};
+ghost use Rattle.model.specs.Levels.{idling, faultOfLevel};
+ghost use Rattle.model.specs.Points.{powerOf};
+ghost use Rattle.model.specs.LevelTables.{idleEntries, orFault, drawFault, tableFault, readLevels};
+ghost use Rattle.tables.specs.Tables.{readingOf, levelTable, levelsIn, checkedLevels, checkedEntries, SmallNumbers};
 use crate::Reading;
+use crate::idle_entry::idle_entries;
+use crate::idle_entry::idle_power;
 use crate::numbers::column16;
 use crate::numbers::number16;
 use model::Level;
@@ -61,20 +65,57 @@ fn refused_levels(number: u32, place: u32) -> LevelTable
     }
 }
 
-// Goes through the entries one after another.
+// 31, and then the entries: the first running level, and those after it.
 fn check_levels(
     frequencies: &[u64; MAX_LEVELS],
     voltages: &[u64; MAX_LEVELS],
     count: usize,
 ) -> Reading
-    requires { ⌜ count ≤ maxLevels ⌝ }
+    requires { ⌜ (1 ≤ count) × (count ≤ maxLevels) × SmallNumbers (now voltages) ⌝ }
     ensures { λ r. ⌜ r ≡ readingOf (checkedLevels count (now (frequencies .entry)) (now (voltages .entry))) ⌝ }
 {
-    let mut before = Level {
-        frequency: 0,
-        voltage: 0,
+    let entry = Level {
+        frequency: frequencies[0],
+        voltage: voltages[0],
     };
-    let mut i = 0;
+    let first = idle_entries(entry);
+    if count == first {
+        return Reading::Refused {
+            number: 31,
+            place: 0,
+        };
+    }
+    let level = Level {
+        frequency: frequencies[first],
+        voltage: voltages[first],
+    };
+    let number = first_fault(idle_power(entry), level);
+    if number != 0 {
+        return Reading::Refused {
+            number,
+            place: first as u32,
+        };
+    }
+    check_later(frequencies, voltages, first, count)
+}
+
+// Goes through the entries after the first running level one after another.
+fn check_later(
+    frequencies: &[u64; MAX_LEVELS],
+    voltages: &[u64; MAX_LEVELS],
+    first: usize,
+    count: usize,
+) -> Reading
+    requires { ⌜ (first < count) × (count ≤ maxLevels) ⌝ }
+    requires { ⌜ first ≡ idleEntries (levelsIn count (now frequencies) (now voltages)) ⌝ }
+    requires { ⌜ ((k : ℕ) → k ≤ first → tableFault (levelsIn count (now frequencies) (now voltages)) k ≡ 0) ⌝ }
+    ensures { λ r. ⌜ r ≡ readingOf (checkedEntries count (now (frequencies .entry)) (now (voltages .entry))) ⌝ }
+{
+    let mut before = Level {
+        frequency: frequencies[first],
+        voltage: voltages[first],
+    };
+    let mut i = first + 1;
     while i < count {
         let this = Level {
             frequency: frequencies[i],
@@ -93,7 +134,35 @@ fn check_levels(
     Reading::Entries(count)
 }
 
-// The refusal's number at an entry, the lower number first; 0 for none.
+// The refusal's number at the first running level: 4 and 5, with no level before it, and then 32. 0 for none.
+fn first_fault(idle_power: u64, level: Level) -> u32
+    ensures { λ r. ⌜ r ≡ orFault (faultOfLevel idling level) (drawFault «idle_power» level) ⌝ }
+{
+    let number = level_fault(
+        Level {
+            frequency: 0,
+            voltage: 0,
+        },
+        level,
+    );
+    if number != 0 {
+        return number;
+    }
+    if power_of(level.frequency, level.voltage) <= idle_power {
+        return 32;
+    }
+    0
+}
+
+// A level's power is frequency × voltage × voltage.
+pub fn power_of(frequency: u64, voltage: u64) -> u64
+    requires { ⌜ (frequency ≤ maxFrequency) × (voltage ≤ maxVoltage) ⌝ }
+    ensures { λ r. ⌜ r ≡ powerOf (record { frequency = frequency; voltage = voltage }) ⌝ }
+{
+    frequency * voltage * voltage
+}
+
+// The refusal's number at a level after another, the lower number first; 0 for none.
 fn level_fault(before: Level, this: Level) -> u32
     ensures { λ r. ⌜ r ≡ faultOfLevel before this ⌝ }
 {

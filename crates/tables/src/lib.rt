@@ -1,16 +1,20 @@
 // Reading level tables and job tables from bytes, and the built-in level tables.
 // Entries are decoded once, into plain arrays of numbers, and worked on in that form.
 mod built_in;
+mod idle_entry;
 mod jobs;
 mod levels;
 mod numbers;
 
 pub use built_in::first_built_in;
 pub use built_in::second_built_in;
+pub use idle_entry::idle_entries;
+pub use idle_entry::idle_power;
 pub use jobs::JobTable;
 pub use jobs::decode_jobs;
 pub use jobs::read_jobs;
 pub use levels::LevelTable;
+pub use levels::power_of;
 pub use levels::read_levels;
 pub use numbers::number16;
 pub use numbers::number32;

@@ -5,6 +5,7 @@ ghost use lib.ListN.{length, replicate};
 ghost use Rattle.model.specs.Limits.{maxLevels, maxJobs};
 ghost use Rattle.model.specs.Bytes.{number16 as at16, number32 as at32};
 ghost use Rattle.tables.specs.Column.{columnOf};
+ghost use Rattle.tables.specs.Tables.{SmallNumbers};
 use model::MAX_JOBS;
 use model::MAX_LEVELS;
 
@@ -31,7 +32,7 @@ pub fn number32(bytes: &[u8], place: usize) -> u64
 // The 16-bit numbers from a place on, as many as count; zeros after them.
 pub(crate) fn column16(bytes: &[u8], place: usize, count: usize) -> [u64; MAX_LEVELS]
     requires { ⌜ (count ≤ maxLevels) × (place + 2 * count ≤ length (now bytes)) ⌝ }
-    ensures { λ r. ⌜ r ≡ columnOf maxLevels count (λ i. at16 (now (bytes .entry)) (place + 2 * i)) ⌝ }
+    ensures { λ r. ⌜ (r ≡ columnOf maxLevels count (λ i. at16 (now (bytes .entry)) (place + 2 * i))) × SmallNumbers r ⌝ }
 {
     let mut numbers = [0u64; MAX_LEVELS];
     let mut i = 0;

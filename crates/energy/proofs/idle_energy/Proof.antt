@@ -7,7 +7,7 @@ use Rattle.energy.proofs.idle_energy.Statement.{statement}
 use Rattle.energy.proofs.idle_energy.Tie as tie
 
 returns : tie.Need-returns
-returns c = idle-none _ _ (c .before .pre .0) _ (c .if1 .taken)
+returns c = idle-none _ _ (c .before .pre .0) _ (omega arith)
 
 sub-result : tie.Need-sub-result
 sub-result c = search needs

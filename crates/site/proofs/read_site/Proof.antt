@@ -6,8 +6,8 @@ use denote.Ref.{now}
 use borrow.Author.Needs.{needs}
 use Rattle.model.specs.Limits.{maxLevels}
 use Rattle.model.specs.Outcome.{answer}
-use Rattle.model.specs.Levels.{readLevels}
-use Rattle.model.proofs.Levels.{levels-valid}
+use Rattle.model.specs.LevelTables.{readLevels}
+use Rattle.model.proofs.LevelTables.{levels-valid}
 use Rattle.tables.specs.Tables.{levelsIn}
 use Rattle.tables.proofs.Read.{levels-count, top-in, levels-read, levels-read-refused}
 use Rattle.site.proofs.ReadSites.{levels-refused}

@@ -4,8 +4,8 @@ use mathlib.Core.Path.{_≡_, _∙_, ap}
 use denote.Ref.{now}
 use borrow.Author.Needs.{needs}
 use Rattle.model.specs.Outcome.{answer}
-use Rattle.model.specs.Levels.{readLevels}
-use Rattle.model.proofs.Levels.{levels-valid}
+use Rattle.model.specs.LevelTables.{readLevels}
+use Rattle.model.proofs.LevelTables.{levels-valid}
 use Rattle.tables.specs.Tables.{levelsIn}
 use Rattle.tables.proofs.Read.{levels-read, levels-read-refused}
 use Rattle.levels.specs.Settings.{settingAnswer}

@@ -1,108 +1,87 @@
--- `levels::check_levels` meets its contract. The loop's invariant: no entry passed has a fault, and `before` is the
--- level before entry `i`. What the reading then answers is in proofs/ByEntry.antt. Assumes nothing.
-use mathlib.Core.List.{List}
-use mathlib.Core.Path.{_≡_, refl, _∙_, sym, ap₂}
-use Prim.Native.Nat.{ℕ, _-_, _≤_, _<_}
+-- `levels::check_levels` meets its contract. Each way out rests on the tests that led there and on what the callees ensure
+-- (proofs/CheckedLevels.antt). Assumes nothing.
+use mathlib.Core.Path.{_∙_, ap}
 use native.Mathlib.Omega.{arith}
-use native.Mathlib.Numerals.{add-one}
-use lib.ListN.{getD}
-use denote.Ref.{now}
-use borrow.Author.Count.{below-none, below-more}
-use Rattle.model.specs.Levels.{levelOf, levelBefore, faultOfLevel, levelFault}
-use Rattle.model.proofs.Entries.{length-listOf, getD-listOf}
-use Rattle.tables.specs.Tables.{levelsIn}
-use Rattle.tables.proofs.ByEntry.{reading-stops, reading-passes}
+use borrow.Author.Needs.{needs}
+use Rattle.tables.specs.Tables.{readingOf}
+use Rattle.tables.proofs.CheckedLevels.{first-is, alone, not-alone, first-stops, first-passes}
 use Rattle.tables.proofs.levels.check_levels.Statement.{statement}
 use Rattle.tables.proofs.levels.check_levels.Tie as tie
 
--- entry i, as the arrays have it
-entry : (count : ℕ) (frequencies voltages : List ℕ) (i : ℕ) → i < count
-    → levelOf (levelsIn count frequencies voltages) i ≡ record { frequency = getD frequencies i 0; voltage = getD voltages i 0 }
-unfolding levelsIn
-entry count frequencies voltages i below = getD-listOf count _ i _ below
+element-copy-out-first-fault : tie.Need-element-copy-out-first-fault
+element-copy-out-first-fault c = omega arith
 
-abbrev Inv-loop : tie.InvT-loop
-Inv-loop frequencies voltages count before₀ i₀ before i =
-    (i ≤ count)
-    × (before ≡ levelBefore (levelsIn count frequencies voltages) i)
-    × ((k : ℕ) → k < i → levelFault (levelsIn count frequencies voltages) k ≡ 0)
+element-copy-out-t13 : tie.Need-element-copy-out-t13
+element-copy-out-t13 c = omega arith
 
-abbrev μ-loop : tie.MeasureT-loop
-μ-loop frequencies voltages count before₀ i₀ before i = count - i
+idle-entries-requires : tie.Need-idle-entries-requires
+idle-entries-requires c κs = search needs
 
-loop-holds : tie.Need-loop-holds Inv-loop μ-loop
-loop-holds c = (omega arith, refl, below-none _)
-
-mul-t9 : tie.Need-mul-t9 Inv-loop μ-loop
-mul-t9 c = omega arith
-
-element-copy-out-t12 : tie.Need-element-copy-out-t12 Inv-loop μ-loop
-element-copy-out-t12 c = omega arith
-
-mul-t13 : tie.Need-mul-t13 Inv-loop μ-loop
-mul-t13 c = omega arith
-
-element-copy-out-t16 : tie.Need-element-copy-out-t16 Inv-loop μ-loop
-element-copy-out-t16 c = omega arith
-
-level-fault-requires : tie.Need-level-fault-requires Inv-loop μ-loop
-level-fault-requires c κs = tt
-
-cast-t17 : tie.Need-cast-t17 Inv-loop μ-loop
-cast-t17 c = omega arith
-
--- the number found in this turn is the entry's fault
-here : (c : tie.After-level-fault Inv-loop μ-loop)
-    → c .level-fault .result
-    ≡ levelFault
-    (levelsIn
-    (c .before .before .before .before .before .args .count)
-    (now (c .before .before .before .before .before .args .frequencies))
-    (now (c .before .before .before .before .before .args .voltages)))
-    (c .before .before .before .before .loop .i)
-here c =
-    let turn = c .before .before .before in
-    c .level-fault .ensures
-    ∙ ap₂ faultOfLevel (turn .before .loop .inv .1) (sym (entry _ _ _ _ (turn .loop-test .taken)))
-
-returns : tie.Need-returns Inv-loop μ-loop
+returns : tie.Need-returns
 returns c =
-    let turn = c .before .before .before .before in
-    reading-stops _ _ _ _ _ (turn .before .loop .inv .2) (omega arith) (here (c .before)) (c .if1 .taken)
+    let start = c .before .before .before .before in
+    alone _ _ _ (start .pre .0) _ (c .before .idle-entries .ensures .0) (c .if1 .taken)
 
-add-i : tie.Need-add-i Inv-loop μ-loop
-add-i c = omega arith
+mul-first-fault : tie.Need-mul-first-fault
+mul-first-fault c = omega arith
 
-loop-less : tie.Need-loop-less Inv-loop μ-loop
-loop-less c = omega arith
+element-copy-out-first-fault-2 : tie.Need-element-copy-out-first-fault-2
+element-copy-out-first-fault-2 c = omega arith
 
-loop-again : tie.Need-loop-again Inv-loop μ-loop
-loop-again c =
-    let turn = c .before .before .before .before in (
-      omega arith,
-      rw add-one (sym (entry _ _ _ _ (turn .loop-test .taken))),
-      below-more _ _ (turn .before .loop .inv .2) (sym (here (c .before)) ∙ c .if1 .left),
+mul-t18 : tie.Need-mul-t18
+mul-t18 c = omega arith
+
+element-copy-out-t13-2 : tie.Need-element-copy-out-t13-2
+element-copy-out-t13-2 c = omega arith
+
+idle-power-requires : tie.Need-idle-power-requires
+idle-power-requires c κs = omega (arith, c .before .before .before .before .before .before .pre .2 0 (omega arith))
+
+first-fault-requires : tie.Need-first-fault-requires
+first-fault-requires c κs = search needs
+
+cast-t21 : tie.Need-cast-t21
+cast-t21 c = omega arith
+
+returns-2 : tie.Need-returns-2
+returns-2 c =
+    let read = c .before .before .before .before .before .before in
+    let start = read .before .before .before in
+    first-stops _ _ _ (start .pre .0) _ (read .idle-entries .ensures .0) (λ e. omega arith) _ _
+    (c .before .before .idle-power .ensures) (c .before .first-fault .ensures) (c .if2 .taken)
+
+check-later-requires : tie.Need-check-later-requires
+check-later-requires c κs =
+    let read = c .before .before .before .before .before .before in
+    let start = read .before .before .before in
+    let counted = read .idle-entries .ensures .0 in (
+      (omega arith, start .pre .1),
+      (
+        first-is _ _ _ (start .pre .0) _ counted,
+        first-passes _ _ _ (start .pre .0) _ counted (λ e. omega arith) _ _ (c .before .before .idle-power .ensures) (c .before .first-fault .ensures) (c .if2 .left),
+      ),
     )
 
-returns-2 : tie.Need-returns-2 Inv-loop μ-loop
-unfolding levelsIn
-returns-2 c = reading-passes _ _ _ (λ k below. c .before .loop .inv .2 k (omega arith)) (length-listOf _ _)
+returns-3 : tie.Need-returns-3
+returns-3 c =
+    let read = c .before .before .before .before .before .before .before in
+    c .check-later .ensures ∙ ap readingOf (not-alone _ _ _ (read .before .before .before .pre .0) _ (read .idle-entries .ensures .0) (λ e. omega arith))
 
 pub check-levels-spec : {M : Type 1} → statement M
 check-levels-spec =
     tie.close
     (tie.spec
-    Inv-loop
-    μ-loop
-    loop-holds
-    mul-t9
-    element-copy-out-t12
-    mul-t13
-    element-copy-out-t16
-    level-fault-requires
-    cast-t17
+    element-copy-out-first-fault
+    element-copy-out-t13
+    idle-entries-requires
     returns
-    add-i
-    loop-less
-    loop-again
-    returns-2)
+    mul-first-fault
+    element-copy-out-first-fault-2
+    mul-t18
+    element-copy-out-t13-2
+    idle-power-requires
+    first-fault-requires
+    cast-t21
+    returns-2
+    check-later-requires
+    returns-3)

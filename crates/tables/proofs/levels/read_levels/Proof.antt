@@ -73,7 +73,7 @@ returns-5 c =
     let counted = first .before .before .before .before in
     levels-filled
     _ _ _ _ _
-    (counted .number16 .ensures .0) (omega arith) (first .column16 .ensures) (second .column162 .ensures) (found .check-levels .ensures)
+    (counted .number16 .ensures .0) (omega arith) (first .column16 .ensures .0) (second .column162 .ensures .0) (found .check-levels .ensures)
     _
     (c .enum-told .given .1)
     ∙ ap levelTable (levels-whole _ (omega arith) (omega arith) (omega arith) (omega arith))
@@ -88,7 +88,7 @@ returns-6 c =
     ∙ ap levelTable
     (levels-refused
     _ _ _ _ _
-    (counted .number16 .ensures .0) (omega arith) (first .column16 .ensures) (second .column162 .ensures) (found .check-levels .ensures)
+    (counted .number16 .ensures .0) (omega arith) (first .column16 .ensures .0) (second .column162 .ensures .0) (found .check-levels .ensures)
     _
     _
     (c .before .before .reading .given .1)

@@ -1,10 +1,10 @@
--- `points::power_of` meets its contract: a power is at most 1,000 × 500 × 500. Assumes nothing.
+-- `levels::power_of` meets its contract: a power is at most 1,000 × 500 × 500. Assumes nothing.
 use Prim.Native.Nat.{_*_, _<_}
 use native.Mathlib.Omega.{arith}
 use borrow.Author.Needs.{needs}
-use Rattle.levels.proofs.Products.{product-below}
-use Rattle.levels.proofs.points.power_of.Statement.{statement}
-use Rattle.levels.proofs.points.power_of.Tie as tie
+use Rattle.tables.proofs.Products.{product-below}
+use Rattle.tables.proofs.levels.power_of.Statement.{statement}
+use Rattle.tables.proofs.levels.power_of.Tie as tie
 
 mul-result : tie.Need-mul-result
 mul-result c = record { fits = product-below 1_000 500 (omega arith) (omega arith) (omega arith) }
