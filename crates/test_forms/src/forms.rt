@@ -1,10 +1,14 @@
 // Small sites of several forms, made of drawn numbers.
 ghost use Prim.Native.Nat.{_<_, _≤_};
 use crate::random::draw;
+use model::MAX_FREQUENCY;
+use model::MAX_VOLTAGE;
+use test_search::mixes::power_of;
 use test_search::table::COLUMN;
 use test_search::table::JobColumns;
 use test_search::table::LevelColumns;
 use test_search::table::at_most;
+use test_search::table::with_idle_entry;
 
 // What the sites of a group have in common.
 pub enum Form {
@@ -18,32 +22,80 @@ pub enum Form {
     Tight,
     // The upper two of three levels have the same voltage, so that the lower one of them is dropped.
     Dropped,
+    // So many jobs, with any windows, and an idle entry in the level table.
+    IdleDraw(u32),
+    // Three jobs, with any windows, and an idle entry before three levels. The lower two of them have the same voltage, so
+    // that the lowest is dropped only where idling draws nothing.
+    Restored,
 }
 
 pub fn levels_of(form: Form, state: &mut u32) -> LevelColumns {
-    let count = 1 + draw(state, 3);
-    let frequencies = climbing(state, 0, 1, 4);
-    let mut voltages = climbing(state, 1, 0, 8);
     match form {
         Form::Dropped => {
-            voltages[2] = voltages[1];
-            LevelColumns {
-                count: 3,
-                frequencies,
-                voltages,
-            }
+            let mut levels = small_levels(state);
+            levels.count = 3;
+            levels.voltages[2] = levels.voltages[1];
+            levels
         }
-        _ => LevelColumns {
-            count,
-            frequencies,
-            voltages,
-        },
+        Form::IdleDraw(_) => idle_drawing(large_levels(state), state),
+        Form::Restored => {
+            let mut levels = large_levels(state);
+            levels.count = 3;
+            levels.voltages[1] = levels.voltages[0];
+            idle_drawing(levels, state)
+        }
+        _ => small_levels(state),
     }
+}
+
+// One to three levels.
+fn small_levels(state: &mut u32) -> LevelColumns {
+    let count = 1 + draw(state, 3);
+    let frequencies = climbing(state, 0, 1, 4);
+    let voltages = climbing(state, 1, 0, 8);
+    LevelColumns {
+        count,
+        frequencies,
+        voltages,
+    }
+}
+
+// One to three levels, the first of a power above 1,000, so that idling may draw something. The search has room for what
+// the third one takes in ten ticks.
+fn large_levels(state: &mut u32) -> LevelColumns {
+    let count = 1 + draw(state, 3);
+    let frequencies = climbing(state, 1, 1, 3);
+    let voltages = climbing(state, 24, 0, 5);
+    LevelColumns {
+        count,
+        frequencies,
+        voltages,
+    }
+}
+
+// The levels after an idle entry, of any draw below the first level's power.
+fn idle_drawing(levels: LevelColumns, state: &mut u32) -> LevelColumns {
+    let count = draws_below(levels.frequencies[0], levels.voltages[0]);
+    with_idle_entry(levels, draw(state, count))
+}
+
+// How many draws, in thousands, are below a level's power.
+fn draws_below(frequency: u32, voltage: u32) -> u32
+    ensures { λ r. ⌜ 0 < r ⌝ }
+{
+    let power = power_of(
+        at_most(frequency, MAX_FREQUENCY as u32) as u64,
+        at_most(voltage, MAX_VOLTAGE as u32) as u64,
+    );
+    if power == 0 {
+        return 1;
+    }
+    1 + ((power - 1) / 1_000) as u32
 }
 
 // A column that climbs from a start, by a least step and at most so much more at each entry.
 fn climbing(state: &mut u32, start: u32, least: u32, spread: u32) -> [u32; COLUMN]
-    requires { ⌜ (start ≤ 1) × (least ≤ 1) × (0 < spread) × (spread ≤ 8) ⌝ }
+    requires { ⌜ (start ≤ 24) × (least ≤ 1) × (0 < spread) × (spread ≤ 8) ⌝ }
 {
     let mut column = [0u32; COLUMN];
     let mut number = start;
@@ -58,15 +110,21 @@ fn climbing(state: &mut u32, start: u32, least: u32, spread: u32) -> [u32; COLUM
 
 pub fn jobs_of(form: Form, levels: LevelColumns, state: &mut u32) -> JobColumns {
     match form {
-        Form::Any(count) => JobColumns {
-            count,
-            windows: any_windows(state),
-            cycles: some_cycles(state, count),
-        },
+        Form::Any(count) => any_jobs(count, state),
         Form::Nested => several_jobs(nested_windows(state), state),
         Form::Equal => several_jobs(equal_windows(state), state),
         Form::Tight => tight_jobs(top_of(levels), state),
         Form::Dropped => several_jobs(any_windows(state), state),
+        Form::IdleDraw(count) => any_jobs(count, state),
+        Form::Restored => any_jobs(3, state),
+    }
+}
+
+fn any_jobs(count: u32, state: &mut u32) -> JobColumns {
+    JobColumns {
+        count,
+        windows: any_windows(state),
+        cycles: some_cycles(state, count),
     }
 }
 

@@ -1,4 +1,4 @@
-// The least energy of a load, from the given levels alone: the clock stays on two points in turn, each a level or idling.
+// The least energy of a load, from the given table alone: the clock stays on two points in turn, each a level or idling.
 // Every pair of points is tried, so that nothing is said of bands or of dropped levels.
 ghost use Prim.Native.Nat.{_*_, _≤_};
 ghost use Rattle.model.specs.Limits.{maxLevels, maxFrequency, maxVoltage, maxPower};
@@ -14,6 +14,9 @@ pub struct Fraction {
     pub numerator: u64,
     pub denominator: u64,
 }
+
+// The most that stands in the 16 bits of a draw.
+const MOST_DRAW: u32 = 65_535;
 
 struct Point {
     frequency: u64,
@@ -71,26 +74,47 @@ fn none() -> Fraction
     }
 }
 
-// Point 0 is idling, and the others are the levels.
+// Point 0 is idling, and the others are the entries. An idle entry is idling once more, at the same power.
 fn point_at(frequencies: &[u32; COLUMN], voltages: &[u32; COLUMN], i: usize) -> Point
     requires { ⌜ i ≤ maxLevels ⌝ }
     ensures { λ r. ⌜ SmallPoint (r .frequency) (r .power) ⌝ }
 {
     if i == 0 {
+        return idling(frequencies[0], voltages[0]);
+    }
+    if frequencies[i - 1] == 0 {
+        return idling(0, voltages[i - 1]);
+    }
+    level(frequencies[i - 1], voltages[i - 1])
+}
+
+// Idling in a table that begins with this entry: at a draw in thousands where it is an idle entry, otherwise at none.
+fn idling(frequency: u32, draw: u32) -> Point
+    ensures { λ r. ⌜ SmallPoint (r .frequency) (r .power) ⌝ }
+{
+    if frequency > 0 {
         return Point {
             frequency: 0,
             power: 0,
         };
     }
-    let frequency = at_most(frequencies[i - 1], MAX_FREQUENCY as u32) as u64;
-    let voltage = at_most(voltages[i - 1], MAX_VOLTAGE as u32) as u64;
     Point {
-        frequency,
-        power: power_of(frequency, voltage),
+        frequency: 0,
+        power: 1_000 * at_most(draw, MOST_DRAW) as u64,
     }
 }
 
-fn power_of(frequency: u64, voltage: u64) -> u64
+fn level(frequency: u32, voltage: u32) -> Point
+    ensures { λ r. ⌜ SmallPoint (r .frequency) (r .power) ⌝ }
+{
+    let cycles = at_most(frequency, MAX_FREQUENCY as u32) as u64;
+    Point {
+        frequency: cycles,
+        power: power_of(cycles, at_most(voltage, MAX_VOLTAGE as u32) as u64),
+    }
+}
+
+pub fn power_of(frequency: u64, voltage: u64) -> u64
     requires { ⌜ (frequency ≤ maxFrequency) × (voltage ≤ maxVoltage) ⌝ }
     ensures { λ r. ⌜ r ≤ maxPower ⌝ }
 {

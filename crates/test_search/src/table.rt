@@ -10,7 +10,8 @@ pub const COLUMN: usize = 8;
 
 pub const MOST_JOBS: usize = 4;
 
-// Entries past the count are not used.
+// The first entry may be an idle entry: frequency 0, and its draw in the place of the voltage. Entries past the count are not
+// used.
 pub struct LevelColumns {
     pub count: u32,
     pub frequencies: [u32; COLUMN],
@@ -28,6 +29,33 @@ pub fn at_most(number: u32, most: u32) -> u32
     ensures { λ r. ⌜ r ≡ min number most ⌝ }
 {
     if number < most { number } else { most }
+}
+
+// A level table with an idle entry before its levels. The last of eight levels is left out.
+pub fn with_idle_entry(levels: LevelColumns, idle_draw: u32) -> LevelColumns {
+    let running = levels.frequencies;
+    let running_voltages = levels.voltages;
+    let frequencies = after(0, &running);
+    let voltages = after(idle_draw, &running_voltages);
+    LevelColumns {
+        count: at_most(levels.count, 7) + 1,
+        frequencies,
+        voltages,
+    }
+}
+
+// A number and then the column.
+fn after(first: u32, column: &[u32; COLUMN]) -> [u32; COLUMN] {
+    [
+        first,
+        column[0],
+        column[1],
+        column[2],
+        column[3],
+        column[4],
+        column[5],
+        column[6],
+    ]
 }
 
 // Puts the level table in bytes, and answers its length.

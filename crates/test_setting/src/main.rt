@@ -1,7 +1,9 @@
-// Settings at the ends of the bands and past the limits, and the working levels of tables in which levels are dropped.
+// Settings at the ends of the bands and past the limits, and the working levels of tables in which levels are dropped; the
+// same for tables with an idle entry.
 // A level table in bytes: the count, the frequencies and the voltages, 16 bits each, the lower byte first.
 ghost use Prim.Native.Nat.{_≤_};
 
+mod idle;
 mod show;
 
 fn main() {
@@ -10,6 +12,7 @@ fn main() {
     limits();
     refused();
     working_levels();
+    idle::tables();
 }
 
 // Levels 2 at 10 and 4 at 20.

@@ -28,6 +28,11 @@ pub(crate) fn all() {
     group(b"equal", Form::Equal, &mut state);
     group(b"tight", Form::Tight, &mut state);
     group(b"dropped", Form::Dropped, &mut state);
+    group(b"idle_draw_no_jobs", Form::IdleDraw(0), &mut state);
+    group(b"idle_draw_one_job", Form::IdleDraw(1), &mut state);
+    group(b"idle_draw_two_jobs", Form::IdleDraw(2), &mut state);
+    group(b"idle_draw_three_jobs", Form::IdleDraw(3), &mut state);
+    group(b"idle_draw_restored", Form::Restored, &mut state);
 }
 
 fn group(name: &[u8], form: Form, state: &mut u32) {

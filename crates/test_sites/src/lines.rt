@@ -1,4 +1,4 @@
-// Sites whose answers document 01 gives.
+// Sites whose answers document 01 gives, and sites where idling draws power.
 use libc::STDOUT_FILENO;
 use model::Level;
 use planning::PlanAnswer;
@@ -9,6 +9,7 @@ use test_search::table::JobColumns;
 use test_search::table::LevelColumns;
 use test_search::table::put_jobs;
 use test_search::table::put_levels;
+use test_search::table::with_idle_entry;
 use test_support::encode::ROOM;
 use test_support::show;
 
@@ -39,6 +40,18 @@ pub(crate) fn mistakes() {
     one_job(b"far", far(), 1, 300);
 }
 
+// A draw brings a level back, is paid where a job leaves time to idle, and is paid between two jobs.
+pub(crate) fn idle_draws() {
+    working(b"equal_draw_0", equal(0));
+    working(b"equal_draw_1", equal(1));
+    working(b"first_built_in_draw_2429", first_drawing(2_429));
+    one_job(b"equal_draw_0", equal(0), 2, 150);
+    one_job(b"equal_draw_9", equal(9), 2, 150);
+    one_job(b"first_built_in_draw_100", first_drawing(100), 2, 401);
+    apart(b"equal_draw_0", equal(0));
+    apart(b"equal_draw_9", equal(9));
+}
+
 // Levels 2 at 10 and 4 at 20.
 fn pair() -> LevelColumns {
     LevelColumns {
@@ -55,6 +68,20 @@ fn far() -> LevelColumns {
         frequencies: [100, 200, 300, 400, 500, 0, 0, 0],
         voltages: [10, 16, 17, 18, 18, 0, 0, 0],
     }
+}
+
+// Levels 100 at 10 and 200 at 10 after an idle entry.
+fn equal(idle_draw: u32) -> LevelColumns {
+    LevelColumns {
+        count: 3,
+        frequencies: [0, 100, 200, 0, 0, 0, 0, 0],
+        voltages: [idle_draw, 10, 10, 0, 0, 0, 0, 0],
+    }
+}
+
+// The first built-in table after an idle entry.
+fn first_drawing(idle_draw: u32) -> LevelColumns {
+    with_idle_entry(built_in_columns(tables::first_built_in()), idle_draw)
 }
 
 fn built_in_columns(levels: [Level; 5]) -> LevelColumns {
@@ -120,6 +147,21 @@ fn overfull(name: &[u8]) {
             count: 2,
             windows: [0, 10, 2, 3, 0, 0, 0, 0],
             cycles: [1, 5, 0, 0, 0, 0, 0, 0],
+        },
+    );
+    show::end();
+}
+
+// Two jobs, and three ticks between them in which none is open.
+fn apart(name: &[u8], levels: LevelColumns) {
+    show::words(name);
+    show::words(b" jobs 0 2 150 and 5 6 100");
+    plan(
+        levels,
+        JobColumns {
+            count: 2,
+            windows: [0, 2, 5, 6, 0, 0, 0, 0],
+            cycles: [150, 100, 0, 0, 0, 0, 0, 0],
         },
     );
     show::end();

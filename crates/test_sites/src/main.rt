@@ -1,5 +1,5 @@
-// Runs sites whose answers document 01 gives, and small sites against an exhaustive search, and prints one line a site or a
-// group of sites.
+// Runs sites whose answers document 01 gives, sites where idling draws power, and small sites against an exhaustive search,
+// and prints one line a site or a group of sites.
 // A line of a group has its name, how many sites it has, for how many of them a plan came out, how many agree with the
 // search, and the exact energies of the plans together, multiplied out (search.rt). A site agrees where a plan comes out
 // exactly if some cut of the jobs' cycles overloads no interval, the plan's exact energy is the least of all cuts, and the
@@ -11,5 +11,6 @@ mod lines;
 fn main() {
     lines::built_in();
     lines::mistakes();
+    lines::idle_draws();
     groups::all();
 }

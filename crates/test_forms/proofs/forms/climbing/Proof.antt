@@ -8,7 +8,7 @@ use Rattle.test_forms.proofs.forms.climbing.Statement.{statement}
 use Rattle.test_forms.proofs.forms.climbing.Tie as tie
 
 abbrev Inv-loop : tie.InvT-loop
-Inv-loop state₀ start least spread column₀ number₀ i₀ state column number i = (i ≤ 8) × (length column ≡ 8) × (number ≤ 1 + 8 * i)
+Inv-loop state₀ start least spread column₀ number₀ i₀ state column number i = (i ≤ 8) × (length column ≡ 8) × (number ≤ 24 + 8 * i)
 
 abbrev μ-loop : tie.MeasureT-loop
 μ-loop state₀ start least spread column₀ number₀ i₀ state column number i = 8 - i
