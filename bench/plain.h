@@ -1,4 +1,5 @@
-/* The plain planner: the same operation as ramyearly_plan, with the same algorithm, unproved. */
+/* The plain planner: the same operation as ramyearly_plan, with the same algorithm, unproved. It knows no idle entry: no site
+ * of the benchmark has one. */
 #ifndef PLAIN_H
 #define PLAIN_H
 

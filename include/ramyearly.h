@@ -8,7 +8,11 @@
  * number is 0 for an answer, and otherwise the number of the refusal, with its place (0 where none is named); README.md
  * lists them. Fields that a case does not fill are 0.
  *
- * No function uses a heap or writable static data. The deepest stack that was measured, on x86-64, is 15 kB for planning, 10 kB
+ * A level table may begin with an idle entry: frequency 0, and in its voltage place the idle draw in thousands of power
+ * units, which must be below the power of the level after it. It is one of the 1 to 8 entries, but no level. Without it
+ * idling draws 0. A plan, and every schedule it is compared with, pays for idling from earliest release to latest deadline.
+ *
+ * No function uses a heap or writable static data. The deepest stack that was measured, on x86-64, is 14 kB for planning, 10 kB
  * for checking, 5 kB for the spare and 2 kB for the setting and for rounds (docs/BENCHMARK.md). */
 #ifndef RAMYEARLY_H
 #define RAMYEARLY_H
@@ -47,8 +51,8 @@ struct ramyearly_rounds_answer {
 };
 
 /* Accepts a plan and its price list exactly when the plan gives each job its cycles between release and deadline and the
- * prices fit, and answers the energy figure. Refusals 1 to 10 and 15 to 24. No schedule over the same levels that meets
- * all deadlines has less than an accepted plan's exact energy. */
+ * prices fit, and answers the energy figure. Refusals 1 to 10, 15 to 24, 31 and 32. No schedule over the same levels
+ * that meets all deadlines has less than an accepted plan's exact energy. */
 struct ramyearly_check_answer ramyearly_check(
     const uint8_t *levels, size_t levels_length,
     const uint8_t *jobs, size_t jobs_length,
@@ -56,12 +60,12 @@ struct ramyearly_check_answer ramyearly_check(
     const uint8_t *prices, size_t prices_length);
 
 /* The setting of one interval: the clock stays extra / gap ticks on working level `band`, first, and the remaining time
- * on the one below; zeros for load 0. Refusals 1 to 5, 25 and 26. */
+ * on the one below; zeros for load 0. Refusals 1 to 5, 25, 26, 31 and 32. */
 struct ramyearly_setting_answer ramyearly_setting(
     const uint8_t *levels, size_t levels_length, uint32_t length, uint64_t load);
 
 /* The spare of a window: length x top frequency less the cycles of the jobs inside; negative where the window is
- * overfull. Refusals 1 to 10 and 27. */
+ * overfull. Refusals 1 to 10, 27, 31 and 32. */
 struct ramyearly_spare_answer ramyearly_spare(
     const uint8_t *levels, size_t levels_length,
     const uint8_t *jobs, size_t jobs_length, uint32_t start, uint32_t end);
@@ -70,7 +74,7 @@ struct ramyearly_spare_answer ramyearly_spare(
  * jobs x intervals shares (that job's cycles at interval x jobs + job) are written, the rest stays; ramyearly_check
  * accepts exactly those bytes and answers the same energy. No schedule over the same levels that meets all deadlines
  * has less than the plan's exact energy. Number 11: start and end are the earliest overfull window, with its spare,
- * and no schedule meets all deadlines. Otherwise refusals 1 to 10 and 12 to 14; the places of 12 to 14 are the
+ * and no schedule meets all deadlines. Otherwise refusals 1 to 10, 12 to 14, 31 and 32; the places of 12 to 14 are the
  * lengths wanted, 14 counting 32-bit numbers. Where no plan comes out the buffers stay as they were. */
 struct ramyearly_plan_answer ramyearly_plan(
     const uint8_t *levels, size_t levels_length,
@@ -86,8 +90,8 @@ struct ramyearly_plan_answer ramyearly_plan(
  * rest stays; they are a job table, which meets none of refusals 6 to 10, of exactly these jobs by release, then task
  * number. A plan that ramyearly_plan writes or ramyearly_check accepts for it can be repeated every `multiple` ticks, any
  * number of times: it then gives each repeated job its cycles between release and deadline, and no schedule over the same
- * levels that meets all deadlines has less than its exact energy. Otherwise refusals 28 to 30, then 12, whose place is the
- * length wanted, and the buffer stays as it was. */
+ * levels that meets all deadlines has less than its exact energy. Both pay for idling between the rounds too. Otherwise
+ * refusals 28 to 30, then 12, whose place is the length wanted, and the buffer stays as it was. */
 struct ramyearly_rounds_answer ramyearly_rounds(
     const uint8_t *tasks, size_t tasks_length,
     uint8_t *jobs, size_t jobs_length);

@@ -167,6 +167,7 @@ int main(void)
     checks();
     plans();
     rounds();
+    idle();
     if (!wrong)
         printf("interface: check, setting, spare, plan and rounds answer C as they should\n");
     return wrong;

@@ -44,5 +44,7 @@ void rounds_refused(const char *name, struct bytes task_table, size_t jobs_lengt
 
 /* rounds.c: the cases of laying out tasks. */
 void rounds(void);
+/* idle.c: the cases of an idle entry. */
+void idle(void);
 
 #endif

@@ -5,7 +5,7 @@
 #include "numbers.h"
 #include "table.h"
 
-enum { REFUSALS = 30 };
+enum { REFUSALS = 32 };
 
 /* What was counted. by_number[0] counts the answers. */
 struct tally {
@@ -36,6 +36,21 @@ bool compare_plan(struct numbers *numbers, const struct table *levels, const str
 
 /* Lends a job buffer of that length. Answers whether a job table came out; then it stands in the table. */
 bool compare_rounds(struct numbers *numbers, const struct table *tasks, size_t jobs_length, struct table *jobs);
+
+struct window {
+    uint32_t start, end;
+};
+
+/* The interval whose setting is asked for, by its length and load, and the window whose spare is. */
+struct questions {
+    uint32_t length;
+    uint64_t load;
+    struct window window;
+};
+
+/* Two level tables that must have the same answers: setting, spare, planning with every byte that it writes, and the check of
+ * what it wrote. */
+void compare_alike(struct numbers *numbers, const struct table *levels, const struct table *others, const struct table *jobs, struct questions questions);
 
 /* Says it when a number is not the right one. */
 void same(const char *what, int64_t found, int64_t wanted);

@@ -1,5 +1,7 @@
 #include "damage.h"
 
+#include <string.h>
+
 static uint32_t field(const struct table *table, size_t at, unsigned width)
 {
     return at + width <= table->length ? paper_number(bytes_of(table), at, width) : 0;
@@ -72,10 +74,64 @@ static void damage_voltage(struct numbers *numbers, struct table *table, unsigne
     put(table, at, 2, ONE_OF(numbers, 0, before, before - 1, PAPER_VOLTAGE, PAPER_VOLTAGE + 1, 65535, any_number(numbers)));
 }
 
+/* Puts a 16-bit number between the bytes of a table that goes so far. */
+static void insert(struct table *table, size_t at, uint64_t number)
+{
+    if (at > table->length || table->length + 2 > TABLE_ROOM)
+        return;
+    memmove(table->at + at + 2, table->at + at, table->length - at);
+    table->length += 2;
+    put(table, at, 2, number);
+}
+
+/* The table has one entry more, also past the 8 that are allowed. */
+static void insert_idle_entry(struct table *table, unsigned count, unsigned i, uint64_t draw)
+{
+    put(table, 0, 2, count + 1);
+    insert(table, 2 + 2 * (size_t)i, 0);
+    insert(table, 2 + 2 * ((size_t)count + 1) + 2 * (size_t)i, draw);
+}
+
+static void leave_idle_entry(struct table *table, uint64_t draw)
+{
+    table->length = 6;
+    put(table, 0, 2, 1);
+    put(table, 2, 2, 0);
+    put(table, 4, 2, draw);
+}
+
+/* A draw just below the power of the level after it, the same, or above. */
+static void damage_draw(struct numbers *numbers, struct table *table, unsigned count)
+{
+    size_t at = 2 + 2 * (size_t)count;
+    uint64_t frequency = field(table, 4, 2), voltage = field(table, at + 2, 2), thousands = frequency * voltage * voltage / 1000;
+    put(table, at, 2, ONE_OF(numbers, 0, 1, thousands - 1, thousands, thousands, thousands + 1, PAPER_DRAW, any_number(numbers)));
+}
+
+/* It stands alone, at another place, again after itself, or has another draw. */
+static void damage_idle_entry(struct numbers *numbers, struct table *table, unsigned count)
+{
+    uint64_t draw = ONE_OF(numbers, 0, 1, 10, PAPER_DRAW, any_number(numbers)), place = between(numbers, 0, count);
+    switch (below(numbers, 4)) {
+    case 0:
+        leave_idle_entry(table, draw);
+        break;
+    case 1:
+        insert_idle_entry(table, count, (unsigned)place, draw);
+        break;
+    default:
+        if (field(table, 2, 2) != 0) {
+            insert_idle_entry(table, count, 0, draw);
+            count++;
+        }
+        damage_draw(numbers, table, count);
+    }
+}
+
 void damage_levels(struct numbers *numbers, struct table *table)
 {
     unsigned count = field(table, 0, 2), i = (unsigned)below(numbers, count > 0 ? count : 1);
-    switch (below(numbers, 6)) {
+    switch (below(numbers, 8)) {
     case 0:
         put(table, 0, 2, wrong_count(numbers, count, PAPER_LEVELS));
         break;
@@ -86,6 +142,10 @@ void damage_levels(struct numbers *numbers, struct table *table)
     case 3:
     case 4:
         damage_voltage(numbers, table, count, i);
+        break;
+    case 5:
+    case 6:
+        damage_idle_entry(numbers, table, count);
         break;
     default:
         damage_bytes(numbers, table);

@@ -1,4 +1,5 @@
-/* Tables with a fault: one field out of its range or order, a wrong count, bytes missing or too many, any bytes. */
+/* Tables with a fault: one field out of its range or order, an idle entry where none may stand, a wrong count, bytes missing
+ * or too many, any bytes. */
 #ifndef DAMAGE_H
 #define DAMAGE_H
 

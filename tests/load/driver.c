@@ -81,7 +81,7 @@ static bool print_refusals(const struct tally *t)
 {
     bool all = true;
     for (unsigned i = 1; i <= REFUSALS; i++) {
-        printf("%s%2u: %-7" PRIu64 "%s", i % 10 == 1 ? "  " : " ", i, t->by_number[i], i % 10 == 0 ? "\n" : "");
+        printf("%s%2u: %-7" PRIu64 "%s", i % 10 == 1 ? "  " : " ", i, t->by_number[i], i % 10 == 0 || i == REFUSALS ? "\n" : "");
         all = all && t->by_number[i] > 0;
     }
     return all;
@@ -100,7 +100,7 @@ static int run(uint64_t calls)
         printf("load: a refusal never occurred\n");
         return 1;
     }
-    printf("load: every answer agrees with document 01\n");
+    printf("load: every answer agrees with documents 01 and 02\n");
     return 0;
 }
 

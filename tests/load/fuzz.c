@@ -1,5 +1,5 @@
 /* A target for libFuzzer: the same cases as the driver's, made from the fuzzer's bytes. The first byte chooses the group.
- * The fuzzer sees which lines of the paper's C were reached, and so looks for every condition of document 01. */
+ * The fuzzer sees which lines of the paper's C were reached, and so looks for every condition of documents 01 and 02. */
 #include <stdlib.h>
 
 #include "groups.h"

@@ -8,7 +8,7 @@
 #include "tasks.h"
 
 /* The tables of the case, and a plan and price list in the making. */
-static struct table levels, jobs, plan, prices, changed_plan, changed_prices, tasks;
+static struct table levels, idle_levels, jobs, plan, prices, changed_plan, changed_prices, tasks;
 static struct plan steps, changed_steps;
 static struct prices list, changed_list;
 
@@ -25,16 +25,20 @@ static uint32_t any_length(struct numbers *numbers)
     return (uint32_t)(one_in(numbers, 2) ? between(numbers, 1, 10) : ONE_OF(numbers, 1, 999999, PAPER_TIME, between(numbers, 1, PAPER_TIME)));
 }
 
-/* Loads at the end of a level, dropped or not, and one to either side. */
+/* At the end of a level, dropped or not, one to either side, or any. */
+static uint64_t any_load(struct numbers *numbers, const struct paper_levels *given, uint32_t length)
+{
+    uint64_t end = (uint64_t)length * given->frequency[below(numbers, given->count)];
+    return one_in(numbers, 3) ? below(numbers, end + 1) : ONE_OF(numbers, 0, 1, end, end - 1, end + 1, UINT64_MAX, any_number(numbers));
+}
+
 static void settings(struct numbers *numbers)
 {
     struct paper_levels given = any_levels(numbers);
     levels_table(&levels, &given);
     for (unsigned i = 0; i < 4; i++) {
         uint32_t length = any_length(numbers);
-        uint64_t end = (uint64_t)length * given.frequency[below(numbers, given.count)];
-        uint64_t load = one_in(numbers, 3) ? below(numbers, end + 1) : ONE_OF(numbers, 0, 1, end, end - 1, end + 1, UINT64_MAX, any_number(numbers));
-        compare_setting(numbers, &levels, length, load);
+        compare_setting(numbers, &levels, length, any_load(numbers, &given, length));
     }
 }
 
@@ -48,12 +52,19 @@ static uint32_t any_time(struct numbers *numbers, const struct paper_jobs *given
     return (uint32_t)ONE_OF(numbers, time, time, time, time - 1, time + 1);
 }
 
+/* Mostly with its start before its end. */
+static struct window any_window(struct numbers *numbers, const struct paper_jobs *given)
+{
+    uint32_t start = any_time(numbers, given), end = any_time(numbers, given);
+    bool turn = start > end && !one_in(numbers, 8);
+    return (struct window) { turn ? end : start, turn ? start : end };
+}
+
 static void ask_spares(struct numbers *numbers, const struct paper_site *site, unsigned times)
 {
     while (times-- > 0) {
-        uint32_t start = any_time(numbers, &site->jobs), end = any_time(numbers, &site->jobs);
-        bool turn = start > end && !one_in(numbers, 8);
-        compare_spare(numbers, &levels, &jobs, turn ? end : start, turn ? start : end);
+        struct window window = any_window(numbers, &site->jobs);
+        compare_spare(numbers, &levels, &jobs, window.start, window.end);
     }
 }
 
@@ -204,19 +215,41 @@ static bool plan_exactly(struct numbers *numbers, const struct paper_site *site,
         return false;
     struct paper_loads loads = paper_loads(bytes_of(&plan));
     *exact = paper_exact(site, &loads);
+    same("exact energy times all gaps, carried out", (int64_t)paper_carried_out(site, &loads), (int64_t)*exact);
+    call_report("planning");
     return true;
 }
 
-/* A plan comes out exactly when the search finds a placement, and none has less exact energy. */
+/* A plan comes out exactly when the search finds a placement, and none has less energy; nor has any schedule. */
 static void tiny_sites(struct numbers *numbers)
 {
     struct paper_site site = tiny_site(numbers);
-    uint64_t least, exact;
-    bool found = paper_search(&site, &least), planned = plan_exactly(numbers, &site, &exact);
+    unsigned q = (unsigned)between(numbers, 1, PAPER_TINY_SLOTS);
+    uint64_t least, slots, exact;
+    bool found = paper_search(&site, &least), serves = paper_schedules(&site, q, &slots), planned = plan_exactly(numbers, &site, &exact);
     same("a plan came out", planned, found);
     if (planned && found)
         same("exact energy times all gaps", (int64_t)exact, (int64_t)least);
+    if (serves)
+        same("a plan came out and no schedule has less", planned && exact * q <= slots * paper_gaps(&site.points), 1);
     call_report("the search");
+}
+
+/* An idle entry of draw 0 changes no answer and no byte. */
+static void free_idling(struct numbers *numbers)
+{
+    struct paper_site site = any_site(numbers, small_shape(numbers));
+    if (site.levels.count == PAPER_LEVELS)
+        site.levels.count--;
+    site.levels.idle_entry = false;
+    make_tables(&site);
+    site.levels.idle_entry = true;
+    site.levels.draw = 0;
+    levels_table(&idle_levels, &site.levels);
+    uint32_t length = any_length(numbers);
+    uint64_t load = any_load(numbers, &site.levels, length);
+    struct window window = any_window(numbers, &site.jobs);
+    compare_alike(numbers, &levels, &idle_levels, &jobs, (struct questions) { length, load, window });
 }
 
 static void large_sites(struct numbers *numbers)
@@ -257,8 +290,19 @@ static struct paper_jobs repeated(const struct paper_jobs *round, uint32_t multi
     return all;
 }
 
+/* What idling takes between the repeats, times all gaps: from each round's latest deadline to the next one's earliest release. */
+static uint64_t idle_between(const struct paper_site *round, uint32_t multiple, unsigned times)
+{
+    unsigned n = round->intervals.count;
+    if (n == 0)
+        return 0;
+    uint64_t stretch = multiple - (round->intervals.bound[n] - round->intervals.bound[0]);
+    return (times - 1) * stretch * (uint64_t)paper_idle_power(&round->levels) * paper_gaps(&round->points);
+}
+
 /* Plans the round that was written, and two or more repeats of it where a job table has room for them. They are planned
- * exactly when the round is, and have so many times its least exact energy; where that wraps, both sides wrap alike. */
+ * exactly when the round is, and have so many times its least exact energy and that of idling between; where that wraps, both
+ * sides wrap alike. */
 static void plan_repeats(struct numbers *numbers, uint32_t multiple)
 {
     struct paper_site round, all;
@@ -275,7 +319,7 @@ static void plan_repeats(struct numbers *numbers, uint32_t multiple)
     bool all_planned = plan_exactly(numbers, &all, &exact_of_all);
     same("the repeated round was planned", all_planned, planned);
     if (planned && all_planned)
-        same("exact energy of the repeats times all gaps", (int64_t)exact_of_all, (int64_t)(times * exact));
+        same("exact energy of the repeats times all gaps", (int64_t)exact_of_all, (int64_t)(times * exact + idle_between(&round, multiple, times)));
     call_report("the repeated round");
 }
 
@@ -314,14 +358,15 @@ static void damaged_tasks(struct numbers *numbers)
 }
 
 struct group groups[GROUPS] = {
-    { .name = "settings", .run = settings, .weight = 24 },
+    { .name = "settings", .run = settings, .weight = 20 },
     { .name = "spares", .run = spares, .weight = 20 },
     { .name = "damaged tables", .run = damaged, .weight = 54 },
     { .name = "random bytes", .run = random_bytes, .weight = 20 },
     { .name = "planning", .run = planning, .weight = 32 },
-    { .name = "changed plans", .run = changed_plans, .weight = 36 },
+    { .name = "changed plans", .run = changed_plans, .weight = 32 },
     { .name = "other plans", .run = other_plans, .weight = 20 },
     { .name = "tiny sites", .run = tiny_sites, .weight = 12 },
+    { .name = "free idling", .run = free_idling, .weight = 8 },
     { .name = "large sites", .run = large_sites, .weight = 6 },
     { .name = "rounds", .run = rounds, .weight = 12 },
     { .name = "damaged tasks", .run = damaged_tasks, .weight = 20 },

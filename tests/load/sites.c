@@ -7,11 +7,14 @@ static void add_level(struct paper_levels *levels, uint64_t frequency, uint64_t 
     levels->count++;
 }
 
-/* Small steps: many levels are dropped, and many tests for dropping are equalities. */
+/* Small steps: many levels are dropped, and many tests for dropping are equalities. Half of the tables have powers past
+ * 1,000, and so room for a draw. */
 static struct paper_levels close_levels(struct numbers *numbers, unsigned most, unsigned step)
 {
     struct paper_levels levels = { .count = 0 };
     uint64_t count = between(numbers, 1, most), frequency = 0, voltage = between(numbers, 1, 3);
+    if (one_in(numbers, 2))
+        voltage += between(numbers, 31, 100);
     while (levels.count < count) {
         frequency += between(numbers, 1, step);
         voltage += below(numbers, 3);
@@ -20,15 +23,16 @@ static struct paper_levels close_levels(struct numbers *numbers, unsigned most, 
     return levels;
 }
 
-/* The two built-in tables, and the level pair T. */
+/* The two built-in tables, the level pair T, and two levels that both work only where idling draws power. */
 static struct paper_levels known_levels(struct numbers *numbers)
 {
     static const struct paper_levels known[] = {
-        { 5, { 300, 400, 533, 667, 800 }, { 90, 100, 110, 120, 130 } },
-        { 5, { 300, 350, 400, 450, 500 }, { 140, 150, 160, 170, 180 } },
-        { 2, { 2, 4 }, { 10, 20 } },
+        { .count = 5, .frequency = { 300, 400, 533, 667, 800 }, .voltage = { 90, 100, 110, 120, 130 } },
+        { .count = 5, .frequency = { 300, 350, 400, 450, 500 }, .voltage = { 140, 150, 160, 170, 180 } },
+        { .count = 2, .frequency = { 2, 4 }, .voltage = { 10, 20 } },
+        { .count = 2, .frequency = { 100, 200 }, .voltage = { 10, 10 } },
     };
-    return known[below(numbers, 3)];
+    return known[below(numbers, 4)];
 }
 
 /* Over the whole range; the last level is often the largest that is allowed. */
@@ -46,7 +50,7 @@ static struct paper_levels wide_levels(struct numbers *numbers)
     return levels;
 }
 
-struct paper_levels any_levels(struct numbers *numbers)
+static struct paper_levels running_levels(struct numbers *numbers)
 {
     switch (below(numbers, 4)) {
     case 0:
@@ -56,6 +60,29 @@ struct paper_levels any_levels(struct numbers *numbers)
     default:
         return close_levels(numbers, PAPER_LEVELS, 3);
     }
+}
+
+/* The largest draw that is below the first level's power, as far as 16 bits go. */
+static uint64_t largest_draw(const struct paper_levels *levels)
+{
+    uint64_t largest = ((uint64_t)paper_power(levels, 0) - 1) / 1000;
+    return largest < PAPER_DRAW ? largest : PAPER_DRAW;
+}
+
+/* Half of the tables that have room for an idle entry get one. */
+static struct paper_levels with_idling(struct numbers *numbers, struct paper_levels levels)
+{
+    uint64_t largest = largest_draw(&levels);
+    if (levels.count == PAPER_LEVELS || one_in(numbers, 2))
+        return levels;
+    levels.idle_entry = true;
+    levels.draw = (uint32_t)ONE_OF(numbers, 0, largest > 0, largest, largest, between(numbers, 0, largest));
+    return levels;
+}
+
+struct paper_levels any_levels(struct numbers *numbers)
+{
+    return with_idling(numbers, running_levels(numbers));
 }
 
 struct shape small_shape(struct numbers *numbers)
@@ -192,12 +219,12 @@ struct paper_site site_of(struct paper_levels levels, struct paper_jobs jobs)
 
 struct paper_site tiny_site(struct numbers *numbers)
 {
-    struct paper_levels levels = close_levels(numbers, 3, 2);
-    struct shape shape = { .jobs = (unsigned)between(numbers, 0, 3) };
+    struct paper_levels levels = with_idling(numbers, close_levels(numbers, 3, 2));
+    struct shape shape = { .jobs = (unsigned)between(numbers, 0, PAPER_TINY_JOBS) };
     shape.horizon = (uint32_t)between(numbers, 1, 4);
     struct paper_jobs jobs = windows(numbers, shape);
     for (unsigned j = 0; j < jobs.count; j++)
-        jobs.cycles[j] = (uint32_t)between(numbers, 1, 6);
+        jobs.cycles[j] = (uint32_t)between(numbers, 1, PAPER_TINY_CYCLES);
     return site_of(levels, jobs);
 }
 

@@ -5,6 +5,7 @@
 #include "numbers.h"
 #include "paper/paper.h"
 
+/* Often with an idle entry, whose draw is any that is allowed. */
 struct paper_levels any_levels(struct numbers *numbers);
 
 /* How many jobs at most, and how late their deadlines are. */
@@ -23,7 +24,7 @@ struct paper_jobs any_jobs(struct numbers *numbers, struct shape shape, const st
 
 /* A site of these tables. */
 struct paper_site site_of(struct paper_levels levels, struct paper_jobs jobs);
-/* A site that the search can go through whole. */
+/* A site whose placements and schedules can be gone through whole. */
 struct paper_site tiny_site(struct numbers *numbers);
 /* Mostly small, mostly fitting. */
 struct paper_site any_site(struct numbers *numbers, struct shape shape);

@@ -29,9 +29,13 @@ static void add(struct table *table, unsigned width, uint32_t number)
 void levels_table(struct table *table, const struct paper_levels *levels)
 {
     table->length = 0;
-    add(table, 2, levels->count);
+    add(table, 2, levels->count + levels->idle_entry);
+    if (levels->idle_entry)
+        add(table, 2, 0);
     for (unsigned i = 0; i < levels->count; i++)
         add(table, 2, levels->frequency[i]);
+    if (levels->idle_entry)
+        add(table, 2, levels->draw);
     for (unsigned i = 0; i < levels->count; i++)
         add(table, 2, levels->voltage[i]);
 }

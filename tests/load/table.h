@@ -31,6 +31,7 @@ struct paper_bytes bytes_of(const struct table *table);
 void table_keep(struct table *table, struct paper_bytes bytes);
 void table_set(struct table *table, size_t at, unsigned width, uint32_t number);
 
+/* The idle entry first, where there is one. */
 void levels_table(struct table *table, const struct paper_levels *levels);
 void jobs_table(struct table *table, const struct paper_jobs *jobs);
 /* A table of that many tasks, even more than are allowed: the given ones, and after the last the same again. */

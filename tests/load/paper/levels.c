@@ -1,7 +1,18 @@
-/* Working levels and the setting of one interval: refusals 25 and 26. */
+/* Powers, working levels and the setting of one interval: refusals 25 and 26. */
 #include "paper.h"
 
-/* Idling and all levels, dropped or not. */
+/* The draw is in thousands of power units. */
+int64_t paper_idle_power(const struct paper_levels *levels)
+{
+    return (int64_t)1000 * levels->draw;
+}
+
+int64_t paper_power(const struct paper_levels *levels, unsigned level)
+{
+    return (int64_t)levels->frequency[level] * levels->voltage[level] * levels->voltage[level];
+}
+
+/* Idling and all running levels, dropped or not. */
 struct all_points {
     unsigned count;
     int64_t frequency[PAPER_LEVELS + 1], power[PAPER_LEVELS + 1];
@@ -9,11 +20,10 @@ struct all_points {
 
 static struct all_points all_points(const struct paper_levels *levels)
 {
-    struct all_points all = { .count = levels->count + 1 };
+    struct all_points all = { .count = levels->count + 1, .power = { paper_idle_power(levels) } };
     for (unsigned i = 0; i < levels->count; i++) {
-        int64_t voltage = levels->voltage[i];
         all.frequency[i + 1] = levels->frequency[i];
-        all.power[i + 1] = all.frequency[i + 1] * voltage * voltage;
+        all.power[i + 1] = paper_power(levels, i);
     }
     return all;
 }
@@ -32,7 +42,7 @@ static bool dropped(const struct all_points *all, unsigned b)
 struct paper_points paper_points(const struct paper_levels *levels)
 {
     struct all_points all = all_points(levels);
-    struct paper_points points = { .m = 0 };
+    struct paper_points points = { .m = 0, .power = { all.power[0] } };
     for (unsigned b = 1; b < all.count; b++)
         if (!dropped(&all, b)) {
             points.m++;

@@ -1,6 +1,6 @@
-/* Document 01 and Change 1 of document 02 in plain C, written from the pages alone, to be held against the archive. It reads
- * tables, lays out tasks, judges plans and says when planning must refuse. It does not plan. Nothing here is meant to be
- * fast: each function follows the words of the pages. */
+/* Document 01 and Changes 1 and 2 of document 02 in plain C, written from the pages alone, to be held against the archive.
+ * It reads tables, lays out tasks, judges plans and says when planning must refuse. It does not plan. Nothing here is meant
+ * to be fast: each function follows the words of the pages. */
 #ifndef PAPER_H
 #define PAPER_H
 
@@ -19,8 +19,12 @@ enum {
     PAPER_TIME = 1000000,
     PAPER_CYCLES = 1000000000,
     PAPER_FREQUENCY = 1000,
-    PAPER_VOLTAGE = 500
+    PAPER_VOLTAGE = 500,
+    PAPER_DRAW = 65535
 };
+
+/* Tiny sites, whose schedules can be gone through whole. */
+enum { PAPER_TINY_JOBS = 3, PAPER_TINY_CYCLES = 6, PAPER_TINY_SLOTS = 2 };
 
 struct paper_bytes {
     const uint8_t *at;
@@ -32,9 +36,12 @@ struct paper_refusal {
     uint32_t number, place;
 };
 
+/* The running levels, and whether an idle entry stands before them. The draw is in thousands, and 0 without the entry. */
 struct paper_levels {
     unsigned count;
     uint32_t frequency[PAPER_LEVELS], voltage[PAPER_LEVELS];
+    bool idle_entry;
+    uint32_t draw;
 };
 
 struct paper_jobs {
@@ -80,6 +87,8 @@ struct paper_refusal paper_read_levels(struct paper_bytes bytes, struct paper_le
 struct paper_refusal paper_read_jobs(struct paper_bytes bytes, struct paper_jobs *jobs);
 
 /* levels.c */
+int64_t paper_idle_power(const struct paper_levels *levels);
+int64_t paper_power(const struct paper_levels *levels, unsigned level);
 struct paper_points paper_points(const struct paper_levels *levels);
 uint32_t paper_top(const struct paper_levels *levels);
 unsigned paper_band(const struct paper_points *points, uint64_t length, uint64_t load);
@@ -100,6 +109,7 @@ struct ramyearly_spare_answer paper_spare(struct paper_bytes levels, struct pape
 uint64_t paper_figure(const struct paper_site *site, const struct paper_loads *loads);
 uint64_t paper_gaps(const struct paper_points *points);
 uint64_t paper_exact(const struct paper_site *site, const struct paper_loads *loads);
+uint64_t paper_carried_out(const struct paper_site *site, const struct paper_loads *loads);
 
 /* check.c */
 struct paper_loads paper_loads(struct paper_bytes plan);
@@ -117,5 +127,8 @@ struct ramyearly_rounds_answer paper_rounds(struct paper_bytes tasks, size_t job
 
 /* search.c */
 bool paper_search(const struct paper_site *site, uint64_t *least);
+
+/* schedules.c */
+bool paper_schedules(const struct paper_site *site, unsigned q, uint64_t *least);
 
 #endif

@@ -1,5 +1,5 @@
-/* The least exact energy of a tiny site, by trying every way to give each job its cycles. Whole cycles are enough: the
- * prices rise, so a least placement in whole cycles exists. */
+/* The least energy of a tiny site, by trying every way to give each job its cycles and carrying it out. Whole cycles are
+ * enough: the prices rise, so a least placement in whole cycles exists. */
 #include "paper.h"
 
 struct search {
@@ -11,9 +11,9 @@ struct search {
 
 static void keep_least(struct search *search)
 {
-    uint64_t exact = paper_exact(search->site, &search->loads);
-    if (!search->found || exact < search->least)
-        search->least = exact;
+    uint64_t energy = paper_carried_out(search->site, &search->loads);
+    if (!search->found || energy < search->least)
+        search->least = energy;
     search->found = true;
 }
 

@@ -1,4 +1,4 @@
-/* Reading the level table and the job table: refusals 1 to 10. */
+/* Reading the level table and the job table: refusals 1 to 10, 31 and 32. */
 #include "paper.h"
 
 /* Little-endian. */
@@ -15,14 +15,26 @@ struct paper_refusal paper_refuse(uint32_t number, uint32_t place)
     return (struct paper_refusal) { number, place };
 }
 
-static struct paper_refusal level_entry(const struct paper_levels *levels, unsigned i)
+/* The number by which running level i is refused, or 0. The first one has no level before it, with an idle entry or without,
+ * and must be above the draw. */
+static uint32_t level_fault(const struct paper_levels *levels, unsigned i)
 {
     uint32_t frequency = levels->frequency[i], voltage = levels->voltage[i];
     if (frequency < 1 || frequency > PAPER_FREQUENCY || (i > 0 && frequency <= levels->frequency[i - 1]))
-        return paper_refuse(4, i);
+        return 4;
     if (voltage < 1 || voltage > PAPER_VOLTAGE || (i > 0 && voltage < levels->voltage[i - 1]))
-        return paper_refuse(5, i);
-    return paper_refuse(0, 0);
+        return 5;
+    if (i == 0 && levels->idle_entry && paper_idle_power(levels) >= paper_power(levels, i))
+        return 32;
+    return 0;
+}
+
+/* The idle entry, where the first frequency is 0. Answers the number of entries that it takes. */
+static unsigned idle_entries(struct paper_bytes bytes, unsigned v, struct paper_levels *levels)
+{
+    levels->idle_entry = paper_number(bytes, 2, 2) == 0;
+    levels->draw = levels->idle_entry ? paper_number(bytes, 2 + 2 * v, 2) : 0;
+    return levels->idle_entry ? 1 : 0;
 }
 
 struct paper_refusal paper_read_levels(struct paper_bytes bytes, struct paper_levels *levels)
@@ -34,13 +46,16 @@ struct paper_refusal paper_read_levels(struct paper_bytes bytes, struct paper_le
         return paper_refuse(2, 0);
     if (bytes.length != 2 + 4 * v)
         return paper_refuse(3, 0);
-    levels->count = v;
-    for (unsigned i = 0; i < v; i++) {
-        levels->frequency[i] = paper_number(bytes, 2 + 2 * i, 2);
-        levels->voltage[i] = paper_number(bytes, 2 + 2 * v + 2 * i, 2);
-        struct paper_refusal refusal = level_entry(levels, i);
-        if (refusal.number)
-            return refusal;
+    unsigned idle = idle_entries(bytes, v, levels);
+    if (idle == v)
+        return paper_refuse(31, 0);
+    levels->count = v - idle;
+    for (unsigned entry = idle; entry < v; entry++) {
+        levels->frequency[entry - idle] = paper_number(bytes, 2 + 2 * entry, 2);
+        levels->voltage[entry - idle] = paper_number(bytes, 2 + 2 * v + 2 * entry, 2);
+        uint32_t fault = level_fault(levels, entry - idle);
+        if (fault)
+            return paper_refuse(fault, entry);
     }
     return paper_refuse(0, 0);
 }
