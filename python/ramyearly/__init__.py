@@ -5,7 +5,8 @@
     2200
 
 plan, check, setting, spare and rounds take plain values and answer plain values; refusals are exceptions with number,
-place and words. Every answer is the archive's: the package decides nothing.
+place and words. Levels that begin with (0, 5) are those of a board that draws 5,000 while it idles. Every answer is the
+archive's: the package decides nothing.
 """
 
 from .errors import Trouble

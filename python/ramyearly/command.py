@@ -21,6 +21,15 @@ DIR is the folder of a site. It holds a job list and a level list, each as
   levels.txt or levels.csv   frequency and voltage, a level to a line
   jobs.tbl, levels.tbl       the same in bytes
 
+The level list may begin with an idle entry: frequency 0 and, in the place of the voltage, what
+idling draws in thousands of power units. On a board that draws 5,000 while it idles, levels.txt is
+
+  0 5
+  100 10
+  200 10
+
+Without an idle entry idling draws nothing.
+
 In place of the job list it may hold a task list. In each period a task releases a job at its
 phase, and the deadline counts from there. The jobs are laid out over the least common multiple of
 the periods, and their plan may be repeated any number of times:

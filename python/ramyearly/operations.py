@@ -1,8 +1,9 @@
 """The operations on plain values.
 
 A level is (frequency, voltage), a job (release, deadline, cycles), a task (phase, period, deadline, cycles), a step
-(interval, job, cycles) and a price (end, price). A refusal is raised as Refused, or as Overfull where no schedule meets
-all deadlines. A number that has no room in the tables is a ValueError.
+(interval, job, cycles) and a price (end, price). Levels may begin with the idle entry (0, draw): idling then draws 1,000 x
+draw in each tick, and without it nothing. A refusal is raised as Refused, or as Overfull where no schedule meets all
+deadlines. A number that has no room in the tables is a ValueError.
 """
 
 from typing import NamedTuple
@@ -50,7 +51,8 @@ def job_table(jobs):
 
 
 def plan(levels, jobs):
-    """A plan that no schedule beats which meets all deadlines, with the prices that show it."""
+    """A plan that no schedule beats which meets all deadlines, with the prices that show it. Levels may begin with
+    (0, draw); every schedule pays the draw where it idles, and the energy figure has it for the whole time."""
     return plan_tables(level_table(levels), job_table(jobs))
 
 
@@ -79,7 +81,8 @@ def plan_tables(levels, jobs):
 
 
 def check(levels, jobs, steps, prices):
-    """The energy figure of a plan that is accepted with its prices. A plan has as many intervals as there are prices."""
+    """The energy figure of a plan that is accepted with its prices. A plan has as many intervals as there are prices.
+    Levels may begin with (0, draw)."""
     plan_bytes = tables.to_bytes(tables.join_cells(steps), tables.PLAN, sizes=(len(prices),))
     return check_tables(level_table(levels), job_table(jobs), plan_bytes, tables.to_bytes(prices, tables.PRICES))
 
@@ -93,7 +96,8 @@ def check_tables(levels, jobs, plan_bytes, price_bytes):
 
 
 def setting(levels, length, load):
-    """The setting of one interval of this length with this load; zeros for load 0."""
+    """The setting of one interval of this length with this load; zeros for load 0. Levels may begin with (0, draw), and
+    the draw is one of the powers that decide which levels work."""
     return setting_of(level_table(levels), check_room(length, "length", 32), check_room(load, "load", 64))
 
 
@@ -105,7 +109,7 @@ def setting_of(levels, length, load):
 
 
 def spare(levels, jobs, start, end):
-    """The spare of a window, negative where it is overfull."""
+    """The spare of a window, negative where it is overfull. Levels may begin with (0, draw), which is no matter here."""
     return spare_of(level_table(levels), job_table(jobs), check_room(start, "start", 32), check_room(end, "end", 32))
 
 

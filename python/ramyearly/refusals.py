@@ -70,7 +70,7 @@ def own_jobs(inside):
 
 # What the place of a refusal counts, where it has one.
 PLACES = {
-    **dict.fromkeys((4, 5, 9, 10, 28), "entry"),
+    **dict.fromkeys((4, 5, 9, 10, 28, 32), "entry"),
     **dict.fromkeys((12, 13, 14), "length wanted"),
     **dict.fromkeys((17, 18, 24), "step"),
     **dict.fromkeys((20, 22, 23), "interval"),
@@ -104,31 +104,50 @@ def entries_of(data, table):
     return tables.from_bytes(data, table, table.name)[1]
 
 
-def entry_and_before(data, table, place):
-    """An entry, and the one before it or None."""
-    entries = entries_of(data, table)
-    return entries[place], (entries[place - 1] if place else None)
-
-
 # Levels and jobs.
 
 
+def level_entries(call):
+    return entries_of(call.levels, tables.LEVELS)
+
+
 def count_of_levels(call, place):
-    return f"{tables.sizes_of(call.levels, tables.LEVELS)[0]} levels, but a table has 1 to 8"
+    count = tables.sizes_of(call.levels, tables.LEVELS)[0]
+    whole = tables.length_fault(call.levels, tables.LEVELS) is None
+    if whole and tables.has_idle_entry(tables.LEVELS, level_entries(call)):
+        return f"{count} entries with the idle entry, but a table has 1 to 8 in all"
+    return f"{count} levels, but a table has 1 to 8"
+
+
+def level_and_before(call, place):
+    """A level, and the one before it or None. The idle entry is passed over: the level after it is a first one."""
+    entries = level_entries(call)
+    return entries[place], (entries[place - 1] if place > tables.first_running(entries) else None)
 
 
 def frequency(call, place):
-    (value, _), before = entry_and_before(call.levels, tables.LEVELS, place)
+    (value, _), before = level_and_before(call, place)
     if before and value <= before[0]:
         return f"frequency {value} is not above {before[0]} before it"
     return f"frequency {value} is not in range (1 to 1,000)"
 
 
 def voltage(call, place):
-    (_, value), before = entry_and_before(call.levels, tables.LEVELS, place)
+    (_, value), before = level_and_before(call, place)
     if before and value < before[1]:
         return f"voltage {value} is below {before[1]} before it"
     return f"voltage {value} is not in range (1 to 500)"
+
+
+def idle_entry_alone(call, place):
+    return "the idle entry stands alone: no level follows it"
+
+
+def idle_draw(call, place):
+    (_, draw), (frequency, voltage), *_ = level_entries(call)
+    idling = f"idling's power {1000 * draw} (1,000 x draw {draw})"
+    running = f"{frequency * voltage * voltage} ({frequency} x {voltage} x {voltage})"
+    return f"{idling} is not below the first running level's power {running}"
 
 
 def count_of_jobs(call, place):
@@ -355,4 +374,6 @@ REASONS = {
     28: (tables.TASKS, task, faulty_task),
     29: (tables.TASKS, multiple, task_that_gives(29)),
     30: (tables.TASKS, count_of_rounds, task_that_gives(30)),
+    31: (tables.LEVELS, idle_entry_alone, at_place),
+    32: (tables.LEVELS, idle_draw, at_place),
 }

@@ -10,6 +10,10 @@ commas stand between the numbers. Blank lines count for nothing, and neither doe
 follows a '#'. The first line may be the names of the columns. A number is digits, with
 '_' between them where that is easier to read: 1_000_000.
 
+The first entry of a level list may be the idle entry: frequency 0 and, in the place of the voltage, what
+idling draws in thousands of power units. With '0 5' idling draws 5,000; without an idle
+entry it draws nothing.
+
 Numbers are not compared with the limits of a site: that is the planner's work, and its
 refusal names the entry. Only what has no room in the bytes is an error here.
 """
@@ -25,6 +29,8 @@ SIZE_BYTES = 2
 MOST_ENTRIES = 2 ** (8 * SIZE_BYTES) - 1
 JOBS_IN_A_CELL = 64  # a plan's cell is interval × 64 + job
 TEXT_ENDINGS = (".txt", ".csv")
+NUMBER = r"-?[0-9]+(_[0-9]+)*"
+ZERO = r"-?0+(_0+)*"
 
 
 class Table(NamedTuple):
@@ -48,6 +54,8 @@ class Table(NamedTuple):
 
 
 LEVELS = Table("levels", "level", ("levels",), ((("frequency", 16),), (("voltage", 16),)))
+# The idle entry, with which a level table may begin, has what idling draws in the place of the voltage.
+IDLE = LEVELS._replace(entry="first entry of frequency 0", arrays=((("frequency", 16),), (("idle draw", 16),)))
 JOBS = Table("jobs", "job", ("jobs",), ((("release", 32), ("deadline", 32)), (("cycles", 32),)))
 TASKS = Table("tasks", "task", ("tasks",), ((("phase", 32), ("period", 32)), (("deadline", 32), ("cycles", 32))))
 PLAN = Table("plan", "step", ("intervals", "steps"), ((("cell", 16),), (("cycles", 32),)))
@@ -59,6 +67,21 @@ SITE_TABLES = (TASKS, JOBS, LEVELS)
 ALL_TABLES = (*SITE_TABLES, PLAN, PRICES)
 
 
+def named(table, place, is_zero):
+    """The table with the names that an entry's columns have there. A level table's first entry is the idle entry where its
+    first number is zero."""
+    return IDLE if table is LEVELS and place == 0 and is_zero else table
+
+
+def has_idle_entry(table, entries):
+    return len(entries) > 0 and named(table, 0, entries[0][0] == 0) is IDLE
+
+
+def first_running(levels):
+    """The entry of the first running level, before which the idle entry may stand."""
+    return 1 if has_idle_entry(LEVELS, levels) else 0
+
+
 # Text to entries.
 
 
@@ -66,7 +89,7 @@ def read_number(word, column, bits):
     """The number that a word says; a ValueError says why it is none."""
     if word == "":
         raise ValueError(f"{column} is empty")
-    if not re.fullmatch(r"-?[0-9]+(_[0-9]+)*", word):
+    if not re.fullmatch(NUMBER, word):
         raise ValueError(f"{column} '{word}' is not a whole number")
     # Twenty digits are too many for any column, and Python refuses to read thousands of them.
     digits = word.replace("_", "").lstrip("-0")[:20]
@@ -115,7 +138,7 @@ def parse_text(text, table, name):
         if len(entries) == MOST_ENTRIES:
             raise TableError(f"{name} line {number}: more than {MOST_ENTRIES} entries do not fit in the count's 16 bits")
         try:
-            entries.append(read_entry(words, table))
+            entries.append(read_entry(words, named(table, len(entries), re.fullmatch(ZERO, words[0]))))
         except ValueError as error:
             raise TableError(f"{name} line {number}: {error}") from None
         lines.append(number)
@@ -144,10 +167,11 @@ def to_bytes(entries, table, sizes=()):
     for name, count in zip(table.sizes, counts):
         data += number_bytes(count, name, 8 * SIZE_BYTES)
     start = 0
-    for array in table.arrays:
-        for entry in entries:
-            check_width(entry, table)
-            for number, (name, bits) in zip(entry[start:], array):
+    for which, array in enumerate(table.arrays):
+        for place, entry in enumerate(entries):
+            kind = named(table, place, list(entry[:1]) == [0])
+            check_width(entry, kind)
+            for number, (name, bits) in zip(entry[start:], kind.arrays[which]):
                 data += number_bytes(number, name, bits)
         start += len(array)
     return bytes(data)
@@ -221,14 +245,15 @@ def join_cells(steps):
 
 
 def to_text(sizes, entries, table, csv=False):
-    """The text of a table: its sizes as a comment, the names of the columns, the entries."""
+    """The text of a table: its sizes as a comment, what an idle entry has, the names of the columns, the entries."""
     names = [name for name, _ in table.columns()]
     if table is PLAN:
         names = ["interval", "job", "cycles"]
         entries = split_cells(entries)
     said = ", ".join(f"{name} {size}" for name, size in zip(table.sizes, sizes))
     between = "," if csv else " "
-    lines = [f"# {said}", ("" if csv else "# ") + between.join(names)]
+    idle = "# the first entry is the idle entry: frequency 0 and the idle draw, in thousands of power units"
+    lines = [f"# {said}", *([idle] if has_idle_entry(table, entries) else []), ("" if csv else "# ") + between.join(names)]
     lines += [between.join(str(number) for number in entry) for entry in entries]
     return "\n".join(lines) + "\n"
 

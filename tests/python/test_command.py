@@ -70,7 +70,8 @@ class Verbs(InFolder):
         """The page says what is wrong, and so does the command."""
         for site, said in (
             (self.overfull(), "jobs.txt line 1: overfull"),
-            (self.site(levels_txt="0 1\n", jobs_txt=""), "levels.txt line 1: frequency 0"),
+            (self.site(levels_txt="1001 1\n", jobs_txt=""), "levels.txt line 1: frequency 1001"),
+            (self.site(levels_txt="0 1\n", jobs_txt=""), "levels.txt line 1: the idle entry stands alone"),
             (self.site(levels_txt="2 x\n", jobs_txt=""), "levels.txt line 1: voltage 'x'"),
         ):
             ended = self.run_command("report", site)
@@ -143,13 +144,22 @@ class Verbs(InFolder):
             self.assertIn(f"usage: ramyearly {verb}", of_verb.stdout)
             self.assertIn("exit status", of_verb.stdout)
             self.assert_tasks_are_named(of_verb.stdout)
-        self.assert_tasks_are_named(ended.stdout)
-        self.assert_tasks_are_named(self.run_command(".", "--help").stdout)
+            self.assert_idling_is_named(of_verb.stdout)
+        for words in (["--help"], [".", "--help"]):
+            shown = self.run_command(*words).stdout
+            self.assert_tasks_are_named(shown)
+            self.assert_idling_is_named(shown)
+            self.assertIn("0 5", shown)
         self.expect(["--version"], 0, "ramyearly 1.0.0\n")
 
     def assert_tasks_are_named(self, text):
         """The help says that there are task lists, and which columns they have."""
         for word in ("tasks.txt", "tasks.csv", "tasks.tbl", "phase", "period", "deadline", "cycles"):
+            self.assertIn(word, text)
+
+    def assert_idling_is_named(self, text):
+        """The help says that a level list may begin with an idle entry, and what that is."""
+        for word in ("idle entry", "frequency 0"):
             self.assertIn(word, text)
 
     def test_a_reader_that_stops(self):

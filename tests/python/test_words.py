@@ -50,7 +50,9 @@ class Reading(InFolder):
         for content, said in (
             ("# none\n", "levels.txt: 0 levels, but a table has 1 to 8 (refusal 2)"),
             ("300 90\n\n300 90\n", "levels.txt line 3: frequency 300 is not above 300 before it (refusal 4, entry 1)"),
-            ("0 90\n", "levels.txt line 1: frequency 0 is not in range (1 to 1,000) (refusal 4, entry 0)"),
+            ("0 90\n", "levels.txt line 1: the idle entry stands alone: no level follows it (refusal 31)"),
+            ("0 1\n0 90\n", "levels.txt line 2: frequency 0 is not in range (1 to 1,000) (refusal 4, entry 1)"),
+            ("1001 10\n", "levels.txt line 1: frequency 1001 is not in range (1 to 1,000) (refusal 4, entry 0)"),
             ("2 10\n1001 10\n", "levels.txt line 2: frequency 1001 is not in range (1 to 1,000) (refusal 4, entry 1)"),
             ("2 10\n4 9\n", "levels.txt line 2: voltage 9 is below 10 before it (refusal 5, entry 1)"),
             ("2 0\n", "levels.txt line 1: voltage 0 is not in range (1 to 500) (refusal 5, entry 0)"),
@@ -190,7 +192,7 @@ class Numbers(unittest.TestCase):
             self.assertEqual(str(refusal), f"a buffer is too short (refusal {number}, length wanted 22)")
 
     def test_every_refusal_has_words(self):
-        self.assertEqual(sorted([*refusals.REASONS, 11]), list(range(1, 31)))
+        self.assertEqual(sorted([*refusals.REASONS, 11]), list(range(1, 33)))
 
 
 if __name__ == "__main__":

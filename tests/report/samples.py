@@ -15,6 +15,7 @@ EXAMPLES = os.path.join(ROOT, "examples")
 LEVELS = [(300, 140), (350, 150), (400, 160), (450, 170), (500, 180)]
 # Pairs of neighbours, and two levels that are never used.
 CLOSE_LEVELS = [(100, 10), (101, 11), (102, 12), (103, 13), (900, 20), (901, 60), (999, 80), (1000, 90)]
+IDLE_LEVELS = [(0, 2000), *LEVELS]
 OVERFULL = [(0, 40, 9000), (80, 200, 21000), (100, 120, 8500), (105, 118, 4000), (150, 170, 7500)]
 
 
@@ -50,6 +51,15 @@ MADE = {
     "close levels": (CLOSE_LEVELS, [(0, 10, 900), (3, 7, 200)]),
     "largest cycles": ([(1000, 500)], [(0, 1_000_000, 1_000_000_000), (999_998, 999_999, 1)]),
     "no jobs": (LEVELS, []),
+    "idle draw": (IDLE_LEVELS, [(0, 40, 9000), (60, 200, 21000), (100, 120, 8501)]),
+    "idle draw, large": (IDLE_LEVELS, many_jobs()),
+    "idle draw, largest": ([(0, 65535), (1000, 500)], [(0, 1_000_000, 1_000_000), (999_998, 999_999, 1)]),
+    "idle draw, overfull": (IDLE_LEVELS, OVERFULL),
+    "idle draw, no jobs": (IDLE_LEVELS, []),
+    "no idle draw": ([(0, 0), (100, 10), (200, 10)], [(0, 10, 600), (30, 40, 700)]),
+    "idle entry alone": ([(0, 2000)], OVERFULL),
+    "two idle entries": ([(0, 2000), *IDLE_LEVELS], OVERFULL),
+    "too much idle draw": ([(0, 5880), *LEVELS], OVERFULL),
 }
 # Tasks in place of jobs.
 TASKS = {
@@ -94,6 +104,10 @@ class Samples:
         self.make("refused in bytes", **{"levels.txt": lines(LEVELS), "jobs.tbl": tables.to_bytes([(5, 5, 1)], tables.JOBS)})
         three = TASKS["three tasks"]
         self.make("tasks in bytes", **{"levels.txt": lines(LEVELS), "tasks.tbl": tables.to_bytes(three, tables.TASKS)})
+        for name, tasks in (("idle draw, tasks", three[:2]), ("idle draw, no tasks", [])):
+            self.make(name, **{"levels.txt": lines(IDLE_LEVELS), "tasks.txt": lines(tasks)})
+        idle = tables.to_bytes(IDLE_LEVELS, tables.LEVELS)
+        self.make("idle draw in bytes", **{"levels.tbl": idle, "jobs.txt": lines(OVERFULL[:2])})
         self.make("two lists", **{"levels.txt": lines(LEVELS), "jobs.txt": lines(OVERFULL), "tasks.txt": lines(three)})
         self.make("nothing")
         examples = [os.path.join(EXAMPLES, name) for name in sorted(os.listdir(EXAMPLES))]

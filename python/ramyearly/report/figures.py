@@ -87,8 +87,10 @@ class Window(NamedTuple):
 
 
 class Level(NamedTuple):
-    """A level of the level list. One that does not work is never used, since it costs no less than a mix of others."""
+    """A running level of the level list. One that does not work is never used, since it costs no less than a mix of
+    others."""
 
+    entry: int  # its place in the list, which may begin with the idle entry
     frequency: int
     voltage: int
     works: bool
@@ -131,17 +133,40 @@ def tightest(levels, jobs):
     return [window(levels, jobs, start, end) for _, _, start, end in sorted(found)[:MOST_WINDOWS]]
 
 
+def running_levels(levels):
+    """The number, frequency and voltage of each entry but the idle entry."""
+    entries = entries_of(levels, tables.LEVELS)
+    return [(number, *entry) for number, entry in enumerate(entries)][tables.first_running(entries) :]
+
+
+def full_setting(levels, frequency):
+    """The setting of one tick at full load on a level. Where the level works the extra is equal to the gap."""
+    setting = operations.setting_of(levels, 1, frequency)
+    return setting, setting.extra == setting.gap
+
+
+def energy_of(levels, ticks, cycles):
+    """The energy figure of one job alone."""
+    return operations.plan_tables(levels, tables.to_bytes([(0, ticks, cycles)], tables.JOBS)).energy
+
+
+def idle_power(levels):
+    """What idling draws in a tick: what it costs to have a tick more for the cycles of one tick on the lowest level that
+    works."""
+    lowest = next(frequency for _, frequency, _ in running_levels(levels) if full_setting(levels, frequency)[1])
+    return energy_of(levels, 2, lowest) - energy_of(levels, 1, lowest)
+
+
 def level_list(levels):
-    """The levels, with what the archive makes of them. At full load one tick on a level that works has its extra equal
-    to its gap, and costs what the bands up to its own cost."""
-    found, below = [], 0
-    for frequency, voltage in entries_of(levels, tables.LEVELS):
-        setting = operations.setting_of(levels, 1, frequency)
-        works = setting.extra == setting.gap
+    """The running levels, with what the archive makes of them. One tick on a level that works costs what idling draws and
+    what the bands up to its own cost."""
+    found, below = [], idle_power(levels)
+    for entry, frequency, voltage in running_levels(levels):
+        setting, works = full_setting(levels, frequency)
         price = None
         if works:
-            energy = operations.plan_tables(levels, tables.to_bytes([(0, 1, frequency)], tables.JOBS)).energy
+            energy = energy_of(levels, 1, frequency)
             price = Fraction(energy - below, setting.gap)
             below = energy
-        found.append(Level(frequency, voltage, works, setting.band, price))
+        found.append(Level(entry, frequency, voltage, works, setting.band, price))
     return found

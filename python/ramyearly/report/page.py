@@ -52,12 +52,17 @@ def planned_body(site, planned):
             ("steps", "Steps", folding(f"The {counted(len(planned.steps), 'step')} of the plan", steps)),
             *site_sections(site, entries, level_list, intervals),
             with_tasks=has_tasks(site),
+            with_draw=idle_power(site) > 0,
         ),
     ]
 
 
 def has_tasks(site):
     return site.multiple is not None
+
+
+def idle_power(site):
+    return figures.idle_power(site.data(tables.LEVELS))
 
 
 def planned_sentence(site):
@@ -73,6 +78,7 @@ def planned_sentence(site):
 def planned_facts(site, planned, entries, window):
     return facts(
         ("Energy figure", thousands(planned.energy), *(["of one round"] if has_tasks(site) else [])),
+        *draw_facts(site, entries),
         time_fact(site, entries),
         job_fact(site, entries),
         ("Intervals", thousands(len(planned.spans))),
@@ -82,9 +88,27 @@ def planned_facts(site, planned, entries, window):
     )
 
 
-def time_fact(site, entries):
+def draw_facts(site, entries):
+    """What idling draws, where it draws power: in the time of the plan and, where rounds repeat, between two of them."""
+    power, (start, end) = idle_power(site), span(entries)
+    if power == 0:
+        return []
+    found = [("Idle draw", thousands(power * (end - start)), f"{thousands(power)} in each tick, part of the figure")]
+    between = site.multiple - (end - start) if has_tasks(site) else 0
+    if between:
+        remark = f"{counted(between, 'tick')}, not part of the figure"
+        found.append(("Idle draw between rounds", thousands(power * between), remark))
+    return found
+
+
+def span(entries):
+    """The earliest release and the latest deadline."""
     bounds = scale(entries).bounds
-    start, end = bounds[0], bounds[-1]
+    return bounds[0], bounds[-1]
+
+
+def time_fact(site, entries):
+    start, end = span(entries)
     repeats = f", repeats every {thousands(site.multiple)}" if has_tasks(site) else ""
     return "Time", from_to(start, end), counted(end - start, "tick") + repeats
 
@@ -159,7 +183,7 @@ def site_sections(site, entries, level_list, intervals=()):
     return [
         *tasks,
         ("job-list", "Job list", page_tables.job_table(jobs, entries, intervals)),
-        ("level-list", "Level list", page_tables.level_table(levels, level_list)),
+        ("level-list", "Level list", page_tables.level_table(levels, level_list, idle_power(site))),
     ]
 
 
@@ -192,6 +216,7 @@ def overfull_body(site, refusal):
             ("windows", "Tightest windows", page_tables.window_table(figures.tightest(levels, jobs))),
             *site_sections(site, entries, level_list),
             with_tasks=has_tasks(site),
+            with_draw=idle_power(site) > 0,
         ),
     ]
 
@@ -237,13 +262,15 @@ def refused_body(site, refusal):
 
 
 def empty_body(site):
-    level_list = figures.level_list(site.data(tables.LEVELS))
+    level_list, power = figures.level_list(site.data(tables.LEVELS)), idle_power(site)
     kind = tables.TASKS if has_tasks(site) else tables.JOBS
+    # The figure has what idling draws from the earliest release on, and there is none.
+    idles = "no time is planned" if power else "the clock idles"
     return [
-        verdict("Nothing to run", f"The {kind.entry} list is empty: the clock idles, and the energy figure is 0."),
+        verdict("Nothing to run", f"The {kind.entry} list is empty: {idles}, and the energy figure is 0."),
         facts(("Energy figure", 0), ("Jobs", 0), *level_facts(site.data(tables.LEVELS))),
         element("h2", "Level list"),
-        page_tables.level_table(site.sources[tables.LEVELS], level_list),
+        page_tables.level_table(site.sources[tables.LEVELS], level_list, power),
         element("h2", "Files"),
         page_tables.source_table(site),
     ]

@@ -13,10 +13,21 @@ TERMS = (
     ("Band", "The step from one working level to the next, or from idling to the lowest. A load ends in one of them."),
     ("Price", "The number of the band that sets what a cycle costs in an interval. A job runs where it is smallest."),
     ("Spare", "What the top frequency gives in a window beyond the need of the jobs inside. Below 0 it is overfull."),
+)
+ROUNDED = (
+    "It is rounded down for each band, so it is at most the exact energy, and less than the number of bands below it."
+)
+FIGURE_TERMS = (("Energy figure", f"Cycles times voltage squared, in hundredths of a volt. {ROUNDED}"),)
+# Where idling draws power.
+DRAW_TERMS = (
+    (
+        "Idle draw",
+        "What the processor draws in each tick even where nothing runs. It is paid from the earliest release to the latest "
+        "deadline.",
+    ),
     (
         "Energy figure",
-        "Cycles times voltage squared, in hundredths of a volt. It is rounded down for each band, so it is at most the "
-        "exact energy, and less than the number of bands below it.",
+        f"The idle draw of all ticks, and beyond it each cycle at the price that the level list has for its band. {ROUNDED}",
     ),
 )
 TASK_TERMS = (
@@ -55,9 +66,10 @@ def facts(*entries):
     return element("dl", *found, class_="facts")
 
 
-def sections(*entries, with_tasks=False):
+def sections(*entries, with_tasks=False, with_draw=False):
     """Sections as name, heading and content, with links to them before the first one."""
-    entries = [*entries, ("terms", "Words on this page", terms(TERMS + TASK_TERMS if with_tasks else TERMS))]
+    meanings = TERMS + (DRAW_TERMS if with_draw else FIGURE_TERMS) + (TASK_TERMS if with_tasks else ())
+    entries = [*entries, ("terms", "Words on this page", terms(meanings))]
     links = [element("a", heading, href=f"#{name}") for name, heading, _ in entries]
     found = [element("section", element("h2", heading), content, id=name) for name, heading, content in entries]
     return joined([element("nav", *links, aria_label="Sections"), *found])

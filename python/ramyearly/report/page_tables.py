@@ -143,7 +143,7 @@ def job_table(source, entries, intervals):
         if intervals:
             row.append(runs_of(job, intervals))
         rows.append(row)
-    return table("job-table", file_words(source, len(entries), tables.JOBS), columns, rows)
+    return table("job-table", file_words(source, tables.JOBS), columns, rows)
 
 
 def runs_of(job, intervals):
@@ -161,7 +161,7 @@ def task_table(source, jobs):
     for number, entry in enumerate(entries):
         own = [job for job, task in enumerate(jobs.tasks) if task == number]
         rows.append([number, *origin_cell(source, number), *entry, listed(own)])
-    caption = file_words(source, len(entries), tables.TASKS) + (
+    caption = file_words(source, tables.TASKS) + (
         " In each period a task releases a job at its phase; its deadline counts from there."
     )
     return table("task-table", caption, columns, rows)
@@ -174,32 +174,42 @@ def own_job_table(source, entries, inside):
     return table("own-job-table", caption, columns, rows)
 
 
-def level_table(source, levels):
+def level_table(source, levels, idle_power):
     columns = numbers("Level") + origin_column(source) + numbers("Frequency", "Voltage", "Band", "Price of a cycle")
     columns += long_words("Use")
     rows = []
+    if has_idle_entry(source):
+        use = "idles, and draws " + (f"{thousands(idle_power)} in each tick" if idle_power else "nothing")
+        rows.append(["idle", *origin_cell(source, 0), 0, NOTHING, NOTHING, NOTHING, use])
     for number, level in enumerate(levels):
-        row = [number, *origin_cell(source, number), level.frequency, f"{level.voltage / 100:.2f} V"]
+        row = [number, *origin_cell(source, level.entry), level.frequency, f"{level.voltage / 100:.2f} V"]
         if level.works:
             row += [level.band, mixed(level.price), "works"]
         else:
             row += [NOTHING, NOTHING, "never used: a mix of other levels costs no more"]
         rows.append(row)
-    caption = file_words(source, len(levels), tables.LEVELS) + (
+    beyond = " beyond what idling draws" if idle_power else ""
+    caption = file_words(source, tables.LEVELS) + (
         " Frequencies are in cycles per tick. A band goes from the level below that works, or from idling, up to this "
-        "level; a cycle in it costs its price."
+        f"level; a cycle in it costs its price{beyond}."
     )
     return table("level-table", caption, columns, rows)
 
 
+def has_idle_entry(source):
+    return tables.has_idle_entry(tables.LEVELS, entries_of(source.data, tables.LEVELS))
+
+
 def refused_table(source, table_kind, entries, refused):
-    """The entries around a refused one."""
+    """The entries around a refused one. After an idle entry a level does not have its entry's number."""
     first, end = max(refused - AROUND, 0), min(refused + AROUND + 1, len(entries))
-    columns = numbers(table_kind.entry.capitalize()) + origin_column(source)
+    idle = tables.has_idle_entry(table_kind, entries)
+    columns = numbers("Entry" if idle else table_kind.entry.capitalize()) + origin_column(source)
     columns += numbers(*(name.capitalize() for name, _ in table_kind.columns())) + words("Verdict")
     rows = []
     for number in range(first, end):
-        sign, verdict = ("\u25b8 ", "\u25c2 refused") if number == refused else ("", "")
+        remark = "idle entry: draw in place of the voltage" if idle and number == 0 else ""
+        sign, verdict = ("\u25b8 ", "\u25c2 refused") if number == refused else ("", remark)
         rows.append([f"{sign}{number}", *origin_cell(source, number), *entries[number], verdict])
     caption = f"Entries {first} to {end - 1} of {source.path}, which has {len(entries):,}."
     return table("refused-table", caption, columns, rows, marked=refused - first)
@@ -209,7 +219,7 @@ def source_table(site):
     """The files that a site was read from."""
     rows = []
     for kind, source in site.files().items():
-        state = counted(len(source.data), "byte") if source.lines is None else counted(len(source.lines), kind.entry)
+        state = counted(len(source.data), "byte") if source.lines is None else count_words(source, kind)
         if source.trouble:
             state = f"{source.trouble}: counts as empty"
         rows.append([kind.name.capitalize(), source.path, state])
@@ -217,5 +227,13 @@ def source_table(site):
     return table("source-table", "The files that were read.", columns, rows)
 
 
-def file_words(source, count, kind):
-    return f"{counted(count, kind.entry)}, from {source.path}."
+def file_words(source, kind):
+    return f"{count_words(source, kind)}, from {source.path}."
+
+
+def count_words(source, kind):
+    """How many entries a table has. The idle entry is no level."""
+    entries = entries_of(source.data, kind)
+    if tables.has_idle_entry(kind, entries):
+        return f"{counted(len(entries) - 1, kind.entry)} and the idle entry"
+    return counted(len(entries), kind.entry)

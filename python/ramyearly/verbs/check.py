@@ -3,7 +3,7 @@
 from .. import tables
 from ..operations import check_tables
 from ..sites import explained, lay_out, read_plan, read_site
-from .folders import TASKS, on_sites, parser_of
+from .folders import LISTS, on_sites, parser_of
 
 USAGE = ("check DIR...", "check plan.tbl and prices.tbl")
 
@@ -12,7 +12,7 @@ def run(arguments, prepare):
     parser = parser_of(
         "check",
         "Checks plan.tbl and prices.tbl against the tables of each site: a plan that is accepted gives\n"
-        "each job its cycles between release and deadline, and no schedule needs less energy." + TASKS,
+        "each job its cycles between release and deadline, and no schedule needs less energy." + LISTS,
         several=True,
     )
 

@@ -11,7 +11,10 @@ from ..terminal import NAME, Progress, put, say
 DONE, REFUSED, FAILED = 0, 1, 2
 
 # Each verb on a site says so.
-TASKS = """
+LISTS = """
+
+The level list may begin with an idle entry, frequency 0 and in the place of the voltage what idling
+draws in thousands of power units. With a first line '0 5' idling draws 5,000, without one nothing.
 
 A task list, tasks.txt, tasks.csv or tasks.tbl, may stand in place of the job list: phase, period,
 deadline (counted from the release) and cycles, a task to a line. Its jobs are laid out over the

@@ -4,7 +4,7 @@ from .. import tables
 from ..files import write_files
 from ..operations import plan_tables
 from ..sites import explained, lay_out, read_site
-from .folders import TASKS, check_folder, on_sites, parser_of
+from .folders import LISTS, check_folder, on_sites, parser_of
 
 USAGE = ("plan DIR... [-o OUT]", "plan: write plan.tbl and prices.tbl")
 
@@ -16,7 +16,7 @@ def run(arguments, prepare):
     parser = parser_of(
         "plan",
         "Plans each site: writes plan.tbl, which the reader's kernel loads, and prices.tbl, with which\n"
-        "anyone can check that no schedule needs less energy. Each is written whole or not at all." + TASKS + REPEATED,
+        "anyone can check that no schedule needs less energy. Each is written whole or not at all." + LISTS + REPEATED,
         several=True,
     )
     parser.add_argument("-o", dest="out", metavar="OUT", help="the folder to write to (that of the site if left out)")

@@ -8,7 +8,7 @@ from ..files import write_file
 from ..operations import plan_tables
 from ..refusals import Refused
 from ..sites import explain, lay_out, read_site
-from .folders import TASKS, on_site, parser_of
+from .folders import LISTS, on_site, parser_of
 
 USAGE = ("report DIR [-o FILE]", "write a page with pictures")
 
@@ -18,7 +18,7 @@ def run(arguments, prepare):
         "report",
         "Writes a page with pictures of a site: its jobs, its clock and its loads, the figure and the\n"
         "tightest windows; or the overfull window; or the refused entry. A browser opens it, from the\n"
-        "file alone." + TASKS,
+        "file alone." + LISTS,
     )
     said = "the file to write, - for standard output (report.html beside the tables if left out)"
     parser.add_argument("-o", dest="out", metavar="FILE.html", help=said)
