@@ -75,8 +75,8 @@ module _ (bytes : List ℕ) (small : IsBytes bytes) (processor : Processor) wher
       rw (levels-read-back bytes _ small .1 (table, fits, encoded), plain-begins (processor .levels) valid)
       (ap (λ (power : ℕ). answer (record { idlePower = power; levels = processor .levels })) (sym drawn))
 
--- tables with the same processor
-module _ (one two : List ℕ) (same : readProcessor one ≡ readProcessor two) (sites : (jobs : List ℕ) → readSite one jobs ≡ readSite two jobs) where
+-- tables that make the same sites
+module _ (one two : List ℕ) (sites : (jobs : List ℕ) → readSite one jobs ≡ readSite two jobs) where
   contract-kept : (jobs : List ℕ) (before after : Buffers) (answered : PlanAnswer) → PlanContract one jobs before after answered
       → PlanContract two jobs before after answered
   unfolding planning
@@ -101,8 +101,8 @@ same-answers one two same sites =
       spares = λ jobs start end. rw (sites jobs);
       checks = λ jobs plan prices. rw (sites jobs);
       plans = λ jobs before after answered. (
-        contract-kept one two same sites jobs before after answered,
-        contract-kept two one (sym same) (λ jobs. sym (sites jobs)) jobs before after answered,
+        contract-kept one two sites jobs before after answered,
+        contract-kept two one (λ jobs. sym (sites jobs)) jobs before after answered,
       );
     }
 

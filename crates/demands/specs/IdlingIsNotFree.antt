@@ -72,9 +72,9 @@ pub record PaysBetweenRepeats (H r : ℕ) (site : Site) (plan : List ℕ) : Type
       ≡ r * exactFor site plan + (r - 1) * (between * (site .processor .idlePower * gapsOf site))
   pub schedules-pay : (schedule : ScheduleFor (repeatSite H r site)) → PaysForIdleSlots (repeatSite H r site) schedule
 
--- Two level tables of which nothing but the reading of their entries tells the one from the other: they have the same
--- processor and make the same sites, of which working levels and the listing are functions, and every further operation answers
--- the same.
+-- Two level tables of which nothing but the reading of their entries tells the one from the other. They have the same processor,
+-- whose working levels are then the same, and make the same sites; and every further operation answers the same. What the listing
+-- prints is a function of the site and of what planning answered.
 pub record SameAnswers (one two : List ℕ) : Type 0 where
   pub processors : readProcessor one ≡ readProcessor two
   pub sites : (jobs : List ℕ) → readSite one jobs ≡ readSite two jobs

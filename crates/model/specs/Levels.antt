@@ -8,7 +8,8 @@ use lib.Dec.{ltb, leb}
 use Rattle.model.specs.declared.Level.{Level}
 use Rattle.model.specs.Limits.{maxLevels, maxFrequency, maxVoltage}
 
--- Idling has frequency 0; before the first level stands this one, which no level is below.
+-- Idling has frequency 0. It stands before the first level, so that 4 and 5 have something to compare that level with, and find
+-- nothing.
 abbrev pub idling : Level
 idling = record { frequency = 0; voltage = 0 }
 

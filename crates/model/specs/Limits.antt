@@ -1,5 +1,5 @@
--- The limits of document 01: 0 to 64 jobs, 1 to 8 levels, the idle entry counted with them, deadlines up to 1,000,000, cycles 1 to 1,000,000,000,
--- frequencies 1 to 1,000 and voltages 1 to 500. Each is the largest number allowed.
+-- The limits of document 01: 0 to 64 jobs, 1 to 8 levels, the idle entry counted with them, deadlines up to 1,000,000,
+-- cycles 1 to 1,000,000,000, frequencies 1 to 1,000 and voltages 1 to 500. Each is the largest number allowed.
 -- Those that the code needs have the same names in src/lib.rt.
 use Prim.Native.Nat.{ℕ, _*_}
 

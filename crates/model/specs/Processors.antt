@@ -1,5 +1,5 @@
--- The processor of a site: what its levels give and what idling draws (document 01, "Jobs, levels,
--- time"; document 02, Change 2).
+-- The processor of a site: what its levels give and what idling draws (document 01, "Jobs, levels, time";
+-- document 02, Change 2).
 use Prim.Native.Nat.{ℕ}
 use mathlib.Core.List.{List}
 use Rattle.model.specs.declared.Level.{Level}
