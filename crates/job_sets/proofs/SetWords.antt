@@ -1,23 +1,25 @@
 -- Laws of the words that the functions make: that each is the word of the set that its function promises.
 -- Assumes nothing.
 use mathlib.Core.Path.{_≡_, refl, sym, _∙_, ap}
-use mathlib.Core.Bool.{Bool, true, false, not, _&&_, _||_}
+use mathlib.Core.Bool.{Bool, true, false, not, _&&_, _||_, and-true, and-false}
 use mathlib.Core.Logic.{_⊎_, inl, inr}
-use Prim.Native.Nat.{ℕ, zero, suc, _+_, _-_, _^_, _<_, _≤_, min, max}
+use Prim.Native.Nat.{ℕ, zero, suc, _+_, _-_, _/_, _^_, _<_, _≤_, min, max}
+use native.Mathlib.Nat.{div-eq-of-lt}
 use native.Mathlib.Decide.{ℕ-discrete}
 use native.Mathlib.Omega.{arith}
-use lib.Dec.{eqb}
-use lib.Pow.{pow-lt}
+use lib.Dec.{ltb, eqb}
+use lib.Pow.{pow-pos, pow-mono, pow-lt}
 use lib.Bits.{bitAnd, bitOr, and-comm, or-comm, and-lt, or-lt}
 use lib.Count.{ones, trailingZeros, trailing-le}
-use borrow.Author.Tests.{eq-eqb, ne-eqb}
+use borrow.Author.Tests.{lt-ltb, le-ltb, eq-eqb, ne-eqb}
 use Rattle.model.specs.Limits.{maxJobs}
 use Rattle.model.specs.Search.{someBelow}
 use Rattle.model.proofs.Numbers.{lt-or-le, true-or-false}
+use Rattle.model.proofs.Sum.{sum-cong, sum-shorter}
 use Rattle.model.proofs.Search.{someBelow-none, someBelow-fails, firstBelow-is, firstBelow-none}
 use Rattle.model.proofs.OpenSets.{bits-ones}
 use Rattle.job_sets.specs.declared.JobSet.{JobSet}
-use Rattle.job_sets.specs.JobSets.{isMember, setOf, memberCount, leastMember, isEmpty, noJobs, withJob, withoutJob, inBoth, inEither}
+use Rattle.job_sets.specs.JobSets.{isMember, setOf, memberCount, membersBelow, leastMember, isEmpty, noJobs, withJob, withoutJob, inBoth, inEither}
 use Rattle.job_sets.proofs.Words.{bit, bit-none, bit-here, bit-other, bit-and, bit-or, bit-not, lowest-unset, lowest-set}
 use Rattle.job_sets.proofs.JobSets.{member-bit, set-is}
 
@@ -64,6 +66,18 @@ others-test job below = (omega arith, λ j inside. go j (ℕ-discrete j job) (bi
         let unset : bit j (2 ^ job) ≡ 0 = bit-other job j other in
         rw (ne-eqb j job other) (eq-eqb (bit j (2 ^ maxJobs - 1 - 2 ^ job)) 1 (omega arith))
 
+-- a power of 2 less one has the bits below it
+below-test : (job : ℕ) → job < maxJobs → Tested (2 ^ job - 1) (λ j. ltb j job)
+below-test job small = (omega (arith, pow-lt small), λ j inside. go j (lt-or-le j job))
+  where
+    go : (j : ℕ) → (j < job) ⊎ (job ≤ j) → eqb (bit j (2 ^ job - 1)) 1 ≡ ltb j job
+    go j (inl low) =
+        let all : 2 ^ job - 1 - 0 ≡ 2 ^ job - 1 = omega arith in
+        rw (lt-ltb j job low) (eq-eqb (bit j (2 ^ job - 1)) 1 (omega (arith, rw all at (bit-not job j 0 low (pow-pos job)), bit-none j)))
+    go j (inr past) =
+        let none : (2 ^ job - 1) / 2 ^ j ≡ 0 = div-eq-of-lt (omega (arith, pow-pos job, pow-mono past)) in
+        rw (le-ltb j job past, none)
+
 pub zero-word : _≡_ {A = JobSet} (record { word = 0 }) noJobs
 zero-word = tested-set 0 (λ j. false) (omega arith, λ j below. rw (bit-none j))
 
@@ -99,6 +113,15 @@ module _ (set : JobSet) (fits : set .word < 2 ^ maxJobs) where
   pub count-word : ones (set .word) ≡ memberCount set
   unfolding setOf
   count-word = ap (λ (s : JobSet). ones (s .word)) (set-is set (isMember set) fits (λ j below. refl)) ∙ bits-ones (isMember set) maxJobs
+
+  -- of those below a job number too
+  pub count-below-word : (job : ℕ) → job < maxJobs → ones (bitAnd (set .word) (2 ^ job - 1)) ≡ membersBelow set job
+  unfolding setOf
+  count-below-word job small =
+      ap (λ (s : JobSet). ones (s .word)) (tested-set _ _ (and-test (own-test set fits) (below-test job small)))
+      ∙ (bits-ones (λ j. isMember set j && ltb j job) maxJobs
+      ∙ (sum-shorter job maxJobs _ (omega arith) (λ j past below. rw (le-ltb j job past, and-false))
+      ∙ sum-cong job (λ j low. rw (lt-ltb j job low, and-true))))
 
   -- the word of an empty set is 0
   pub empty-word : eqb (set .word) 0 ≡ isEmpty set

@@ -24,6 +24,10 @@ setBelow count test = setOf (λ j. ltb j count && test j)
 abbrev pub memberCount : JobSet → ℕ
 memberCount set = sum maxJobs (λ j. onlyIf (isMember set j) 1)
 
+-- The number of members below a job number.
+abbrev pub membersBelow : JobSet → (job : ℕ) → ℕ
+membersBelow set job = sum job (λ j. onlyIf (isMember set j) 1)
+
 -- The least member, maxJobs where there is none.
 abbrev pub leastMember : JobSet → ℕ
 leastMember set = firstBelow maxJobs (isMember set)

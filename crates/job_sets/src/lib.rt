@@ -9,6 +9,7 @@ pub use by_interval::set_at;
 pub use members::all;
 pub use members::both;
 pub use members::count;
+pub use members::count_below;
 pub use members::either;
 pub use members::has;
 pub use members::is_empty;

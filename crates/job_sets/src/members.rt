@@ -2,7 +2,7 @@
 ghost use mathlib.Core.Path.{_≡_};
 ghost use Prim.Native.Nat.{_<_};
 ghost use Rattle.model.specs.Limits.{maxJobs};
-ghost use Rattle.job_sets.specs.JobSets.{isMember, memberCount, leastMember, isEmpty, noJobs, allJobs, withJob, withoutJob, inBoth, inEither};
+ghost use Rattle.job_sets.specs.JobSets.{isMember, memberCount, membersBelow, leastMember, isEmpty, noJobs, allJobs, withJob, withoutJob, inBoth, inEither};
 use crate::JobSet;
 
 // No job.
@@ -70,6 +70,14 @@ pub fn count(set: JobSet) -> usize
     ensures { λ r. ⌜ r ≡ memberCount set ⌝ }
 {
     u64::count_ones(set.word) as usize
+}
+
+// How many members are below a job number.
+pub fn count_below(set: JobSet, job: usize) -> usize
+    requires { ⌜ job < maxJobs ⌝ }
+    ensures { λ r. ⌜ r ≡ membersBelow set job ⌝ }
+{
+    u64::count_ones(set.word & ((1u64 << job) - 1)) as usize
 }
 
 // The least member, MAX_JOBS where there is none.

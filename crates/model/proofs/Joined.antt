@@ -1,5 +1,5 @@
 -- Laws of lists that are joined: one more list, how long they are together, what holds of every element, of one element, and
--- of any two, and sums over the elements; and of a list of one element or none.
+-- of any two, the place of each element, and sums over the elements; and of a list of one element or none.
 -- Assumes nothing.
 use mathlib.Core.Path.{_≡_, refl, sym, _∙_, ap}
 use mathlib.Core.Bool.{Bool, true, false, cond}
@@ -114,6 +114,24 @@ module _ {A : Type 0} where
         go : (i ≡ n) ⊎ (i < n) → (i < n → Any fact (joined n f)) → Any fact (joined n f ++ f n)
         go (inl last) earlier = any-second fact (joined n f) (f n) (rw last at here)
         go (inr inside) earlier = any-first fact (joined n f) (f n) (earlier inside)
+
+    -- element k of list i comes after the elements of the lists before it
+    pub joined-inside : (n : ℕ) (f : ℕ → List A) (i k : ℕ) → i < n → k < length (f i) → length (joined i f) + k < length (joined n f)
+    joined-inside n f i k below inside =
+        omega (arith, rw (joined-next i f, length-append) at (joined-longer f (i + 1) n (omega arith)))
+
+    pub joined-place : (n : ℕ) (f : ℕ → List A) (i k : ℕ) → i < n → k < length (f i)
+        → getD (joined n f) (length (joined i f) + k) d ≡ getD (f i) k d
+    unfolding joined
+    joined-place zero f i k below inside = absurd (omega arith)
+    joined-place (suc n) f i k below inside =
+        go (eq-or-lt-of-le (le-of-suc-le-suc below)) (λ earlier. joined-place n f i k earlier inside)
+      where
+        go : (i ≡ n) ⊎ (i < n) → (i < n → getD (joined n f) (length (joined i f) + k) d ≡ getD (f i) k d)
+            → getD (joined n f ++ f n) (length (joined i f) + k) d ≡ getD (f i) k d
+        go (inl last) before = rw last (getD-append-add (joined n f) (f n) k d)
+        go (inr earlier) before =
+            List·getD-append (joined n f) (f n) d (length (joined i f) + k) (joined-inside n f i k earlier inside) ∙ before earlier
 
     -- an element where a test passes, and none where not
     pub each-where : (fact : A → Type 0) (test : Bool) (x : A) → (test ≡ true → fact x) → Each fact (cond test (x ∷ []) [])

@@ -39,6 +39,7 @@ pub mod Sites
 pub mod Hypotheses
 pub mod IdleDraw
 pub mod SiteLines
+pub mod SameShares
 pub mod Steps
 pub mod Faults
 pub mod FittingHalf

@@ -33,7 +33,7 @@ onlyIf-both : (a b : Bool) (n : ℕ) → onlyIf (a && b) n ≡ onlyIf a (onlyIf 
 onlyIf-both true b n = refl
 onlyIf-both false b n = refl
 
-onlyIf-swap : (a b : Bool) (n : ℕ) → onlyIf (a && b) n ≡ onlyIf b (onlyIf a n)
+pub onlyIf-swap : (a b : Bool) (n : ℕ) → onlyIf (a && b) n ≡ onlyIf b (onlyIf a n)
 onlyIf-swap true true n = refl
 onlyIf-swap true false n = refl
 onlyIf-swap false true n = refl

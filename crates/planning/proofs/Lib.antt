@@ -2,7 +2,6 @@
 pub mod SiteTables
 pub mod SiteArrays
 pub mod Placeable
-pub mod SameShares
 pub mod WrittenSite
 pub mod MadePlans
 pub mod RoomSizes

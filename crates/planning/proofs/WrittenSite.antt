@@ -20,6 +20,7 @@ use Rattle.model.specs.Checking.{figureOf}
 use Rattle.model.specs.Accepted.{Accepted}
 use Rattle.model.specs.Planning.{Planned}
 use Rattle.model.proofs.Sum.{sum-term}
+use Rattle.model.proofs.SameShares.{load-same, gives-same, prices-same}
 use Rattle.model.proofs.Accepted.{check-accepts}
 use Rattle.energy.specs.Figures.{figureOfLoads}
 use Rattle.energy.proofs.Figures.{figure-of-plan}
@@ -27,7 +28,6 @@ use Rattle.writing.specs.StepList.{stepsOf}
 use Rattle.writing.specs.PriceListBytes.{encodePrices}
 use Rattle.writing.proofs.WrittenPlan.{planOf, written-plan, written-shares, written-count, written-length}
 use Rattle.writing.proofs.WrittenPrices.{length-price-list, written-prices, written-price-list}
-use Rattle.planning.proofs.SameShares.{load-same, gives-same, prices-same}
 
 module _ (site : Site) (valid : ValidSite site) where
   abbrev jobs : List Job

@@ -38,7 +38,7 @@ unfolding stepOf
 stepOf-some interval job zero some-share = absurd (omega arith)
 stepOf-some interval job (suc n) some-share = refl
 
-length-stepOf : (interval job share : ℕ) → length (stepOf interval job share) ≡ onlyIf (ltb 0 share) 1
+pub length-stepOf : (interval job share : ℕ) → length (stepOf interval job share) ≡ onlyIf (ltb 0 share) 1
 unfolding stepOf
 length-stepOf interval job zero = refl
 length-stepOf interval job (suc n) = rw (lt-ltb 0 (suc n) (omega arith))

@@ -2,7 +2,7 @@
 -- Assumes nothing.
 use mathlib.Core.Path.{_≡_, refl, sym, _∙_, ap}
 use mathlib.Core.List.{List, [], _++_, append-nil}
-use Prim.Native.Nat.{ℕ, _+_, _*_, _^_, _<_}
+use Prim.Native.Nat.{ℕ, suc, _+_, _*_, _^_, _<_}
 use native.Mathlib.Omega.{arith}
 use lib.ListN.{length, getD, drop, length-append}
 use lib.Seq.{drop-at, drop-drop}
@@ -54,6 +54,23 @@ module _ (intervals : ℕ) (steps : List Step) where
         drop-at (cellBytes steps) _ (2 * length steps) (length-cells steps),
       )
 
+  -- a step's cell stands among the cells, and its cycles among the cycles
+  pub cell-stands : (s : ℕ) → s < length steps
+      → drop (4 + 2 * s) (encodePlan intervals steps)
+      ≡ bytes16 (cellOfStep (getD steps s noStep)) ++ (cellBytes (drop (suc s) steps) ++ cycleBytes steps)
+  cell-stands s below =
+      sym (drop-drop (2 * s) 4 (encodePlan intervals steps))
+      ∙ (ap (drop (2 * s)) past-counts
+      ∙ drop-encodeEach (λ step. bytes16 (cellOfStep step)) 2 (λ step. length-bytesOf 2 (cellOfStep step)) steps (cycleBytes steps) s noStep below)
+
+  pub cycles-stand : (s : ℕ) → s < length steps
+      → drop (4 + 2 * length steps + 4 * s) (encodePlan intervals steps)
+      ≡ bytes32 (getD steps s noStep .cycles) ++ (cycleBytes (drop (suc s) steps) ++ [])
+  cycles-stand s below =
+      let rest = drop-encodeEach (λ step. bytes32 (step .cycles)) 4 (λ step. length-bytesOf 4 (step .cycles)) steps [] s noStep below in
+      sym (drop-drop (4 * s) (4 + 2 * length steps) (encodePlan intervals steps))
+      ∙ (ap (drop (4 * s)) past-cells ∙ rw (append-nil (cycleBytes steps)) at rest)
+
   module _ (few : length steps < 256 ^ 2) where
     pub count-read : stepCount (encodePlan intervals steps) ≡ length steps
     unfolding encodePlan
@@ -63,20 +80,11 @@ module _ (intervals : ℕ) (steps : List Step) where
 
     module _ (s : ℕ) (below : s < length steps) (fits : StepFits (getD steps s noStep)) where
       cell-read : cellAt (encodePlan intervals steps) s ≡ cellOfStep (getD steps s noStep)
-      cell-read =
-          numberAt-found 2 _ (encodePlan intervals steps) _ (4 + 2 * s)
-          (sym (drop-drop (2 * s) 4 (encodePlan intervals steps))
-          ∙ (ap (drop (2 * s)) past-counts
-          ∙ drop-encodeEach (λ step. bytes16 (cellOfStep step)) 2 (λ step. length-bytesOf 2 (cellOfStep step)) steps (cycleBytes steps) s noStep below))
-          (fits .cell-fits)
+      cell-read = numberAt-found 2 _ (encodePlan intervals steps) _ (4 + 2 * s) (cell-stands s below) (fits .cell-fits)
 
       cycles-read : number32 (encodePlan intervals steps) (4 + 2 * length steps + 4 * s) ≡ getD steps s noStep .cycles
       cycles-read =
-          let rest = drop-encodeEach (λ step. bytes32 (step .cycles)) 4 (λ step. length-bytesOf 4 (step .cycles)) steps [] s noStep below in
-          numberAt-found 4 _ (encodePlan intervals steps) _ (4 + 2 * length steps + 4 * s)
-          (sym (drop-drop (4 * s) (4 + 2 * length steps) (encodePlan intervals steps))
-          ∙ (ap (drop (4 * s)) past-cells ∙ rw (append-nil (cycleBytes steps)) at rest))
-          (fits .cycles-fit)
+          numberAt-found 4 _ (encodePlan intervals steps) _ (4 + 2 * length steps + 4 * s) (cycles-stand s below) (fits .cycles-fit)
 
       pub step-read : stepAt (encodePlan intervals steps) s ≡ getD steps s noStep
       unfolding stepAt

@@ -59,7 +59,7 @@ module _ (jobs intervals : ℕ) (shares : Shares) where
 
   module _ (few-jobs : jobs ≤ maxJobs) (few-intervals : intervals ≤ maxIntervals)
       (fit : (i j : ℕ) → i < intervals → j < jobs → shares i j < 2 ^ 32) where
-    few : length (stepsOf jobs intervals shares) < 256 ^ 2
+    pub few : length (stepsOf jobs intervals shares) < 256 ^ 2
     few = omega (arith, steps-most, mul-le-mul-left intervals few-jobs)
 
     fits : (s : ℕ) → s < length (stepsOf jobs intervals shares) → StepFits (getD (stepsOf jobs intervals shares) s noStep)
@@ -80,7 +80,7 @@ module _ (jobs intervals : ℕ) (shares : Shares) where
     pub written-length : length (planOf jobs intervals shares) ≡ 4 + 6 * stepCount (planOf jobs intervals shares)
     written-length = rw written-count (length-plan intervals (stepsOf jobs intervals shares))
 
-    written-step : (s : ℕ) → s < length (stepsOf jobs intervals shares)
+    pub written-step : (s : ℕ) → s < length (stepsOf jobs intervals shares)
         → stepAt (planOf jobs intervals shares) s ≡ getD (stepsOf jobs intervals shares) s noStep
     written-step s below = step-read intervals (stepsOf jobs intervals shares) few s below (fits s below)
 

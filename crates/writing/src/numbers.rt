@@ -6,7 +6,7 @@ ghost use lib.Seq.{sets};
 ghost use Rattle.model.specs.Bytes.{bytes16, bytes32};
 
 // Writes the two bytes of a number at a place. What it has above 16 bits is left out.
-pub(crate) fn put16(out: &mut [u8], place: usize, number: u64)
+pub fn put16(out: &mut [u8], place: usize, number: u64)
     requires { ⌜ place + 2 ≤ length (now out) ⌝ }
     ensures { λ _. ⌜ now (out .exit) ≡ sets (now (out .entry)) place (bytes16 number) ⌝ }
 {
@@ -15,7 +15,7 @@ pub(crate) fn put16(out: &mut [u8], place: usize, number: u64)
 }
 
 // Writes the four bytes of a number at a place. What it has above 32 bits is left out.
-pub(crate) fn put32(out: &mut [u8], place: usize, number: u64)
+pub fn put32(out: &mut [u8], place: usize, number: u64)
     requires { ⌜ place + 4 ≤ length (now out) ⌝ }
     ensures { λ _. ⌜ now (out .exit) ≡ sets (now (out .entry)) place (bytes32 number) ⌝ }
 {
