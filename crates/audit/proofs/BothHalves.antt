@@ -43,6 +43,10 @@ use Rattle.pricing.specs.SecondHalf.{Planned}
 use Rattle.audit.specs.declared.checking.CheckAnswer.the-variants.{Accepted, Refused as RefusedCheck}
 use Rattle.audit.specs.Answers.{checkAnswer}
 
+-- a refused plan is not accepted
+pub refused-accepted : {A : Type 0} {number place energy : ℕ} → RefusedCheck number place ≡ Accepted energy → A
+refused-accepted e = let z : _≡_ {A = ℕ} 0 1 = cc e in absurd (omega arith)
+
 -- each half, and then whatever is next
 fitting-both : {B : Type 0} (site : Site) (plan : List ℕ) (next : Outcome B) → Both (fitting site plan passed) next (fitting site plan next)
 unfolding fitting
@@ -77,7 +81,7 @@ module _ {site : Site} {table : SiteTable} {releases deadlines cycles times : Li
   same-site : siteIn (site .processor) jobs times (table .bounds) ≡ site
   same-site = rw (holds .jobs-are, bounds-in)
 
-  module _ (first : Verdict) (sets loads : List ℕ) (fitted : Fitted (table .top) jobs times (table .bounds) plan first sets loads) where
+  module _ (first : Verdict) (sets loads cells : List ℕ) (fitted : Fitted (table .top) jobs times (table .bounds) plan first sets loads cells) where
     judged : first ≡ verdictOf (fitting site plan passed)
     judged = rw same-site at (fitted .judged (site .processor) (sym (holds .top-is)))
 

@@ -1,8 +1,12 @@
 // The check of a plan and its price list, from bytes.
 ghost use mathlib.Core.Path.{_≡_};
+ghost use Prim.Native.Nat.{ℕ};
 ghost use Rattle.model.specs.Sites.{Site, ValidSite};
 ghost use Rattle.model.specs.Checking.{checkFor, check as checkOf};
 ghost use Rattle.site.specs.SiteTables.{HoldsSite, HoldsSome};
+ghost use Rattle.fitting.specs.SetsHave.{NoJobs};
+ghost use Rattle.fitting.specs.SeenCells.{CellsSeen};
+ghost use Rattle.audit.specs.declared.checking.CheckAnswer.the-variants.{Accepted};
 ghost use Rattle.audit.specs.Answers.{checkAnswer};
 use energy::energy_figure;
 use fitting::Verdict;
@@ -26,6 +30,23 @@ pub enum CheckAnswer {
 pub fn check(levels: &[u8], jobs: &[u8], plan: &[u8], prices: &[u8]) -> CheckAnswer
     ensures { λ r. ⌜ r ≡ checkAnswer (checkOf (now (levels .entry)) (now (jobs .entry)) (now (plan .entry)) (now (prices .entry))) ⌝ }
 {
+    let mut cells = [0u64; SET_WORDS];
+    check_cells(levels, jobs, plan, prices, &mut cells)
+}
+
+// The check, which also leaves the cells of an accepted plan's steps, as one set of jobs for each interval. What a refused plan
+// leaves there is free.
+pub fn check_cells(
+    levels: &[u8],
+    jobs: &[u8],
+    plan: &[u8],
+    prices: &[u8],
+    cells: &mut [u64; SET_WORDS],
+) -> CheckAnswer
+    requires { ⌜ NoJobs (now cells) ⌝ }
+    ensures { λ r. ⌜ r ≡ checkAnswer (checkOf (now (levels .entry)) (now (jobs .entry)) (now (plan .entry)) (now (prices .entry))) ⌝ }
+    ensures { λ r. ⌜ ((energy : ℕ) → r ≡ Accepted energy → CellsSeen (now (plan .entry)) (now (cells .exit))) ⌝ }
+{
     let mut releases = [0u64; MAX_JOBS];
     let mut deadlines = [0u64; MAX_JOBS];
     let mut cycles = [0u64; MAX_JOBS];
@@ -41,7 +62,16 @@ pub fn check(levels: &[u8], jobs: &[u8], plan: &[u8], prices: &[u8]) -> CheckAns
     let reading = site.reading;
     match reading {
         SiteReading::Refused { number, place } => CheckAnswer::Refused { number, place },
-        SiteReading::Read => check_site(site, &releases, &deadlines, &cycles, &times, plan, prices),
+        SiteReading::Read => check_site(
+            site,
+            &releases,
+            &deadlines,
+            &cycles,
+            &times,
+            plan,
+            prices,
+            cells,
+        ),
     }
 }
 
@@ -54,9 +84,11 @@ fn check_site(
     times: &[u64; MAX_BOUNDS],
     plan: &[u8],
     prices: &[u8],
+    cells: &mut [u64; SET_WORDS],
 ) -> CheckAnswer
-    requires { ⌜ HoldsSome site (now releases) (now deadlines) (now cycles) (now times) ⌝ }
+    requires { ⌜ HoldsSome site (now releases) (now deadlines) (now cycles) (now times) × NoJobs (now cells) ⌝ }
     ensures { λ r. ⌜ ((s : Site) → ValidSite s → HoldsSite s site (now (releases .entry)) (now (deadlines .entry)) (now (cycles .entry)) (now (times .entry)) → r ≡ checkAnswer (checkFor s (now (plan .entry)) (now (prices .entry)))) ⌝ }
+    ensures { λ r. ⌜ ((energy : ℕ) → r ≡ Accepted energy → CellsSeen (now (plan .entry)) (now (cells .exit))) ⌝ }
 {
     let working = site.working;
     let count = site.jobs;
@@ -74,6 +106,7 @@ fn check_site(
         plan,
         &mut sets,
         &mut loads,
+        cells,
     );
     if let Verdict::Refused { number, place } = first {
         return CheckAnswer::Refused { number, place };

@@ -3,3 +3,4 @@ mod checking;
 
 pub use checking::CheckAnswer;
 pub use checking::check;
+pub use checking::check_cells;

@@ -24,11 +24,12 @@ use Rattle.walking.specs.Walking.{codeStep, modelStep}
 use Rattle.job_sets.specs.JobSets.{isMember}
 use Rattle.job_sets.specs.IntervalSets.{setWords, setIn, Added}
 use Rattle.fitting.specs.SetsHave.{SetsHave}
+use Rattle.fitting.specs.SeenCells.{isSeen}
 use Rattle.fitting.specs.TestedJobs.{openBelow, HoldsCycles}
 use Rattle.fitting.specs.FirstHalf.{siteIn, openPairIn, faultWhere, faultOfStep, stepFaultIn}
 use Rattle.fitting.proofs.BoundsIn.{intervals-in, open-in}
 use Rattle.fitting.proofs.TestedJobs.{open-has}
-use Rattle.fitting.proofs.SeenSets.{isSeen, seen-more}
+use Rattle.fitting.proofs.SeenSets.{seen-more}
 
 module _ (sets cycles : List ℕ) (count bounds : ℕ) (seen : List ℕ) (step : Step) where
   abbrev fault : ℕ

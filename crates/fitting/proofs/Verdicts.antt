@@ -23,6 +23,10 @@ verdict-stops count fault i number sound below here bad =
 pub verdict-passes : (count : ℕ) (fault : ℕ → ℕ) → ((k : ℕ) → k < count → fault k ≡ 0) → Passed ≡ verdictOf (byEntry count fault passed)
 verdict-passes count fault sound = rw (byEntry-passes fault passed count sound)
 
+-- a refusal does not pass
+pub refused-passes : {A : Type 0} {number place : ℕ} → Refused number place ≡ Passed → A
+refused-passes e = let z : _≡_ {A = ℕ} 0 1 = cc e in absurd (omega arith)
+
 -- faults that agree give the same outcome
 from-cong : {A : Type 0} (first count : ℕ) (f g : ℕ → ℕ) (next : Outcome A) → ((i : ℕ) → i < first + count → f i ≡ g i)
     → byEntryFrom first count f next ≡ byEntryFrom first count g next

@@ -14,10 +14,12 @@ use Rattle.model.specs.Sites.{Site}
 use Rattle.model.specs.Steps.{Step, cellAt, stepAt}
 use Rattle.model.specs.Checking.{fitting}
 use Rattle.fitting.specs.declared.Verdict.{Verdict}
+use Rattle.fitting.specs.declared.Verdict.the-variants.{Passed}
 use Rattle.fitting.specs.Verdicts.{verdictOf, passed}
 use Rattle.job_sets.specs.JobSets.{isMember}
 use Rattle.job_sets.specs.IntervalSets.{setIn}
 use Rattle.fitting.specs.SetsHave.{SetsHave}
+use Rattle.fitting.specs.SeenCells.{CellsSeen}
 use Rattle.fitting.specs.TestedJobs.{openBelow}
 use Rattle.fitting.specs.Sums.{planLoads}
 
@@ -54,8 +56,10 @@ stepFaultIn sets cycles count bounds plan s =
 abbrev pub loadFaultIn : (top : ℕ) → (bounds loads : List ℕ) → (interval : ℕ) → ℕ
 loadFaultIn top bounds loads i = cond (leb (getD loads i 0) (lengthOf bounds i * top)) 0 20
 
--- What the first half answers of jobs and a plan, and what it fills: the open sets of the intervals and their loads.
-pub record Fitted (top : ℕ) (jobs : List Job) (times : List ℕ) (bounds : ℕ) (plan : List ℕ) (verdict : Verdict) (sets loads : List ℕ) : Type 0 where
+-- What the first half answers of jobs and a plan, and what it fills: the open sets of the intervals, their loads and, where it
+-- passes, the cells of the steps.
+pub record Fitted (top : ℕ) (jobs : List Job) (times : List ℕ) (bounds : ℕ) (plan : List ℕ) (verdict : Verdict) (sets loads cells : List ℕ) : Type 0 where
   pub judged : (processor : Processor) → topOf processor ≡ top → verdict ≡ verdictOf (fitting (siteIn processor jobs times bounds) plan passed)
   pub opened : SetsHave sets (openBelow jobs (length jobs) times bounds)
   pub added : loads ≡ planLoads plan
+  pub seen : verdict ≡ Passed → CellsSeen plan cells

@@ -7,7 +7,10 @@ ghost use Rattle.model.specs.Limits.{maxJobs, maxBounds};
 ghost use Rattle.model.specs.Outcome.{byEntry};
 ghost use Rattle.model.specs.Steps.{stepCount};
 ghost use Rattle.walking.specs.Walking.{modelStep};
+ghost use Rattle.fitting.specs.declared.Verdict.the-variants.{Passed};
 ghost use Rattle.fitting.specs.Verdicts.{verdictOf, passed};
+ghost use Rattle.fitting.specs.SetsHave.{NoJobs};
+ghost use Rattle.fitting.specs.SeenCells.{CellsSeen};
 ghost use Rattle.fitting.specs.FirstHalf.{faultOfStep, stepFaultIn};
 use crate::Verdict;
 use job_sets::SET_WORDS;
@@ -18,30 +21,32 @@ use walking::Step;
 use walking::decode_step;
 use walking::step_count;
 
-// Goes through the steps one after another.
+// Goes through the steps one after another, and marks the cell of each.
 pub(crate) fn check_steps(
     sets: &[u64; SET_WORDS],
     cycles: &[u64; MAX_JOBS],
     count: usize,
     bounds: usize,
     plan: &[u8],
+    seen: &mut [u64; SET_WORDS],
 ) -> Verdict
     requires { ⌜ (count ≤ maxJobs) × (bounds ≤ maxBounds) × (length (now plan) ≡ 4 + 6 * stepCount (now plan)) ⌝ }
+    requires { ⌜ NoJobs (now seen) ⌝ }
     ensures { λ r. ⌜ r ≡ verdictOf (byEntry (stepCount (now (plan .entry))) (stepFaultIn (now (sets .entry)) (now (cycles .entry)) count bounds (now (plan .entry))) passed) ⌝ }
+    ensures { λ r. ⌜ (r ≡ Passed → CellsSeen (now (plan .entry)) (now (seen .exit))) ⌝ }
 {
     let steps = step_count(plan);
-    let mut seen = [0u64; SET_WORDS];
     let mut s = 0;
     while s < steps {
         let step = decode_step(plan, s);
-        let number = step_fault(step, sets, cycles, count, bounds, &seen);
+        let number = step_fault(step, sets, cycles, count, bounds, seen);
         if number != 0 {
             return Verdict::Refused {
                 number,
                 place: s as u32,
             };
         }
-        add(&mut seen, step.interval, step.job);
+        add(seen, step.interval, step.job);
         s += 1;
     }
     Verdict::Passed

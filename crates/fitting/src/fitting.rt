@@ -10,8 +10,10 @@ ghost use Rattle.model.specs.Processors.{Processor, topOf};
 ghost use Rattle.model.specs.Checking.{fitting};
 ghost use Rattle.tables.specs.Tables.{jobsIn};
 ghost use Rattle.intervals.specs.Times.{SmallBounds};
+ghost use Rattle.fitting.specs.declared.Verdict.the-variants.{Passed};
 ghost use Rattle.fitting.specs.Verdicts.{verdictOf, passed};
 ghost use Rattle.fitting.specs.SetsHave.{NoJobs};
+ghost use Rattle.fitting.specs.SeenCells.{CellsSeen};
 ghost use Rattle.fitting.specs.TestedJobs.{TestedBelow, HoldsCycles};
 ghost use Rattle.fitting.specs.Sums.{planSums, planLoads};
 ghost use Rattle.fitting.specs.FirstHalf.{boundsIn, siteIn, loadFaultIn, Fitted};
@@ -28,8 +30,9 @@ use model::MAX_JOBS;
 use tables::number16;
 use walking::wrong_length;
 
-// Checks a plan against jobs that stand in three arrays, and their bounds. Fills the open sets of the intervals, and the
-// loads that the plan's steps make. The jobs become records, which are lent to the pass over them.
+// Checks a plan against jobs that stand in three arrays, and their bounds. Fills the open sets of the intervals, the loads
+// that the plan's steps make and, where the plan passes, the cells of its steps; what a refused plan leaves in those is free. The
+// jobs become records, which are lent to the pass over them.
 pub fn fit(
     top: u64,
     releases: &[u64; MAX_JOBS],
@@ -41,16 +44,28 @@ pub fn fit(
     plan: &[u8],
     sets: &mut [u64; SET_WORDS],
     loads: &mut [u64; MAX_INTERVALS],
+    cells: &mut [u64; SET_WORDS],
 ) -> Verdict
     requires { ⌜ (top ≤ maxFrequency) × (count ≤ maxJobs) × SmallBounds bounds (now times) ⌝ }
-    requires { ⌜ NoJobs (now sets) × (now loads ≡ replicate maxIntervals 0) ⌝ }
-    ensures { λ r. ⌜ Fitted top (jobsIn count (now (releases .entry)) (now (deadlines .entry)) (now (cycles .entry))) (now (times .entry)) bounds (now (plan .entry)) r (now (sets .exit)) (now (loads .exit)) ⌝ }
+    requires { ⌜ NoJobs (now sets) × (now loads ≡ replicate maxIntervals 0) × NoJobs (now cells) ⌝ }
+    ensures { λ r. ⌜ Fitted top (jobsIn count (now (releases .entry)) (now (deadlines .entry)) (now (cycles .entry))) (now (times .entry)) bounds (now (plan .entry)) r (now (sets .exit)) (now (loads .exit)) (now (cells .exit)) ⌝ }
 {
     let mut sums = [0u64; MAX_JOBS];
     add_plan(plan, &mut sums, loads);
     let jobs = job_records(releases, deadlines, cycles, count);
     let summed = lend_jobs(jobs, count, times, bounds, &sums, sets);
-    check_plan(top, sets, cycles, summed, count, times, bounds, plan, loads)
+    check_plan(
+        top,
+        sets,
+        cycles,
+        summed,
+        count,
+        times,
+        bounds,
+        plan,
+        loads,
+        cells,
+    )
 }
 
 // Checks a plan against what was found of the jobs, and their bounds.
@@ -64,9 +79,11 @@ fn check_plan(
     bounds: usize,
     plan: &[u8],
     loads: &[u64; MAX_INTERVALS],
+    cells: &mut [u64; SET_WORDS],
 ) -> Verdict
-    requires { ⌜ (top ≤ maxFrequency) × (count ≤ maxJobs) × SmallBounds bounds (now times) × (now loads ≡ planLoads (now plan)) ⌝ }
+    requires { ⌜ (top ≤ maxFrequency) × (count ≤ maxJobs) × SmallBounds bounds (now times) × (now loads ≡ planLoads (now plan)) × NoJobs (now cells) ⌝ }
     ensures { λ r. ⌜ ((processor : Processor) (jobs : List Job) → topOf processor ≡ top → length jobs ≡ count → TestedBelow jobs count (now (times .entry)) bounds (planSums (now (plan .entry))) (now (sets .entry)) summed → HoldsCycles jobs (now (cycles .entry)) → r ≡ verdictOf (fitting (siteIn processor jobs (now (times .entry)) bounds) (now (plan .entry)) passed)) ⌝ }
+    ensures { λ r. ⌜ (r ≡ Passed → CellsSeen (now (plan .entry)) (now (cells .exit))) ⌝ }
 {
     if wrong_length(plan) {
         return Verdict::Refused {
@@ -80,7 +97,7 @@ fn check_plan(
             place: 0,
         };
     }
-    let steps = check_steps(sets, cycles, count, bounds, plan);
+    let steps = check_steps(sets, cycles, count, bounds, plan, cells);
     if let Verdict::Refused { number, place } = steps {
         return Verdict::Refused { number, place };
     }

@@ -6,30 +6,31 @@ use native.Mathlib.Omega.{arith}
 use denote.Ref.{now}
 use borrow.Author.Count.{below-none, below-more}
 use Rattle.fitting.specs.SetsHave.{SetsHave}
+use Rattle.fitting.specs.SeenCells.{isSeen}
 use Rattle.fitting.specs.FirstHalf.{stepFaultIn}
 use Rattle.fitting.proofs.StepFaults.{turn-fault, turn-pair, turn-marked}
-use Rattle.fitting.proofs.SeenSets.{isSeen, seen-none}
-use Rattle.fitting.proofs.Verdicts.{verdict-stops, verdict-passes}
+use Rattle.fitting.proofs.SeenSets.{seen-none, seen-whole}
+use Rattle.fitting.proofs.Verdicts.{verdict-stops, verdict-passes, refused-passes}
 use Rattle.fitting.proofs.cells.check_steps.Statement.{statement}
 use Rattle.fitting.proofs.cells.check_steps.Tie as tie
 
 abbrev Inv-loop : tie.InvT-loop
-Inv-loop sets cycles count bounds plan steps seen₀ s₀ seen s =
+Inv-loop sets cycles count bounds plan seen₀ steps s₀ seen s =
     (s ≤ steps)
     × SetsHave seen (isSeen plan s)
     × ((k : ℕ) → k < s → stepFaultIn sets cycles count bounds plan k ≡ 0)
 
 abbrev μ-loop : tie.MeasureT-loop
-μ-loop sets cycles count bounds plan steps seen₀ s₀ seen s = steps - s
+μ-loop sets cycles count bounds plan seen₀ steps s₀ seen s = steps - s
 
 step-count-requires : tie.Need-step-count-requires Inv-loop μ-loop
-step-count-requires c κs = c .before .pre .2
+step-count-requires c κs = c .before .pre .0 .2
 
 loop-holds : tie.Need-loop-holds Inv-loop μ-loop
-loop-holds c = (omega arith, seen-none _, below-none _)
+loop-holds c = (omega arith, seen-none _ (c .before .before .pre .1), below-none _)
 
 decode-step-requires : tie.Need-decode-step-requires Inv-loop μ-loop
-decode-step-requires c κs = (c .before .before .before .before .pre .2, omega arith)
+decode-step-requires c κs = (c .before .before .before .before .pre .0 .2, omega arith)
 
 step-fault-requires : tie.Need-step-fault-requires Inv-loop μ-loop
 step-fault-requires c κs = (omega arith, omega arith, omega arith)
@@ -50,16 +51,22 @@ cast-t13 : tie.Need-cast-t13 Inv-loop μ-loop
 cast-t13 c = omega arith
 
 returns : tie.Need-returns Inv-loop μ-loop
-returns c = verdict-stops _ _ _ _ (c .before .before .before .before .before .loop .inv .2) (omega arith) (here (c .before)) (c .if1 .taken)
+returns c = (
+  verdict-stops _ _ _ _ (c .before .before .before .before .before .loop .inv .2) (omega arith) (here (c .before)) (c .if1 .taken),
+  refused-passes,
+)
 
 add-requires : tie.Need-add-requires Inv-loop μ-loop
 add-requires c κs =
     let found = c .before .before in
     let decoded = found .before .before in
+    let few = decoded .before .before .before .before .before .pre .0 in
+    let (interval, job, sized) =
     turn-pair
     _ _ _ _ _ _ _ _ _
-    (omega arith) (omega arith) (decoded .before .before .loop .inv .1) (decoded .decode-step .ensures .0) (found .step-fault .ensures)
-    (c .before .if1 .left)
+    (few .0) (few .1) (decoded .before .before .loop .inv .1) (decoded .decode-step .ensures .0) (found .step-fault .ensures)
+    (c .before .if1 .left) in
+    (omega arith, omega arith, sized)
 
 add-s : tie.Need-add-s Inv-loop μ-loop
 add-s c = omega arith
@@ -72,17 +79,20 @@ loop-again c =
     let sound = c .before .before in
     let found = sound .before in
     let decoded = found .before .before in
-    let inv = decoded .before .before .loop .inv in (
+    let inv = decoded .before .before .loop .inv in
+    let few = decoded .before .before .before .before .before .pre .0 in (
       omega arith,
       turn-marked
           _ _ _ _ _ _ _ _ _
-          (omega arith) (omega arith) (inv .1) (decoded .decode-step .ensures .0) (found .step-fault .ensures)
+          (few .0) (few .1) (inv .1) (decoded .decode-step .ensures .0) (found .step-fault .ensures)
           (sound .if1 .left) _ (c .add .ensures),
       below-more _ _ (inv .2) (sym (here found) ∙ sound .if1 .left),
     )
 
 returns-2 : tie.Need-returns-2 Inv-loop μ-loop
-returns-2 c = verdict-passes _ _ (λ k below. c .before .loop .inv .2 k (omega arith))
+returns-2 c =
+    let inv = c .before .loop .inv in
+    (verdict-passes _ _ (λ k below. inv .2 k (omega arith)), λ passes. seen-whole _ _ (inv .1) (omega arith))
 
 pub check-steps-spec : {M : Type 1} → statement M
 check-steps-spec =

@@ -33,7 +33,7 @@ held count releases deadlines cycles = record {
 
 returns : tie.Need-returns
 returns c =
-    let lent = c .before .before .before in
+    let lent = c .before .before .before .before in
     let made = lent .before .before .before in
     let start = made .before .before .before .before .before in
     let a = start .args in
@@ -41,9 +41,10 @@ returns c =
     let counted : length jobs ≡ a .count = length-jobsIn (a .count) (now (a .releases)) (now (a .deadlines)) (now (a .cycles)) in
     let tested = rw (made .job-records .ensures, made .before .add-plan .ensures .0) at (lent .lend-jobs .ensures) in
     record {
-      judged = λ processor is-top. c .check-plan .ensures processor jobs is-top counted tested (held (a .count) (now (a .releases)) (now (a .deadlines)) (now (a .cycles)));
+      judged = λ processor is-top. c .check-plan .ensures .0 processor jobs is-top counted tested (held (a .count) (now (a .releases)) (now (a .deadlines)) (now (a .cycles)));
       opened = rw counted (tested .opened);
       added = made .before .add-plan .ensures .1;
+      seen = c .check-plan .ensures .1;
     }
 
 pub fit-spec : {M : Type 1} → statement M
