@@ -30,7 +30,10 @@ use Rattle.audit.specs.Answers.{checkAnswer}
 use Rattle.tasks.specs.Rounds.{Round, tableLength, rounds}
 use Rattle.rounds.specs.declared.operation.RoundsAnswer.the-variants.{LaidOut, Refused as RoundRefused}
 use Rattle.rounds.specs.RoundAnswers.{roundsAnswer, RoundsContract}
-use Rattle.capi.specs.Results.{checkResult, settingResult, spareResult, roundsResult, RoundsCall}
+use Rattle.ordering.specs.Ordering.{order}
+use Rattle.ordering.specs.declared.operation.OrderAnswer.the-variants.{Ordered, Refused as OrderRefused}
+use Rattle.ordering.specs.OrderAnswers.{orderAnswer, OrderContract}
+use Rattle.capi.specs.Results.{checkResult, settingResult, spareResult, roundsResult, RoundsCall, orderResult, OrderCall}
 
 accepted-result : (outcome : Outcome ℕ) (energy : ℕ) → Accepted energy ≡ checkAnswer outcome
     → record { number = 0; place = 0; energy = energy } ≡ checkResult outcome
@@ -91,6 +94,21 @@ no-round-result (refused n p) number place e =
     λ k. record { number = same-number k; place = same-place k; length = 0; multiple = 0 }
 no-round-result (answer round) number place e = cc e
 
+ordered-result : (outcome : Outcome (List ℕ)) (size : ℕ) → Ordered size ≡ orderAnswer outcome
+    → record { number = 0; place = 0; length = size } ≡ orderResult outcome
+ordered-result (refused number place) size e = cc e
+ordered-result (answer ordered) size e =
+    let same : size ≡ length ordered = cc e in
+    λ k. record { number = 0; place = 0; length = same k }
+
+no-order-result : (outcome : Outcome (List ℕ)) (number place : ℕ) → OrderRefused number place ≡ orderAnswer outcome
+    → record { number = number; place = place; length = 0 } ≡ orderResult outcome
+no-order-result (refused n p) number place e =
+    let same-number : number ≡ n = cc e in
+    let same-place : place ≡ p = cc e in
+    λ k. record { number = same-number k; place = same-place k; length = 0 }
+no-order-result (answer ordered) number place e = cc e
+
 -- the outcome is that of an operation on bytes
 module _ (levelBytes jobBytes plan prices : List ℕ) where
   pub check-accepted : (energy : ℕ) → Accepted energy ≡ checkAnswer (check levelBytes jobBytes plan prices)
@@ -129,6 +147,23 @@ module _ (taskBytes before after : List ℕ) where
       → RoundsCall taskBytes before after (record { number = number; place = place; length = 0; multiple = 0 })
   rounds-refused number place h =
       record { result-is = no-round-result (rounds taskBytes (length before)) number place (h .answer-is); buffer-is = h .buffer-is }
+
+module _ (levelBytes jobBytes plan prices before after : List ℕ) where
+  pub order-ordered : (size : ℕ) → OrderContract levelBytes jobBytes plan prices before after (Ordered size)
+      → OrderCall levelBytes jobBytes plan prices before after (record { number = 0; place = 0; length = size })
+  order-ordered size h =
+      record {
+        result-is = ordered-result (order levelBytes jobBytes plan prices (length before)) size (h .answer-is);
+        buffer-is = h .buffer-is;
+      }
+
+  pub order-refused : (number place : ℕ) → OrderContract levelBytes jobBytes plan prices before after (OrderRefused number place)
+      → OrderCall levelBytes jobBytes plan prices before after (record { number = number; place = place; length = 0 })
+  order-refused number place h =
+      record {
+        result-is = no-order-result (order levelBytes jobBytes plan prices (length before)) number place (h .answer-is);
+        buffer-is = h .buffer-is;
+      }
 
 -- no working level is above the highest frequency
 module _ (processor : Processor) (valid : ValidProcessor processor) where

@@ -11,12 +11,14 @@ use Rattle.planning.specs.declared.operation.PlanAnswer.{PlanAnswer}
 use Rattle.planning.specs.declared.operation.PlanAnswer.the-variants.{Plan, Overfull, Refused}
 use Rattle.planning.specs.MadePlans.{Buffers}
 use Rattle.planning.specs.PlanAnswers.{PlanContract}
+use Rattle.ordering.specs.Ordering.{order, orderedAfter}
 use Rattle.tasks.specs.Rounds.{Round, tableLength, rounds, bufferAfter}
 use Rattle.capi.specs.declared.CheckResult.{CheckResult}
 use Rattle.capi.specs.declared.SettingResult.{SettingResult}
 use Rattle.capi.specs.declared.SpareResult.{SpareResult}
 use Rattle.capi.specs.declared.PlanResult.{PlanResult}
 use Rattle.capi.specs.declared.RoundsResult.{RoundsResult}
+use Rattle.capi.specs.declared.OrderResult.{OrderResult}
 
 abbrev pub checkResult : Outcome ℕ → CheckResult
 checkResult (refused number place) = record { number = number; place = place; energy = 0 }
@@ -53,3 +55,12 @@ roundsResult (answer round) = record { number = 0; place = 0; length = tableLeng
 pub record RoundsCall (taskBytes before after : List ℕ) (result : RoundsResult) : Type 0 where
   pub result-is : result ≡ roundsResult (rounds taskBytes (length before))
   pub buffer-is : after ≡ bufferAfter (rounds taskBytes (length before)) before
+
+abbrev pub orderResult : Outcome (List ℕ) → OrderResult
+orderResult (refused number place) = record { number = number; place = place; length = 0 }
+orderResult (answer ordered) = record { number = 0; place = 0; length = length ordered }
+
+-- A call that orders a plan from C: what it returns, and what the buffer holds afterwards.
+pub record OrderCall (levelBytes jobBytes plan prices before after : List ℕ) (result : OrderResult) : Type 0 where
+  pub result-is : result ≡ orderResult (order levelBytes jobBytes plan prices (length before))
+  pub buffer-is : after ≡ orderedAfter (order levelBytes jobBytes plan prices (length before)) before

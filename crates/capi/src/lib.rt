@@ -4,9 +4,10 @@ ghost use mathlib.Core.Path.{_≡_};
 ghost use Rattle.model.specs.Checking.{check};
 ghost use Rattle.model.specs.Setting.{setting};
 ghost use Rattle.model.specs.Windows.{spare};
-ghost use Rattle.capi.specs.Results.{checkResult, settingResult, spareResult, PlanCall, RoundsCall};
+ghost use Rattle.capi.specs.Results.{checkResult, settingResult, spareResult, PlanCall, RoundsCall, OrderCall};
 use audit::CheckAnswer;
 use levels::SettingAnswer;
+use ordering::OrderAnswer;
 use planning::PlanAnswer;
 use rounds::RoundsAnswer;
 use windows::SpareAnswer;
@@ -59,6 +60,14 @@ pub struct RoundsResult {
     pub place: u32,
     pub length: u32,
     pub multiple: u32,
+}
+
+// Ordering. Number 0: the ordered plan was written, with its length in bytes; otherwise the refusal's number and place, and 0.
+#[repr(C)]
+pub struct OrderResult {
+    pub number: u32,
+    pub place: u32,
+    pub length: u32,
 }
 
 #[no_mangle]
@@ -195,6 +204,31 @@ pub extern "C" fn ramyearly_rounds(tasks: &[u8], jobs: &mut [u8]) -> RoundsResul
             place,
             length: 0,
             multiple: 0,
+        },
+    }
+}
+
+#[no_mangle]
+pub extern "C" fn ramyearly_order(
+    levels: &[u8],
+    jobs: &[u8],
+    plan: &[u8],
+    prices: &[u8],
+    ordered: &mut [u8],
+) -> OrderResult
+    ensures { λ r. ⌜ OrderCall (now (levels .entry)) (now (jobs .entry)) (now (plan .entry)) (now (prices .entry)) (now (ordered .entry)) (now (ordered .exit)) r ⌝ }
+{
+    let answer = ordering::order(levels, jobs, plan, prices, ordered);
+    match answer {
+        OrderAnswer::Ordered { length } => OrderResult {
+            number: 0,
+            place: 0,
+            length,
+        },
+        OrderAnswer::Refused { number, place } => OrderResult {
+            number,
+            place,
+            length: 0,
         },
     }
 }

@@ -31,6 +31,7 @@ use Rattle.tables.proofs.ReadingBack.{encodings-are-bytes}
 use Rattle.planning.specs.declared.operation.PlanAnswer.{PlanAnswer}
 use Rattle.planning.specs.MadePlans.{Buffers}
 use Rattle.planning.specs.PlanAnswers.{PlanContract}
+use Rattle.ordering.specs.Ordering.{order}
 use Rattle.demands.specs.IdlingIsNotFree.{TableOf, with-entry, without-entry, SameAnswers, IdlingIsNotFree}
 use Rattle.demands.proofs.RepeatedRounds.{repeated-rounds}
 
@@ -92,7 +93,7 @@ module _ (one two : List ℕ) (sites : (jobs : List ℕ) → readSite one jobs �
       }
 
 same-answers : (one two : List ℕ) → readProcessor one ≡ readProcessor two → ((jobs : List ℕ) → readSite one jobs ≡ readSite two jobs) → SameAnswers one two
-unfolding setting spare check
+unfolding setting spare check order
 same-answers one two same sites =
     record {
       processors = same;
@@ -100,6 +101,7 @@ same-answers one two same sites =
       settings = λ length load. rw same;
       spares = λ jobs start end. rw (sites jobs);
       checks = λ jobs plan prices. rw (sites jobs);
+      orders = λ jobs plan prices room. rw (sites jobs);
       plans = λ jobs before after answered. (
         contract-kept one two sites jobs before after answered,
         contract-kept two one (λ jobs. sym (sites jobs)) jobs before after answered,

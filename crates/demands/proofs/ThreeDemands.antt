@@ -25,6 +25,10 @@ use Rattle.tasks.specs.Rounds.{Round, rounds, bufferAfter}
 use Rattle.tasks.proofs.Rounds.{rounds-refuse}
 use Rattle.rounds.specs.declared.operation.RoundsAnswer.the-variants.{Refused as RoundRefused}
 use Rattle.rounds.specs.RoundAnswers.{roundsAnswer}
+use Rattle.ordering.specs.Ordering.{order, orderedAfter}
+use Rattle.ordering.specs.declared.operation.OrderAnswer.the-variants.{Refused as NotOrdered}
+use Rattle.ordering.specs.OrderAnswers.{orderAnswer}
+use Rattle.ordering.proofs.Ordering.{order-refuses}
 use Rattle.demands.specs.ThreeDemands.{
   Call,
   PlanComesOut,
@@ -43,6 +47,12 @@ refused-keeps : (before after : List ℕ) (outcome : Outcome Round) (number plac
 refused-keeps before after (refused n p) number place told left = left
 refused-keeps before after (answer round) number place told left = let z : _≡_ {A = ℕ} 0 1 = cc told in absurd (omega (arith, z))
 
+-- a call of ordering that is refused leaves the buffer
+unordered-keeps : (before after : List ℕ) (outcome : Outcome (List ℕ)) (number place : ℕ) → NotOrdered number place ≡ orderAnswer outcome
+    → after ≡ orderedAfter outcome before → after ≡ before
+unordered-keeps before after (refused n p) number place told left = left
+unordered-keeps before after (answer ordered) number place told left = let z : _≡_ {A = ℕ} 0 1 = cc told in absurd (omega (arith, z))
+
 pub demand-one : DemandOne
 demand-one =
     record {
@@ -57,6 +67,9 @@ demand-one =
       laying-out = rounds-refuse;
       lays-out-nothing = λ tasks before after answered contract number place is.
           refused-keeps before after (rounds tasks (length before)) number place (sym is ∙ contract .answer-is) (contract .buffer-is);
+      ordering = order-refuses;
+      orders-nothing = λ levels jobs plan prices before after answered contract number place is.
+          unordered-keeps before after (order levels jobs plan prices (length before)) number place (sym is ∙ contract .answer-is) (contract .buffer-is);
     }
 
 -- an accepted plan is such a plan, and its prices fit

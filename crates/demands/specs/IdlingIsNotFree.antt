@@ -26,6 +26,7 @@ use Rattle.model.specs.IdleDraw.{IdlingIsAPoint, Works, energyOfBands, figureOf
 use Rattle.planning.specs.declared.operation.PlanAnswer.{PlanAnswer}
 use Rattle.planning.specs.MadePlans.{Buffers}
 use Rattle.planning.specs.PlanAnswers.{PlanContract}
+use Rattle.ordering.specs.Ordering.{order}
 use Rattle.rounds.specs.declared.operation.RoundsAnswer.the-variants.{LaidOut}
 use Rattle.repeats.specs.Repeats.{repeatSite, repeatShares, energyAt, RepeatsApart}
 use Rattle.demands.specs.ThreeDemands.{SuchAPlan}
@@ -81,6 +82,7 @@ pub record SameAnswers (one two : List ℕ) : Type 0 where
   pub settings : (length load : ℕ) → setting one length load ≡ setting two length load
   pub spares : (jobs : List ℕ) (start end : ℕ) → spare one jobs start end ≡ spare two jobs start end
   pub checks : (jobs plan prices : List ℕ) → check one jobs plan prices ≡ check two jobs plan prices
+  pub orders : (jobs plan prices : List ℕ) (room : ℕ) → order one jobs plan prices room ≡ order two jobs plan prices room
   pub plans : (jobs : List ℕ) (before after : Buffers) (answered : PlanAnswer)
       → PlanContract one jobs before after answered ↔ PlanContract two jobs before after answered
 

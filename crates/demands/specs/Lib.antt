@@ -1,4 +1,6 @@
--- The three demands, for a reader who reads nothing else; rounds that repeat, and idling that is not free, over the calls.
+-- The three demands, for a reader who reads nothing else; rounds that repeat, idling that is not free, and one spelling of a plan,
+-- over the calls.
 pub mod ThreeDemands
 pub mod RepeatedRounds
 pub mod IdlingIsNotFree
+pub mod OneSpelling

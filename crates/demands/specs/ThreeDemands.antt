@@ -11,6 +11,8 @@
 --     start, next and step_at            stepAnswer (walk plan) at the number of the step
 --     plan levels jobs and the buffers   an answer that `PlanContract` holds of
 --     rounds tasks and the buffer        roundsAnswer (rounds tasks room), with the buffer that `RoundsContract` names
+--     order levels jobs plan prices      orderAnswer (order levels jobs plan prices room), with the buffer that `OrderContract`
+--       and the buffer                   names
 --
 -- An answer's enum has a case for each case of the outcome, with the same numbers. So what is stated here of an outcome
 -- on the right holds of what the caller gets.
@@ -47,6 +49,10 @@ use Rattle.tasks.specs.Rounds.{rounds}
 use Rattle.rounds.specs.declared.operation.RoundsAnswer.{RoundsAnswer}
 use Rattle.rounds.specs.declared.operation.RoundsAnswer.the-variants.{Refused}
 use Rattle.rounds.specs.RoundAnswers.{RoundsContract}
+use Rattle.ordering.specs.Ordering.{order}
+use Rattle.ordering.specs.declared.operation.OrderAnswer.{OrderAnswer}
+use Rattle.ordering.specs.declared.operation.OrderAnswer.the-variants.{Refused as NotOrdered}
+use Rattle.ordering.specs.OrderAnswers.{OrderContract}
 
 -- One call of planning: what it was lent, what it left there, and its answer, with the contract that holds of every call.
 pub record Call : Type 0 where
@@ -69,8 +75,8 @@ abbrev pub pricesWritten : Call → (intervals : ℕ) → List ℕ
 pricesWritten call intervals = take (2 + 5 * intervals) (call .after .prices)
 
 -- Demand 1. "Whoever calls an operation, with bytes of any length and content, gets a result or a numbered refusal from
--- document 01; nothing is required of the caller first, and a refused call changes nothing lent to it." Planning and laying
--- out a round alone are lent anything that they may change. Document 02's numbers join those of document 01: `LevelNumbers` are 1
+-- document 01; nothing is required of the caller first, and a refused call changes nothing lent to it." Planning, laying out a
+-- round and ordering alone are lent anything that they may change. Document 02's numbers join those of document 01: `LevelNumbers` are 1
 -- to 5, 31 and 32, and `SiteNumbers` 1 to 10, 31 and 32.
 pub record DemandOne : Type 0 where
   pub reading-levels : (bytes : List ℕ) → RefusesBy LevelNumbers (readLevels bytes)
@@ -85,6 +91,11 @@ pub record DemandOne : Type 0 where
   pub laying-out : (tasks : List ℕ) (room : ℕ) → RefusesBy (λ n. From 12 12 n ⊎ From 28 30 n) (rounds tasks room)
   pub lays-out-nothing : (tasks before after : List ℕ) (answered : RoundsAnswer) → RoundsContract tasks before after answered
       → (number place : ℕ) → answered ≡ Refused number place → after ≡ before
+  pub ordering : (levels jobs plan prices : List ℕ) (room : ℕ)
+      → RefusesBy (λ n. (SiteNumbers n ⊎ From 15 24 n) ⊎ From 12 12 n) (order levels jobs plan prices room)
+  pub orders-nothing : (levels jobs plan prices before after : List ℕ) (answered : OrderAnswer)
+      → OrderContract levels jobs plan prices before after answered
+      → (number place : ℕ) → answered ≡ NotOrdered number place → after ≡ before
 
 -- Demand 2. "A plan gives each job exactly its cycles between release and deadline, one job at a time, by the workload and
 -- processor model of George's 2005 thesis, with the energy figure that document 01 defines."
