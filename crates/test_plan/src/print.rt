@@ -21,10 +21,7 @@ pub(crate) fn overfull(start: u32, end: u32, spare: i64) {
 pub(crate) fn checked(answer: CheckAnswer) {
     show::words(b" check");
     match answer {
-        CheckAnswer::Accepted { energy } => {
-            show::words(b" accepted");
-            show::number(energy);
-        }
+        CheckAnswer::Accepted { energy } => show::accepted(energy),
         CheckAnswer::Refused { number, place } => show::refusal(number, place),
     }
 }
@@ -34,11 +31,7 @@ pub(crate) fn rest(plan: &[u8], prices: &[u8], shares: &[u32], written: Lengths)
     let plan_kept = kept(plan, written.plan);
     let prices_kept = kept(prices, written.prices);
     let shares_kept = numbers_kept(shares, written.shares);
-    if plan_kept & prices_kept & shares_kept {
-        show::words(b" rest kept");
-    } else {
-        show::words(b" rest changed");
-    }
+    show::rest(plan_kept & prices_kept & shares_kept);
 }
 
 pub(crate) fn shares(agree: bool) {

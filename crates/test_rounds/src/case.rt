@@ -2,6 +2,7 @@
 use crate::print;
 use rounds::RoundsAnswer;
 use test_support::buffers::MARK;
+use test_support::buffers::kept;
 use test_support::encode::ROOM;
 use test_support::encode::encode;
 use test_support::show;
@@ -27,12 +28,12 @@ fn case_in(task_bytes: &mut [u8], job_bytes: &mut [u8], line: &[u8]) {
         RoundsAnswer::LaidOut { length, multiple } => {
             print::laid_out(length, multiple);
             let written = io::count(length as isize, job_bytes);
-            print::rest(job_bytes, written);
+            show::rest(kept(job_bytes, written));
             print::jobs(&job_bytes[..written]);
         }
         RoundsAnswer::Refused { number, place } => {
             show::refusal(number, place);
-            print::rest(job_bytes, 0);
+            show::rest(kept(job_bytes, 0));
         }
     }
 }

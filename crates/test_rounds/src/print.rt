@@ -1,22 +1,12 @@
 // Printing what laying out rounds answers and writes.
 use model::MAX_JOBS;
 use tables::Reading;
-use test_support::buffers::kept;
 use test_support::show;
 
 pub(crate) fn laid_out(length: u32, multiple: u32) {
     show::words(b" laid out");
     show::number(length as u64);
     show::number(multiple as u64);
-}
-
-// Whether the buffer past what was written has the mark.
-pub(crate) fn rest(buffer: &[u8], written: usize) {
-    if kept(buffer, written) {
-        show::words(b" rest kept");
-    } else {
-        show::words(b" rest changed");
-    }
 }
 
 // The jobs of a job table, or why it is none.

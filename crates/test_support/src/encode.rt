@@ -6,8 +6,8 @@ use crate::text::digit;
 use crate::text::next;
 use crate::text::number;
 
-// Room for the longest table that the cases make, of 65 jobs. It is lent as a slice to the function that fills it and
-// has it read: a slice keeps its length over a call, and a local array is not known to.
+// Room for the longest table that the cases make, a plan of 170 steps. It is lent as a slice to the function that fills
+// it and has it read: a slice keeps its length over a call, and a local array is not known to.
 pub const ROOM: usize = 1024;
 
 // How many bytes a table has, and where its numbers end in the text.
@@ -36,6 +36,45 @@ pub fn encode(bytes: &mut [u8], width: usize, line: &[u8], place: usize) -> Enco
     Encoded {
         length: filled,
         end: at,
+    }
+}
+
+// How many bytes each of the tables has that a plan is checked with, and where their numbers end in the text.
+pub struct TableLengths {
+    pub levels: usize,
+    pub jobs: usize,
+    pub plan: usize,
+    pub prices: usize,
+    pub end: usize,
+}
+
+// Puts the tables that a plan is checked with. At a place of the line stand the lengths of the plan and of the price list,
+// which need not be those of their numbers, and then, after a word each, the numbers of a level table, a job table, a plan
+// and a price list.
+pub fn encode_tables(
+    levels: &mut [u8],
+    jobs: &mut [u8],
+    plan: &mut [u8],
+    prices: &mut [u8],
+    line: &[u8],
+    place: usize,
+) -> TableLengths
+    requires { ⌜ place ≤ length (now line) ⌝ }
+    ensures { λ r. ⌜ Counts (r .levels) (now (levels .exit)) × Counts (r .jobs) (now (jobs .exit)) ⌝ }
+    ensures { λ r. ⌜ Counts (r .plan) (now (plan .exit)) × Counts (r .prices) (now (prices .exit)) ⌝ }
+    ensures { λ r. ⌜ r .end ≤ length (now (line .entry)) ⌝ }
+{
+    let second = next(line, place);
+    let level_table = encode(levels, 2, line, next(line, second));
+    let job_table = encode(jobs, 4, line, level_table.end);
+    let plan_table = encode(plan, 2, line, job_table.end);
+    let price_list = encode(prices, 1, line, plan_table.end);
+    TableLengths {
+        levels: level_table.length,
+        jobs: job_table.length,
+        plan: io::count(number(line, place) as isize, plan),
+        prices: io::count(number(line, second) as isize, prices),
+        end: price_list.end,
     }
 }
 

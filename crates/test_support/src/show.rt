@@ -37,6 +37,21 @@ pub fn refusal(refused: u32, place: u32) {
     number(place as u64);
 }
 
+// The energy figure of a plan that the check accepts.
+pub fn accepted(energy: u64) {
+    words(b" accepted");
+    number(energy);
+}
+
+// Whether the lent buffers, past what was written, are as they were.
+pub fn rest(kept: bool) {
+    if kept {
+        words(b" rest kept");
+    } else {
+        words(b" rest changed");
+    }
+}
+
 pub fn end() {
     words(b"\n");
 }
