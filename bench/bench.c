@@ -43,6 +43,8 @@ static struct site site;
 static struct network network;
 static struct buffers ours, theirs;
 static struct ramyearly_plan_answer planned;
+/* Our plan with its steps out of order, and what ordering makes of it. */
+static uint8_t mixed[4 + 6 * MAX_PAIRS], ordered[4 + 6 * MAX_PAIRS];
 static struct totals loads_by_band;
 static uint64_t loads[MAX_INTERVALS];
 static volatile uint64_t kept;
@@ -59,15 +61,26 @@ static void plain(void)
         theirs.plan, sizeof theirs.plan, theirs.prices, sizeof theirs.prices, theirs.shares, sizeof theirs.shares / sizeof *theirs.shares).energy;
 }
 
-static struct ramyearly_check_answer checked(void)
+static struct ramyearly_check_answer checked(const uint8_t *steps)
 {
     return ramyearly_check(site.level_bytes, site.level_length, site.job_bytes, site.job_length,
-        ours.plan, 4 + 6 * planned.steps, ours.prices, 2 + 5 * planned.intervals);
+        steps, 4 + 6 * planned.steps, ours.prices, 2 + 5 * planned.intervals);
 }
 
 static void check(void)
 {
-    kept = checked().energy;
+    kept = checked(ours.plan).energy;
+}
+
+static void check_mixed(void)
+{
+    kept = checked(mixed).energy;
+}
+
+static void order(void)
+{
+    kept = ramyearly_order(site.level_bytes, site.level_length, site.job_bytes, site.job_length,
+        mixed, 4 + 6 * planned.steps, ours.prices, 2 + 5 * planned.intervals, ordered, sizeof ordered).length;
 }
 
 /* The settings of all intervals. */
@@ -227,9 +240,13 @@ static void open_site(int family, int jobs, int seed)
         wrong("planning", "refused");
     take_loads();
     same_optimum("planning", &loads_by_band);
-    struct ramyearly_check_answer c = checked();
+    struct ramyearly_check_answer c = checked(ours.plan);
     if (c.number || c.energy != planned.energy)
         wrong("checking", "does not accept the plan");
+    mix_steps(mixed, ours.plan, planned.steps);
+    order();
+    if (kept != 4 + 6 * planned.steps || memcmp(ordered, ours.plan, kept))
+        wrong("ordering", "another plan");
     plain();
     if (memcmp(&ours, &theirs, sizeof ours))
         wrong("plain planner", "another plan");
@@ -255,8 +272,9 @@ static void take_samples(struct timed *timed, int count)
 
 static void time_site(void)
 {
-    enum { SETTINGS = 2, OURS = 5, SOLVING = OURS, WHOLE = OURS + PEERS, ALL = OURS + 2 * PEERS };
-    struct timed timed[ALL] = { { .call = plan }, { .call = check }, { .call = settings }, { .call = spare }, { .call = plain } };
+    enum { SETTINGS = 2, OURS = 7, SOLVING = OURS, WHOLE = OURS + PEERS, ALL = OURS + 2 * PEERS };
+    struct timed timed[ALL] = { { .call = plan }, { .call = check }, { .call = settings }, { .call = spare }, { .call = check_mixed },
+        { .call = order }, { .call = plain } };
     for (int p = 0; p < PEERS; p++) {
         timed[SOLVING + p] = (struct timed){ .by = time_solving, .peer = peers[p] };
         timed[WHOLE + p] = (struct timed){ .by = time_whole, .peer = peers[p] };
@@ -276,7 +294,7 @@ static void time_site(void)
 
 static void times(void)
 {
-    printf("family,jobs,seed,intervals,pairs,bands,steps,plan,check,setting,spare,plain");
+    printf("family,jobs,seed,intervals,pairs,bands,steps,plan,check,setting,spare,check mixed,order,plain");
     for (int p = 0; p < PEERS; p++)
         printf(",%s", peers[p]->name);
     for (int p = 0; p < PEERS; p++)
@@ -319,9 +337,9 @@ static long depth(void (*call)(void))
 
 static void stacks(void)
 {
-    enum { CALLS = 6 };
-    void (*const calls[CALLS])(void) = { plan, check, settings, spare, rounds, plain };
-    static const char *const names[CALLS] = { "plan", "check", "setting", "spare", "rounds", "plain" };
+    enum { CALLS = 7 };
+    void (*const calls[CALLS])(void) = { plan, check, order, settings, spare, rounds, plain };
+    static const char *const names[CALLS] = { "plan", "check", "order", "setting", "spare", "rounds", "plain" };
     long deepest[CALLS] = { 0 };
     long empty = depth(nothing);
     make_tasks();
@@ -342,7 +360,21 @@ static void stacks(void)
         printf("%s,%ld\n", names[k], deepest[k]);
 }
 
-/* Opening a site calls planning, checking and the plain planner once each. */
+/* The plan with the most steps that there can be, which no site of the families has. */
+static void longest(void)
+{
+    make_longest(&site, ours.plan, ours.prices);
+    planned = (struct ramyearly_plan_answer){ .intervals = MAX_INTERVALS, .steps = MAX_PAIRS };
+    mix_steps(mixed, ours.plan, MAX_PAIRS);
+    order();
+    if (kept != sizeof ordered || memcmp(ordered, ours.plan, sizeof ordered))
+        wrong("ordering", "another plan");
+    struct timed timed[] = { { .call = check_mixed }, { .call = order } };
+    take_samples(timed, 2);
+    printf("steps,check mixed,order\n%u,%.1f,%.1f\n", planned.steps, median(timed[0].samples), median(timed[1].samples));
+}
+
+/* Opening a site calls planning, checking, ordering and the plain planner once each. */
 static int one(char **words)
 {
     int family = 0;
@@ -360,6 +392,8 @@ int main(int count, char **words)
         times();
     else if (count == 2 && !strcmp(words[1], "stack"))
         stacks();
+    else if (count == 2 && !strcmp(words[1], "longest"))
+        longest();
     else if (count == 5 && !strcmp(words[1], "one"))
         return one(words + 2);
     else

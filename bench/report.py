@@ -78,6 +78,8 @@ def grids(t):
     t.grid("Time of planning / time of the plain C planner (below 1: planning is faster)", lambda f, n: t.ratio(f, n, "plan", "plain"))
     t.grid("Checking, microseconds", lambda f, n: t.median(f, n, "check") / 1000)
     t.grid("Time of planning / time of checking", lambda f, n: t.ratio(f, n, "plan", "check"))
+    t.grid("Ordering a plan whose steps are mixed, microseconds", lambda f, n: t.median(f, n, "order") / 1000)
+    t.grid("Time of ordering / time of checking the same plan", lambda f, n: t.ratio(f, n, "order", "check mixed"))
     last = t.sizes[-1]
     table(f"Sites of {last} jobs: sizes, and one call of setting and of spare, nanoseconds",
           ["family", "intervals", "pairs K", "bands", "steps", "setting", "spare"],
@@ -89,7 +91,21 @@ def grids(t):
               [[f] + [f"{t.exponent(f, c, over):.2f}" for c in columns] + [f"{t.last_step(f, 'plan', over):.2f}"] for f in t.families])
 
 
+def longest_plans(folder):
+    """The longest plan of the sites, and the one with the most steps that there can be."""
+    site = max(read(folder, "times.csv"), key=lambda r: int(r["steps"]))
+    return [(f"{site['family']}, {site['jobs']} jobs, seed {site['seed']}", site), ("the most steps that there can be", read(folder, "longest.csv")[0])]
+
+
+def ordering_share(r):
+    return float(r["order"]) / float(r["check mixed"])
+
+
 def others(folder):
+    table("The longest plans, their steps mixed: checking and ordering, microseconds",
+          ["plan", "steps", "checking", "ordering", "ordering / checking"],
+          [[name, r["steps"], short(float(r["check mixed"]) / 1000), short(float(r["order"]) / 1000), short(ordering_share(r))]
+           for name, r in longest_plans(folder)])
     stack = read(folder, "stack.csv")
     table("Deepest stack over all sites, bytes", [r["function"] for r in stack], [[r["bytes"] for r in stack]])
     size = read(folder, "size.csv")
@@ -98,16 +114,18 @@ def others(folder):
     for r in read(folder, "instructions.csv"):
         counts.setdefault((r["family"], r["jobs"]), {})[r["function"]] = int(r["instructions"])
     if counts:
-        table("Instructions of one call (callgrind), seed 1", ["family", "jobs", "plan", "plain", "check", "plan / plain", "plan / check"],
-              [[f, n, c["ramyearly_plan"], c["plain_plan"], c["ramyearly_check"],
-                short(c["ramyearly_plan"] / c["plain_plan"]), short(c["ramyearly_plan"] / c["ramyearly_check"])] for (f, n), c in counts.items()])
+        table("Instructions of one call (callgrind), seed 1",
+              ["family", "jobs", "plan", "plain", "check", "order", "plan / plain", "plan / check", "order / check"],
+              [[f, n, c["ramyearly_plan"], c["plain_plan"], c["ramyearly_check"], c["ramyearly_order"],
+                short(c["ramyearly_plan"] / c["plain_plan"]), short(c["ramyearly_plan"] / c["ramyearly_check"]),
+                short(c["ramyearly_order"] / c["ramyearly_check"])] for (f, n), c in counts.items()])
 
 
 def goal(name, met, found):
     print(f"{'met   ' if met else 'MISSED'} {name}: {found}")
 
 
-def goals(t):
+def goals(t, folder):
     print()
     cells = [(f, n) for f in t.families for n in t.sizes]
     last = t.sizes[-1]
@@ -126,6 +144,9 @@ def goals(t):
     worst = min(t.families, key=lambda f: t.ratio(f, last, "plan", "check"))
     goal(f"checking at least 10 times faster than planning at {last} jobs", t.ratio(worst, last, "plan", "check") >= 10,
          f"at least {short(t.ratio(worst, last, 'plan', 'check'))} ({worst})")
+    slowest = max((r for name, r in longest_plans(folder)), key=ordering_share)
+    goal("ordering at most twice the time of checking, on the longest plans", ordering_share(slowest) <= 2,
+         f"at most {short(ordering_share(slowest))} ({slowest['steps']} steps)")
     # the fit hides a steep end, so the last step counts as well
     steep = lambda f: max(t.exponent(f, "plan", "pairs"), t.last_step(f, "plan", "pairs"))
     found = [f"{f} {t.exponent(f, 'plan', 'pairs'):.2f} and {t.last_step(f, 'plan', 'pairs'):.2f}" for f in t.families if steep(f) > 2]
@@ -141,7 +162,7 @@ def main():
           + (f", and {', '.join(times.peers)} find the same exact energy" if times.peers else ""))
     grids(times)
     others(folder)
-    goals(times)
+    goals(times, folder)
 
 
 main()

@@ -38,6 +38,11 @@ extern const char *const families[];
 extern const int family_count;
 
 void make_site(struct site *site, int family, int jobs, int seed);
+/* Copies a plan with its steps in an order that hangs on their number alone. */
+void mix_steps(uint8_t *mixed, const uint8_t *plan, int steps);
+/* The site, the plan and the prices with the most steps that there can be: each window inside the one before, and a step for each
+ * of the 4,096 pairs. */
+void make_longest(struct site *site, uint8_t *plan, uint8_t *prices);
 void make_network(struct network *network, const struct site *site);
 
 /* The exact energy multiplied by the network's scale, and the reported figure. */

@@ -218,6 +218,54 @@ void make_site(struct site *s, int family, int jobs, int seed)
     encode(s);
 }
 
+static void swap_bytes(uint8_t *a, uint8_t *b, int count)
+{
+    for (int i = 0; i < count; i++) {
+        uint8_t byte = a[i];
+        a[i] = b[i];
+        b[i] = byte;
+    }
+}
+
+void mix_steps(uint8_t *mixed, const uint8_t *plan, int steps)
+{
+    uint8_t *cells = mixed + 4, *cycles = cells + 2 * steps;
+    memcpy(mixed, plan, 4 + 6 * steps);
+    state = steps;
+    for (int s = steps - 1; s > 0; s--) {
+        int k = (int)below(s + 1);
+        swap_bytes(cells + 2 * s, cells + 2 * k, 2);
+        swap_bytes(cycles + 4 * s, cycles + 4 * k, 4);
+    }
+}
+
+/* Job j is open from tick j up to tick 128 - j. Every tick of that has one of its cycles, and the middle interval has two ticks. */
+void make_longest(struct site *s, uint8_t *plan, uint8_t *prices)
+{
+    enum { MIDDLE = MAX_INTERVALS / 2 };
+    static const uint32_t level[][2] = { { 1000, 1 } };
+    memset(s, 0, sizeof *s);
+    s->family = "longest";
+    s->jobs = MAX_JOBS;
+    use_levels(s, 1, level);
+    for (int j = 0; j < MAX_JOBS; j++) {
+        s->release[j] = j;
+        s->deadline[j] = MAX_INTERVALS + 1 - j;
+        s->cycles[j] = s->deadline[j] - s->release[j];
+    }
+    encode(s);
+    uint8_t *cells = put(put(plan, 2, MAX_INTERVALS), 2, MAX_PAIRS), *cycles = cells + 2 * MAX_PAIRS;
+    uint8_t *ends = put(prices, 2, MAX_INTERVALS), *numbers = ends + 4 * MAX_INTERVALS;
+    for (int i = 0; i < MAX_INTERVALS; i++) {
+        for (int j = 0; j <= i && j < MAX_INTERVALS - i; j++) {
+            cells = put(cells, 2, i * MAX_JOBS + j);
+            cycles = put(cycles, 4, i == MIDDLE ? 2 : 1);
+        }
+        ends = put(ends, 4, i < MIDDLE ? i + 1 : i + 2);
+        numbers = put(numbers, 1, 1);
+    }
+}
+
 static int64_t common_divisor(int64_t a, int64_t b)
 {
     while (b) {

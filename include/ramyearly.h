@@ -1,9 +1,9 @@
 /* Ramyearly: planning and checking clock plans, for the reader's kernel and for the hosts that plan its sites.
  *
  * Every function takes byte tables as a pointer and a length in bytes, of any content and length, and numbers of any
- * value. It returns the answer by value, reads nothing but the bytes it is lent and always returns. Only planning and
- * rounds write, and only into the buffers they are lent. A pointer must be valid for its length; with length 0 it must
- * still not be null, and it must be aligned for its type. Buffers must not overlap each other or the tables.
+ * value. It returns the answer by value, reads nothing but the bytes it is lent and always returns. Only planning, rounds
+ * and ordering write, and only into the buffers they are lent. A pointer must be valid for its length; with length 0 it
+ * must still not be null, and it must be aligned for its type. Buffers must not overlap each other or the tables.
  *
  * number is 0 for an answer, and otherwise the number of the refusal, with its place (0 where none is named); README.md
  * lists them. Fields that a case does not fill are 0.
@@ -12,8 +12,8 @@
  * units, which must be below the power of the level after it. It is one of the 1 to 8 entries, but no level. Without it
  * idling draws 0. A plan, and every schedule it is compared with, pays for idling from earliest release to latest deadline.
  *
- * No function uses a heap or writable static data. The deepest stack that was measured, on x86-64, is 14 kB for planning, 10 kB
- * for checking, 5 kB for the spare and 2 kB for the setting and for rounds (docs/BENCHMARK.md). */
+ * No function uses a heap or writable static data. The deepest stack that was measured, on x86-64, is 14 kB for planning, 12 kB
+ * for ordering, 11 kB for checking, 5 kB for the spare and 2 kB for the setting and for rounds (docs/BENCHMARK.md). */
 #ifndef RAMYEARLY_H
 #define RAMYEARLY_H
 
@@ -48,6 +48,10 @@ struct ramyearly_plan_answer {
 
 struct ramyearly_rounds_answer {
     uint32_t number, place, length, multiple;
+};
+
+struct ramyearly_order_answer {
+    uint32_t number, place, length;
 };
 
 /* Accepts a plan and its price list exactly when the plan gives each job its cycles between release and deadline and the
@@ -95,6 +99,20 @@ struct ramyearly_plan_answer ramyearly_plan(
 struct ramyearly_rounds_answer ramyearly_rounds(
     const uint8_t *tasks, size_t tasks_length,
     uint8_t *jobs, size_t jobs_length);
+
+/* Writes an accepted plan with its steps in cell order: interval by interval, within one by job number. Number 0: the first
+ * `length` bytes of the buffer are written, as many as the plan has, and the rest stays; they have the plan's number of
+ * intervals and its steps, each step with its own cycles, and ramyearly_check accepts them with the same levels, jobs and
+ * prices and answers the same energy. A plan that is already in order comes out unchanged. Two accepted plans for one job
+ * table come out equal, byte for byte, exactly when every job has the same cycles in every interval; their levels and
+ * prices may differ. Otherwise the refusals of ramyearly_check, 1 to 10, 15 to 24, 31 and 32, then 12, whose place is the
+ * plan's length, and the buffer stays as it was. The buffer must not overlap the plan: nothing is ordered in place. */
+struct ramyearly_order_answer ramyearly_order(
+    const uint8_t *levels, size_t levels_length,
+    const uint8_t *jobs, size_t jobs_length,
+    const uint8_t *plan, size_t plan_length,
+    const uint8_t *prices, size_t prices_length,
+    uint8_t *ordered, size_t ordered_length);
 
 #ifdef __cplusplus
 }

@@ -79,6 +79,7 @@ static void levels_refused(const char *name, struct bytes levels, uint32_t numbe
     spare_is(name, levels, jobs, 2, 2, (struct ramyearly_spare_answer) { .number = number, .place = place });
     check_is(name, levels, jobs, none, none, (struct ramyearly_check_answer) { .number = number, .place = place });
     plan_is(name, levels, jobs, 0, 0, 0, (struct ramyearly_plan_answer) { .number = number, .place = place });
+    order_refused(name, levels, jobs, none, none, 0, number, place);
 }
 
 /* An idle entry of this draw, and one level after it. */

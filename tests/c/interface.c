@@ -168,7 +168,8 @@ int main(void)
     plans();
     rounds();
     idle();
+    order();
     if (!wrong)
-        printf("interface: check, setting, spare, plan and rounds answer C as they should\n");
+        printf("interface: check, setting, spare, plan, rounds and order answer C as they should\n");
     return wrong;
 }

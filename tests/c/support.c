@@ -136,15 +136,19 @@ void written_is(const char *name, struct lent found, struct bytes plan, struct b
     same(name, memcmp(found.shares, wanted.shares, sizeof wanted.shares), 0);
 }
 
+/* The bytes, and the marker up to the end of their room. */
+static struct bytes in_marked(struct bytes b)
+{
+    memset(b.at + b.length, 0xa5, sizeof b.at - b.length);
+    return b;
+}
+
 struct bytes rounds_is(const char *name, struct bytes task_table, size_t jobs_length, struct ramyearly_rounds_answer wanted, struct bytes job_table)
 {
     const uint8_t *tasks = task_table.at;
     size_t tasks_length = task_table.length;
-    struct bytes written, right;
+    struct bytes written = in_marked((struct bytes) { .length = 0 }), right = in_marked(job_table);
     uint8_t *jobs = written.at;
-    memset(written.at, 0xa5, sizeof written.at);
-    memset(right.at, 0xa5, sizeof right.at);
-    memcpy(right.at, job_table.at, job_table.length);
     struct ramyearly_rounds_answer a = CALL_ROUNDS;
     same(name, a.number, wanted.number);
     same(name, a.place, wanted.place);
@@ -159,4 +163,28 @@ struct bytes rounds_is(const char *name, struct bytes task_table, size_t jobs_le
 void rounds_refused(const char *name, struct bytes task_table, size_t jobs_length, uint32_t number, uint32_t place)
 {
     rounds_is(name, task_table, jobs_length, (struct ramyearly_rounds_answer) { .number = number, .place = place }, (struct bytes) { .length = 0 });
+}
+
+struct bytes order_is(const char *name, struct bytes level_table, struct bytes job_table, struct bytes plan_table, struct bytes price_list,
+    size_t ordered_length, struct ramyearly_order_answer wanted, struct bytes ordered_plan)
+{
+    const uint8_t *levels = level_table.at, *jobs = job_table.at, *plan = plan_table.at, *prices = price_list.at;
+    size_t levels_length = level_table.length, jobs_length = job_table.length, plan_length = plan_table.length, prices_length = price_list.length;
+    struct bytes written = in_marked((struct bytes) { .length = 0 }), right = in_marked(ordered_plan);
+    uint8_t *ordered = written.at;
+    struct ramyearly_order_answer a = CALL_ORDER;
+    same(name, a.number, wanted.number);
+    same(name, a.place, wanted.place);
+    same(name, a.length, wanted.length);
+    same(name, wanted.length, ordered_plan.length);
+    same(name, memcmp(written.at, right.at, sizeof right.at), 0);
+    written.length = wanted.length;
+    return written;
+}
+
+void order_refused(const char *name, struct bytes level_table, struct bytes job_table, struct bytes plan_table, struct bytes price_list,
+    size_t ordered_length, uint32_t number, uint32_t place)
+{
+    order_is(name, level_table, job_table, plan_table, price_list, ordered_length,
+        (struct ramyearly_order_answer) { .number = number, .place = place }, (struct bytes) { .length = 0 });
 }

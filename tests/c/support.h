@@ -41,10 +41,18 @@ void written_is(const char *name, struct lent found, struct bytes plan, struct b
  * nothing else. Answers what was written. */
 struct bytes rounds_is(const char *name, struct bytes task_table, size_t jobs_length, struct ramyearly_rounds_answer wanted, struct bytes job_table);
 void rounds_refused(const char *name, struct bytes task_table, size_t jobs_length, uint32_t number, uint32_t place);
+/* Writes a plan in cell order to a buffer of the given length. This plan must be written, none where the call is refused, and
+ * nothing else. Answers what was written. */
+struct bytes order_is(const char *name, struct bytes level_table, struct bytes job_table, struct bytes plan_table, struct bytes price_list,
+    size_t ordered_length, struct ramyearly_order_answer wanted, struct bytes ordered_plan);
+void order_refused(const char *name, struct bytes level_table, struct bytes job_table, struct bytes plan_table, struct bytes price_list,
+    size_t ordered_length, uint32_t number, uint32_t place);
 
 /* rounds.c: the cases of laying out tasks. */
 void rounds(void);
 /* idle.c: the cases of an idle entry. */
 void idle(void);
+/* order.c: the cases of writing a plan in cell order. */
+void order(void);
 
 #endif

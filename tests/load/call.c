@@ -47,6 +47,16 @@ void same(const char *what, int64_t found, int64_t wanted)
     }
 }
 
+void same_bytes(const char *what, const struct guarded *memory, struct part part, struct paper_bytes wanted)
+{
+    const uint8_t *found = memory->lent + part.start;
+    for (size_t i = 0; i < wanted.length && i < part.length; i++)
+        if (found[i] != wanted.at[i]) {
+            printf("  byte %zu of the %s\n", i, what);
+            same("a byte", found[i], wanted.at[i]);
+        }
+}
+
 static void print_table(unsigned which)
 {
     if (!lent[which].at)

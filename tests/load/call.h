@@ -9,13 +9,16 @@ enum { LEVELS, JOBS, PLAN, PRICES, TASKS, TABLES };
 
 /* Maps the room that tables are lent from. */
 void call_start(void);
-/* Map the buffers of planning, and the one of rounds. */
+/* Map the buffers of planning, of rounds and of ordering. */
 void call_start_plan(void);
 void call_start_rounds(void);
+void call_start_order(void);
 
 void call_begin(void);
 /* Lends a copy of the table, read only, at either end of its room. */
 struct paper_bytes call_lend(struct numbers *numbers, unsigned which, const struct table *table);
+/* Says it when bytes at the start of a part are not the right ones. Nothing is read past the part. */
+void same_bytes(const char *what, const struct guarded *memory, struct part part, struct paper_bytes wanted);
 /* Whether everything looked at since the beginning was right. */
 bool call_agrees(void);
 /* Counts a call and the number it answered. */

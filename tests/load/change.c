@@ -27,19 +27,31 @@ static void change_cycles(struct numbers *numbers, const struct paper_site *site
     plan->cycles[s] = (uint32_t)ONE_OF(numbers, 0, cycles + 1, cycles - 1, whole, whole + 1, UINT32_MAX, any_number(numbers));
 }
 
-static void swap_steps(struct numbers *numbers, struct plan *plan, bool cells, bool cycles)
+static void swap_cells(struct plan *plan, unsigned a, unsigned b)
 {
-    unsigned a = any_step(numbers, plan), b = any_step(numbers, plan);
     uint16_t cell = plan->cell[a];
-    uint32_t number = plan->cycles[a];
-    if (cells) {
-        plan->cell[a] = plan->cell[b];
-        plan->cell[b] = cell;
-    }
-    if (cycles) {
-        plan->cycles[a] = plan->cycles[b];
-        plan->cycles[b] = number;
-    }
+    plan->cell[a] = plan->cell[b];
+    plan->cell[b] = cell;
+}
+
+static void swap_steps(struct plan *plan, unsigned a, unsigned b)
+{
+    uint32_t cycles = plan->cycles[a];
+    swap_cells(plan, a, b);
+    plan->cycles[a] = plan->cycles[b];
+    plan->cycles[b] = cycles;
+}
+
+static void turn_round(struct plan *plan)
+{
+    for (unsigned s = 0; s < plan->steps / 2; s++)
+        swap_steps(plan, s, plan->steps - 1 - s);
+}
+
+static void shuffle(struct numbers *numbers, struct plan *plan)
+{
+    for (unsigned left = plan->steps; left > 1; left--)
+        swap_steps(plan, left - 1, (unsigned)below(numbers, left));
 }
 
 /* The step of this cell, or the number of steps. */
@@ -51,43 +63,87 @@ static unsigned find(const struct plan *plan, unsigned cell)
     return s;
 }
 
-/* Moves cycles of a step to another interval where its job is open. The job's sum stays. */
-static void move_cycles(struct numbers *numbers, const struct paper_site *site, struct plan *plan)
+static void give(struct plan *plan, unsigned cell, uint32_t part)
 {
-    unsigned s = any_step(numbers, plan), job = plan->cell[s] % 64;
-    if (site->intervals.count == 0 || plan->cycles[s] == 0)
-        return;
-    unsigned to = (unsigned)below(numbers, site->intervals.count);
-    uint64_t part = one_in(numbers, 2) ? plan->cycles[s] : between(numbers, 1, plan->cycles[s]);
-    if (!paper_open(&site->intervals, to, job) || to == plan->cell[s] / 64u)
-        return;
-    unsigned target = find(plan, to * 64 + job);
-    plan->cycles[s] -= (uint32_t)part;
-    if (target < plan->steps)
-        plan->cycles[target] += (uint32_t)part;
+    unsigned s = find(plan, cell);
+    if (s < plan->steps)
+        plan->cycles[s] += part;
     else
-        plan_add_step(plan, to, job, part);
+        plan_add_step(plan, cell / 64, cell % 64, part);
+}
+
+static void take(struct plan *plan, unsigned cell, uint32_t part)
+{
+    unsigned s = find(plan, cell);
+    plan->cycles[s] -= part;
     if (plan->cycles[s] == 0)
         remove_step(plan, s);
 }
 
-/* Exchanges cycles between two intervals where two jobs have steps, so that all loads and sums stay. */
+/* Any interval but this one where the job is open, or this one where there is no other. */
+static unsigned another_open(struct numbers *numbers, const struct paper_site *site, unsigned interval, unsigned job)
+{
+    unsigned n = site->intervals.count, first = (unsigned)below(numbers, n);
+    for (unsigned i = 0; i < n; i++) {
+        unsigned at = (first + i) % n;
+        if (at != interval && paper_open(&site->intervals, at, job))
+            return at;
+    }
+    return interval;
+}
+
+/* Moves cycles of a step to another interval where its job is open. The job's sum stays. */
+static void move_cycles(struct numbers *numbers, const struct paper_site *site, struct plan *plan)
+{
+    unsigned s = any_step(numbers, plan), cell = plan->cell[s];
+    if (site->intervals.count == 0 || plan->cycles[s] == 0)
+        return;
+    unsigned to = another_open(numbers, site, cell / 64, cell % 64);
+    uint32_t part = (uint32_t)ONE_OF(numbers, 1, plan->cycles[s], between(numbers, 1, plan->cycles[s]));
+    if (to == cell / 64)
+        return;
+    give(plan, to * 64 + cell % 64, part);
+    take(plan, cell, part);
+}
+
+/* Exchanges cycles of two jobs between two intervals, so that all loads and sums stay. */
 static void exchange_cycles(struct numbers *numbers, const struct paper_site *site, struct plan *plan)
 {
     unsigned a = any_step(numbers, plan), b = any_step(numbers, plan);
-    unsigned a_job = plan->cell[a] % 64, b_job = plan->cell[b] % 64, a_at = plan->cell[a] / 64, b_at = plan->cell[b] / 64;
-    uint32_t part = plan->cycles[a] < plan->cycles[b] ? plan->cycles[a] : plan->cycles[b];
+    unsigned a_cell = plan->cell[a], b_cell = plan->cell[b], a_job = a_cell % 64, b_job = b_cell % 64, a_at = a_cell / 64, b_at = b_cell / 64;
+    uint32_t most = plan->cycles[a] < plan->cycles[b] ? plan->cycles[a] : plan->cycles[b];
     bool apart = a_job != b_job && a_at != b_at;
-    if (!apart || !paper_open(&site->intervals, b_at, a_job) || !paper_open(&site->intervals, a_at, b_job))
+    if (!apart || !paper_open(&site->intervals, b_at, a_job) || !paper_open(&site->intervals, a_at, b_job) || most == 0)
         return;
-    unsigned to_b = find(plan, b_at * 64 + a_job), to_a = find(plan, a_at * 64 + b_job);
-    if (to_a == plan->steps || to_b == plan->steps || part < 2)
+    uint32_t part = (uint32_t)ONE_OF(numbers, 1, most, between(numbers, 1, most));
+    give(plan, b_at * 64 + a_job, part);
+    give(plan, a_at * 64 + b_job, part);
+    take(plan, a_cell, part);
+    take(plan, b_cell, part);
+}
+
+void change_order(struct numbers *numbers, struct plan *plan)
+{
+    switch (plan->steps > 0 ? below(numbers, 6) : 0) {
+    case 0:
+        turn_round(plan);
+        break;
+    case 1:
+        swap_steps(plan, any_step(numbers, plan), any_step(numbers, plan));
+        break;
+    default:
+        shuffle(numbers, plan);
+    }
+}
+
+void change_shares(struct numbers *numbers, const struct paper_site *site, struct plan *plan)
+{
+    if (plan->steps == 0)
         return;
-    part = (uint32_t)between(numbers, 1, part - 1);
-    plan->cycles[a] -= part;
-    plan->cycles[to_b] += part;
-    plan->cycles[b] -= part;
-    plan->cycles[to_a] += part;
+    if (one_in(numbers, 2))
+        exchange_cycles(numbers, site, plan);
+    else
+        move_cycles(numbers, site, plan);
 }
 
 /* Puts the same step at the end again: once, or as often as a step count can say. */
@@ -115,10 +171,10 @@ static void change_step(struct numbers *numbers, const struct paper_site *site, 
         change_cycles(numbers, site, plan);
         break;
     case 2:
-        swap_steps(numbers, plan, true, true);
+        change_order(numbers, plan);
         break;
     case 3:
-        swap_steps(numbers, plan, true, false);
+        swap_cells(plan, any_step(numbers, plan), any_step(numbers, plan));
         break;
     case 4:
         exchange_cycles(numbers, site, plan);

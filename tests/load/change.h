@@ -5,6 +5,10 @@
 #include "numbers.h"
 #include "table.h"
 
+/* The same steps in another order. */
+void change_order(struct numbers *numbers, struct plan *plan);
+/* Cycles moved between intervals where their jobs are open, if only one: each job has as many as before. */
+void change_shares(struct numbers *numbers, const struct paper_site *site, struct plan *plan);
 void change_plan(struct numbers *numbers, const struct paper_site *site, struct plan *plan);
 void change_prices(struct numbers *numbers, const struct paper_site *site, struct prices *prices);
 

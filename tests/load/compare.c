@@ -10,6 +10,7 @@ void compare_start(void)
     call_start();
     call_start_plan();
     call_start_rounds();
+    call_start_order();
 }
 
 void compare_setting(struct numbers *numbers, const struct table *levels, uint32_t length, uint64_t load)

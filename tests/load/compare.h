@@ -9,7 +9,7 @@ enum { REFUSALS = 32 };
 
 /* What was counted. by_number[0] counts the answers. */
 struct tally {
-    uint64_t calls, plans, accepted, disagreements, by_number[REFUSALS + 1];
+    uint64_t calls, plans, accepted, ordered, disagreements, by_number[REFUSALS + 1];
 };
 
 /* Calls are counted here. */
@@ -37,6 +37,11 @@ bool compare_plan(struct numbers *numbers, const struct table *levels, const str
 /* Lends a job buffer of that length. Answers whether a job table came out; then it stands in the table. */
 bool compare_rounds(struct numbers *numbers, const struct table *tasks, size_t jobs_length, struct table *jobs);
 
+/* Lends a buffer of that length. Answers whether a plan came out in order; then it stands in the table. It was accepted with the
+ * figure of the plan given, and ordered again. */
+bool compare_order(struct numbers *numbers, const struct table *levels, const struct table *jobs, const struct table *plan, const struct table *prices,
+    size_t ordered_length, struct table *ordered);
+
 struct window {
     uint32_t start, end;
 };
@@ -48,8 +53,8 @@ struct questions {
     struct window window;
 };
 
-/* Two level tables that must have the same answers: setting, spare, planning with every byte that it writes, and the check of
- * what it wrote. */
+/* Two level tables that must have the same answers: setting, spare, planning with every byte that it writes, and the check and
+ * the order of what it wrote. */
 void compare_alike(struct numbers *numbers, const struct table *levels, const struct table *others, const struct table *jobs, struct questions questions);
 
 /* Says it when a number is not the right one. */

@@ -8,11 +8,12 @@ struct answers {
     struct ramyearly_spare_answer spare;
     struct ramyearly_plan_answer planning;
     struct ramyearly_check_answer check;
-    uint8_t plan[4 + 6 * PAPER_INTERVALS * PAPER_JOBS], prices[2 + 5 * PAPER_INTERVALS];
+    struct ramyearly_order_answer order;
+    uint8_t plan[PAPER_PLAN], prices[2 + 5 * PAPER_INTERVALS], ordered[PAPER_PLAN];
     uint32_t shares[PAPER_INTERVALS * PAPER_JOBS];
 };
 
-/* The check is lent what planning wrote; where no plan came out, that is a few marked bytes. */
+/* The check and ordering are lent what planning wrote; where no plan came out, that is a few marked bytes. */
 static void ask(struct paper_bytes l, struct paper_bytes j, struct questions questions, struct answers *a)
 {
     memset(a, 0xa5, sizeof *a);
@@ -23,9 +24,11 @@ static void ask(struct paper_bytes l, struct paper_bytes j, struct questions que
     a->planning = ramyearly_plan(l.at, l.length, j.at, j.length, a->plan, sizeof a->plan, a->prices, sizeof a->prices,
         a->shares, sizeof a->shares / sizeof *a->shares);
     call_count(a->planning.number);
-    a->check = ramyearly_check(l.at, l.length, j.at, j.length, a->plan, 4 + 6 * (size_t)a->planning.steps,
-        a->prices, 2 + 5 * (size_t)a->planning.intervals);
+    size_t plan = 4 + 6 * (size_t)a->planning.steps, prices = 2 + 5 * (size_t)a->planning.intervals;
+    a->check = ramyearly_check(l.at, l.length, j.at, j.length, a->plan, plan, a->prices, prices);
     call_count(a->check.number);
+    a->order = ramyearly_order(l.at, l.length, j.at, j.length, a->plan, plan, a->prices, prices, a->ordered, sizeof a->ordered);
+    call_count(a->order.number);
 }
 
 #define ALIKE(field) same(#field " for both level tables is the same", memcmp(&one.field, &other.field, sizeof one.field) == 0, 1)
@@ -41,8 +44,10 @@ void compare_alike(struct numbers *numbers, const struct table *levels, const st
     ALIKE(spare);
     ALIKE(planning);
     ALIKE(check);
+    ALIKE(order);
     ALIKE(plan);
     ALIKE(prices);
     ALIKE(shares);
+    ALIKE(ordered);
     call_report("two level tables");
 }

@@ -9,17 +9,6 @@ void call_start_rounds(void)
     jobs_buffer = guarded_buffer(TABLE_ROOM);
 }
 
-/* The bytes that must be written; nothing is read past the buffer. */
-static void bytes_match(struct part part, const struct table *wanted)
-{
-    const uint8_t *found = jobs_buffer.lent + part.start;
-    for (size_t i = 0; i < wanted->length && i < part.length; i++)
-        if (found[i] != wanted->at[i]) {
-            printf("  byte %zu of the job table\n", i);
-            same("a byte", found[i], wanted->at[i]);
-        }
-}
-
 bool compare_rounds(struct numbers *numbers, const struct table *tasks, size_t jobs_length, struct table *jobs)
 {
     static struct table table;
@@ -38,7 +27,7 @@ bool compare_rounds(struct numbers *numbers, const struct table *tasks, size_t j
     if (wanted.number == 0) {
         jobs_table(&table, &released);
         same("the job table's length", (int64_t)table.length, wanted.length);
-        bytes_match(part, &table);
+        same_bytes("job table", &jobs_buffer, part, bytes_of(&table));
     }
     same("the job buffer's rest stays", guarded_marked_from(&jobs_buffer, part, wanted.length, mark), 1);
     if (!call_agrees())

@@ -63,6 +63,7 @@ static struct tally total(void)
         all.calls += one->calls;
         all.plans += one->plans;
         all.accepted += one->accepted;
+        all.ordered += one->ordered;
         all.disagreements += one->disagreements;
         for (unsigned i = 0; i <= REFUSALS; i++)
             all.by_number[i] += one->by_number[i];
@@ -72,8 +73,8 @@ static struct tally total(void)
 
 static void print_line(const char *name, const struct tally *t)
 {
-    printf("%-15s %9" PRIu64 " calls %9" PRIu64 " answered %9" PRIu64 " refused %8" PRIu64 " plans %8" PRIu64 " accepted\n",
-        name, t->calls, t->by_number[0], t->calls - t->by_number[0], t->plans, t->accepted);
+    printf("%-15s %9" PRIu64 " calls %9" PRIu64 " answered %9" PRIu64 " refused %8" PRIu64 " plans %8" PRIu64 " accepted %8" PRIu64 " ordered\n",
+        name, t->calls, t->by_number[0], t->calls - t->by_number[0], t->plans, t->accepted, t->ordered);
 }
 
 /* Answers whether each refusal occurred. */

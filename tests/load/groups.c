@@ -1,14 +1,16 @@
 #include "groups.h"
 
+#include "buffers.h"
 #include "call.h"
 #include "change.h"
 #include "damage.h"
+#include "order_cases.h"
 #include "other.h"
 #include "sites.h"
 #include "tasks.h"
 
 /* The tables of the case, and a plan and price list in the making. */
-static struct table levels, idle_levels, jobs, plan, prices, changed_plan, changed_prices, tasks;
+static struct table levels, idle_levels, jobs, plan, prices, changed_plan, changed_prices, ordered, tasks;
 static struct plan steps, changed_steps;
 static struct prices list, changed_list;
 
@@ -75,11 +77,11 @@ static void spares(struct numbers *numbers)
     ask_spares(numbers, &site, 4);
 }
 
-/* One of the four functions that take levels, with tables as they stand. */
+/* One of the five functions that take levels, with tables as they stand. */
 static void call_any(struct numbers *numbers)
 {
     uint64_t load = below(numbers, 100);
-    switch (below(numbers, 4)) {
+    switch (below(numbers, 5)) {
     case 0:
         compare_setting(numbers, &levels, 10, load);
         break;
@@ -88,6 +90,9 @@ static void call_any(struct numbers *numbers)
         break;
     case 2:
         compare_check(numbers, &levels, &jobs, &plan, &prices);
+        break;
+    case 3:
+        compare_order(numbers, &levels, &jobs, &plan, &prices, any_buffer(numbers, plan.length), &ordered);
         break;
     default:
         compare_plan(numbers, &levels, &jobs, (struct buffer_lengths) { 1000, 300, 500 }, &changed_plan, &changed_prices);
@@ -124,29 +129,6 @@ static void random_bytes(struct numbers *numbers)
     call_any(numbers);
 }
 
-/* Mostly enough, often just so; sometimes one too few, or any smaller number. */
-static size_t any_buffer(struct numbers *numbers, size_t wanted)
-{
-    if (wanted > 0 && one_in(numbers, 6))
-        return (size_t)ONE_OF(numbers, wanted - 1, below(numbers, wanted));
-    return wanted + (size_t)ONE_OF(numbers, 0, 0, 1, 70);
-}
-
-static struct buffer_lengths any_buffers(struct numbers *numbers, const struct paper_site *site)
-{
-    struct buffer_lengths lengths;
-    lengths.plan = any_buffer(numbers, 4 + 6 * (size_t)paper_pairs(&site->intervals));
-    lengths.prices = any_buffer(numbers, 2 + 5 * (size_t)site->intervals.count);
-    lengths.shares = any_buffer(numbers, (size_t)site->jobs.count * site->intervals.count);
-    return lengths;
-}
-
-static struct buffer_lengths enough(const struct paper_site *site)
-{
-    unsigned n = site->intervals.count;
-    return (struct buffer_lengths) { 4 + 6 * (size_t)paper_pairs(&site->intervals), 2 + 5 * (size_t)n, (size_t)site->jobs.count * n };
-}
-
 static void planning(struct numbers *numbers)
 {
     struct paper_site site = any_site(numbers, small_shape(numbers));
@@ -157,7 +139,7 @@ static void planning(struct numbers *numbers)
     }
 }
 
-/* Checks the plan in steps and list with one change, or two. */
+/* Checks the plan in steps and list with one change, or two. Some are put in order too. */
 static void check_changed(struct numbers *numbers, const struct paper_site *site)
 {
     plan_copy(&changed_steps, &steps);
@@ -174,6 +156,8 @@ static void check_changed(struct numbers *numbers, const struct paper_site *site
     if (one_in(numbers, 8))
         damage_bytes(numbers, &changed_prices);
     compare_check(numbers, &levels, &jobs, &changed_plan, &changed_prices);
+    if (one_in(numbers, 4))
+        compare_order(numbers, &levels, &jobs, &changed_plan, &changed_prices, any_buffer(numbers, changed_plan.length), &ordered);
 }
 
 static void changed_from_planned(struct numbers *numbers, const struct paper_site *site, unsigned times)
@@ -358,15 +342,16 @@ static void damaged_tasks(struct numbers *numbers)
 }
 
 struct group groups[GROUPS] = {
-    { .name = "settings", .run = settings, .weight = 20 },
-    { .name = "spares", .run = spares, .weight = 20 },
+    { .name = "settings", .run = settings, .weight = 18 },
+    { .name = "spares", .run = spares, .weight = 18 },
     { .name = "damaged tables", .run = damaged, .weight = 54 },
     { .name = "random bytes", .run = random_bytes, .weight = 20 },
-    { .name = "planning", .run = planning, .weight = 32 },
-    { .name = "changed plans", .run = changed_plans, .weight = 32 },
-    { .name = "other plans", .run = other_plans, .weight = 20 },
+    { .name = "planning", .run = planning, .weight = 30 },
+    { .name = "changed plans", .run = changed_plans, .weight = 28 },
+    { .name = "other plans", .run = other_plans, .weight = 18 },
     { .name = "tiny sites", .run = tiny_sites, .weight = 12 },
     { .name = "free idling", .run = free_idling, .weight = 8 },
+    { .name = "ordered plans", .run = ordered_plans, .weight = 12 },
     { .name = "large sites", .run = large_sites, .weight = 6 },
     { .name = "rounds", .run = rounds, .weight = 12 },
     { .name = "damaged tasks", .run = damaged_tasks, .weight = 20 },

@@ -38,6 +38,36 @@ void first_plan(const struct paper_site *site, struct plan *plan)
     }
 }
 
+static uint64_t open_intervals(const struct paper_site *site, unsigned job)
+{
+    uint64_t open = 0;
+    for (unsigned i = 0; i < site->intervals.count; i++)
+        open += paper_open(&site->intervals, i, job);
+    return open;
+}
+
+/* Gives the job at least one of its cycles in each of its open intervals, as far as they go. */
+static void spread_thin(struct numbers *numbers, const struct paper_site *site, struct plan *plan, unsigned job)
+{
+    uint64_t left = site->jobs.cycles[job], open = open_intervals(site, job);
+    for (unsigned i = 0; i < site->intervals.count; i++)
+        if (paper_open(&site->intervals, i, job)) {
+            uint64_t more = left > open ? 2 * (left - open) / open : 0;
+            uint64_t part = open == 1 || left == 0 ? left : 1 + below(numbers, more + 1);
+            plan_add_step(plan, i, job, part);
+            left -= part;
+            open--;
+        }
+}
+
+void full_plan(struct numbers *numbers, const struct paper_site *site, struct plan *plan)
+{
+    plan->intervals = site->intervals.count;
+    plan->steps = 0;
+    for (unsigned j = 0; j < site->jobs.count; j++)
+        spread_thin(numbers, site, plan, j);
+}
+
 static uint8_t band_price(const struct paper_site *site, unsigned interval, uint64_t load)
 {
     uint64_t length = paper_length(&site->intervals, interval);

@@ -228,6 +228,27 @@ struct paper_site tiny_site(struct numbers *numbers)
     return site_of(levels, jobs);
 }
 
+static uint64_t shortest_interval(const struct paper_intervals *intervals)
+{
+    uint64_t shortest = PAPER_TIME;
+    for (unsigned i = 0; i < intervals->count; i++)
+        if (paper_length(intervals, i) < shortest)
+            shortest = paper_length(intervals, i);
+    return shortest;
+}
+
+/* All jobs together have no more cycles than band 1 takes in the shortest interval, where that has one for each. */
+struct paper_site light_site(struct numbers *numbers, struct shape shape)
+{
+    struct paper_levels levels = any_levels(numbers);
+    struct paper_jobs jobs = windows(numbers, shape);
+    struct paper_site site = site_of(levels, jobs);
+    uint64_t most = shortest_interval(&site.intervals) * (uint64_t)site.points.frequency[1] / (jobs.count > 0 ? jobs.count : 1);
+    for (unsigned j = 0; j < jobs.count; j++)
+        site.jobs.cycles[j] = (uint32_t)(most < 1 ? 1 : one_in(numbers, 2) ? most : between(numbers, 1, most));
+    return site;
+}
+
 struct paper_site any_site(struct numbers *numbers, struct shape shape)
 {
     struct paper_levels levels = any_levels(numbers);

@@ -26,6 +26,8 @@ struct paper_jobs any_jobs(struct numbers *numbers, struct shape shape, const st
 struct paper_site site_of(struct paper_levels levels, struct paper_jobs jobs);
 /* A site whose placements and schedules can be gone through whole. */
 struct paper_site tiny_site(struct numbers *numbers);
+/* Its jobs are so light that all loads stay in band 1, mostly whichever plan it has: then each is a least one. */
+struct paper_site light_site(struct numbers *numbers, struct shape shape);
 /* Mostly small, mostly fitting. */
 struct paper_site any_site(struct numbers *numbers, struct shape shape);
 

@@ -1,6 +1,6 @@
-/* Document 01 and Changes 1 and 2 of document 02 in plain C, written from the pages alone, to be held against the archive.
- * It reads tables, lays out tasks, judges plans and says when planning must refuse. It does not plan. Nothing here is meant
- * to be fast: each function follows the words of the pages. */
+/* Document 01 and Changes 1 to 3 of document 02 in plain C, written from the pages alone, to be held against the archive.
+ * It reads tables, lays out tasks, judges plans, puts them in order and says when planning must refuse. It does not plan.
+ * Nothing here is meant to be fast: each function follows the words of the pages. */
 #ifndef PAPER_H
 #define PAPER_H
 
@@ -16,6 +16,8 @@ enum {
     PAPER_TASKS = 16,
     PAPER_BOUNDS = 2 * PAPER_JOBS,
     PAPER_INTERVALS = PAPER_BOUNDS - 1,
+    /* The length of a plan with a step for every job in every interval. */
+    PAPER_PLAN = 4 + 6 * PAPER_INTERVALS * PAPER_JOBS,
     PAPER_TIME = 1000000,
     PAPER_CYCLES = 1000000000,
     PAPER_FREQUENCY = 1000,
@@ -124,6 +126,11 @@ void paper_smallest_prices(const struct paper_site *site, struct paper_bytes pla
 struct paper_refusal paper_read_tasks(struct paper_bytes bytes, struct paper_tasks *tasks);
 uint32_t paper_multiple(const struct paper_tasks *tasks);
 struct ramyearly_rounds_answer paper_rounds(struct paper_bytes tasks, size_t jobs_length, struct paper_jobs *jobs);
+
+/* order.c */
+struct ramyearly_order_answer paper_order(struct paper_bytes levels, struct paper_bytes jobs, struct paper_bytes plan, struct paper_bytes prices,
+    size_t ordered_length, uint8_t ordered[PAPER_PLAN]);
+bool paper_same_shares(struct paper_bytes plan, struct paper_bytes other);
 
 /* search.c */
 bool paper_search(const struct paper_site *site, uint64_t *least);

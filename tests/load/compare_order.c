@@ -1,0 +1,90 @@
+#include <stdio.h>
+
+#include "call.h"
+
+static struct guarded ordered_buffer, again_buffer;
+
+void call_start_order(void)
+{
+    ordered_buffer = guarded_buffer(TABLE_ROOM);
+    again_buffer = guarded_buffer(TABLE_ROOM);
+}
+
+/* The tables of a call. */
+struct lent {
+    struct paper_bytes levels, jobs, plan, prices;
+};
+
+static struct lent lend(struct numbers *numbers, const struct table *levels, const struct table *jobs, const struct table *plan,
+    const struct table *prices)
+{
+    struct lent lent;
+    lent.levels = call_lend(numbers, LEVELS, levels);
+    lent.jobs = call_lend(numbers, JOBS, jobs);
+    lent.plan = call_lend(numbers, PLAN, plan);
+    lent.prices = call_lend(numbers, PRICES, prices);
+    return lent;
+}
+
+static struct ramyearly_order_answer order(const struct lent *t, const struct guarded *memory, struct part part)
+{
+    return ramyearly_order(t->levels.at, t->levels.length, t->jobs.at, t->jobs.length, t->plan.at, t->plan.length, t->prices.at, t->prices.length,
+        memory->lent + part.start, part.length);
+}
+
+/* What came out, lent as the plan: it is accepted with the figure of the plan that was given. */
+static void check_ordered(const struct lent *given, const struct lent *t)
+{
+    struct ramyearly_check_answer found = ramyearly_check(t->levels.at, t->levels.length, t->jobs.at, t->jobs.length, t->plan.at, t->plan.length,
+        t->prices.at, t->prices.length);
+    struct ramyearly_check_answer wanted = paper_check(given->levels, given->jobs, given->plan, given->prices);
+    call_count(found.number);
+    same("the check of the ordered plan: number", found.number, 0);
+    same("the check of the ordered plan: place", found.place, 0);
+    same("the check of the ordered plan: energy", (int64_t)found.energy, (int64_t)wanted.energy);
+}
+
+/* Ordering it again changes nothing. */
+static void order_again(const struct lent *t, uint8_t mark)
+{
+    struct part part = guarded_part(&again_buffer, t->plan.length, mark & 2);
+    guarded_mark(&again_buffer, part, mark);
+    struct ramyearly_order_answer found = order(t, &again_buffer, part);
+    call_count(found.number);
+    same("ordered again: number", found.number, 0);
+    same("ordered again: place", found.place, 0);
+    same("ordered again: length", found.length, (int64_t)t->plan.length);
+    same_bytes("plan that was ordered again", &again_buffer, part, t->plan);
+    same("ordered again: the bytes beside the buffer stay", guarded_marked_from(&again_buffer, part, part.length, mark), 1);
+}
+
+bool compare_order(struct numbers *numbers, const struct table *levels, const struct table *jobs, const struct table *plan, const struct table *prices,
+    size_t ordered_length, struct table *ordered)
+{
+    static uint8_t bytes[PAPER_PLAN];
+    call_begin();
+    struct lent given = lend(numbers, levels, jobs, plan, prices), written = given;
+    uint8_t mark = any_byte(numbers);
+    struct part part = guarded_part(&ordered_buffer, ordered_length, mark & 1);
+    guarded_mark(&ordered_buffer, part, mark);
+    struct ramyearly_order_answer found = order(&given, &ordered_buffer, part);
+    struct ramyearly_order_answer wanted = paper_order(given.levels, given.jobs, given.plan, given.prices, ordered_length, bytes);
+    same("number", found.number, wanted.number);
+    same("place", found.place, wanted.place);
+    same("length", found.length, wanted.length);
+    same_bytes("ordered plan", &ordered_buffer, part, (struct paper_bytes) { bytes, wanted.length });
+    same("the buffer's rest stays", guarded_marked_from(&ordered_buffer, part, wanted.length, mark), 1);
+    bool came_out = found.number == 0 && call_agrees();
+    if (came_out) {
+        written.plan = (struct paper_bytes) { ordered_buffer.lent + part.start, found.length };
+        check_ordered(&given, &written);
+        order_again(&written, mark);
+        table_keep(ordered, written.plan);
+        tally->ordered++;
+    }
+    if (!call_agrees())
+        printf("  a buffer of %zu bytes\n", ordered_length);
+    came_out = came_out && call_agrees();
+    call_end("ordering", found.number);
+    return came_out;
+}

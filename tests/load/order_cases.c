@@ -1,0 +1,97 @@
+#include "order_cases.h"
+
+#include <string.h>
+
+#include "buffers.h"
+#include "call.h"
+#include "change.h"
+#include "other.h"
+#include "sites.h"
+
+/* The site's tables, a plan for it and what that comes out as; then another plan for the same jobs. */
+static struct table levels, jobs, plan, prices, ordered, other_levels, other_plan, other_prices, other_ordered;
+static struct plan steps, other_steps;
+static struct prices list, other_list;
+
+/* The same frequencies at twice the voltages and four times the draw. Every power is four times as high, so that the same levels
+ * work. Where one would be past its limit the levels stay. */
+static struct paper_levels other_voltages(struct paper_levels given)
+{
+    if (2 * given.voltage[given.count - 1] > PAPER_VOLTAGE || 4 * given.draw > PAPER_DRAW)
+        return given;
+    for (unsigned i = 0; i < given.count; i++)
+        given.voltage[i] *= 2;
+    given.draw *= 4;
+    return given;
+}
+
+/* The plan itself, the plan with some of its shares changed, or one with steps in all open pairs; the steps are in any order.
+ * Sometimes it comes with other levels or prices. */
+static void make_other(struct numbers *numbers, const struct paper_site *site)
+{
+    struct paper_levels given = one_in(numbers, 4) ? other_voltages(site->levels) : site->levels;
+    if (one_in(numbers, 4))
+        full_plan(numbers, site, &other_steps);
+    else
+        plan_copy(&other_steps, &steps);
+    other_list = list;
+    for (unsigned changes = (unsigned)ONE_OF(numbers, 0, 1, 4); changes > 0; changes--)
+        change_shares(numbers, site, &other_steps);
+    if (one_in(numbers, 8))
+        change_prices(numbers, site, &other_list);
+    change_order(numbers, &other_steps);
+    levels_table(&other_levels, &given);
+    plan_table(&other_plan, &other_steps);
+    prices_table(&other_prices, &other_list);
+}
+
+/* Two accepted plans for one job table come out equal exactly when every job has the same cycles in every interval. */
+static void order_other(struct numbers *numbers, const struct paper_site *site)
+{
+    make_other(numbers, site);
+    if (!compare_order(numbers, &other_levels, &jobs, &other_plan, &other_prices, any_buffer(numbers, other_plan.length), &other_ordered))
+        return;
+    bool equal = other_ordered.length == ordered.length && memcmp(other_ordered.at, ordered.at, ordered.length) == 0;
+    same("it comes out as the first plan did", equal, paper_same_shares(bytes_of(&other_plan), bytes_of(&plan)));
+    call_report("ordering");
+}
+
+/* True once in 16 times, and never after the last byte of a fuzzer's input: large cases take long. */
+static bool is_large(struct numbers *numbers)
+{
+    return below(numbers, 16) == 15;
+}
+
+/* A few jobs in so many ticks that there is room for light ones; or all that there may be, for the longest plans. */
+static struct shape light_shape(struct numbers *numbers)
+{
+    unsigned few = (unsigned)between(numbers, 2, 6);
+    return (struct shape) { is_large(numbers) ? PAPER_JOBS : few, (uint32_t)ONE_OF(numbers, 100, 1000, PAPER_TIME, PAPER_TIME) };
+}
+
+/* The plan that planning writes, or one with steps in all open pairs where that is as good. */
+static bool make_plan(struct numbers *numbers, const struct paper_site *site, bool light)
+{
+    levels_table(&levels, &site->levels);
+    jobs_table(&jobs, &site->jobs);
+    if (!compare_plan(numbers, &levels, &jobs, enough(site), &plan, &prices))
+        return false;
+    plan_of_table(&steps, &plan);
+    prices_of_table(&list, &prices);
+    if (light && one_in(numbers, 2)) {
+        full_plan(numbers, site, &steps);
+        plan_table(&plan, &steps);
+    }
+    return true;
+}
+
+void ordered_plans(struct numbers *numbers)
+{
+    bool light = one_in(numbers, 2);
+    struct paper_site site = light ? light_site(numbers, light_shape(numbers))
+                                   : any_site(numbers, is_large(numbers) ? large_shape(numbers) : small_shape(numbers));
+    if (!make_plan(numbers, &site, light) || !compare_order(numbers, &levels, &jobs, &plan, &prices, plan.length, &ordered))
+        return;
+    for (unsigned i = 0; i < 4; i++)
+        order_other(numbers, &site);
+}
