@@ -4,16 +4,17 @@
     >>> ramyearly.plan(levels=[(2, 10), (4, 20)], jobs=[(0, 4, 6), (2, 3, 4)]).energy
     2200
 
-plan, check, setting, spare and rounds take plain values and answer plain values; refusals are exceptions with number,
-place and words. Levels that begin with (0, 5) are those of a board that draws 5,000 while it idles. Every answer is the
-archive's: the package decides nothing.
+plan, check, order, setting, spare and rounds take plain values and answer plain values; refusals are exceptions with
+number, place and words. Levels that begin with (0, 5) are those of a board that draws 5,000 while it idles. Every answer
+is the archive's: the package decides nothing.
 """
 
 from .errors import Trouble
-from .operations import Planned, Rounds, Setting, check, plan, rounds, setting, spare
+from .operations import Ordered, Planned, Rounds, Setting, check, order, plan, rounds, setting, spare
 from .refusals import Overfull, Refused
 
 __all__ = [
+    "Ordered",
     "Overfull",
     "Planned",
     "Refused",
@@ -21,6 +22,7 @@ __all__ = [
     "Setting",
     "Trouble",
     "check",
+    "order",
     "plan",
     "rounds",
     "setting",

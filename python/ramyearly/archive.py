@@ -55,6 +55,10 @@ class RoundsAnswer(ctypes.Structure):
     ]
 
 
+class OrderAnswer(ctypes.Structure):
+    _fields_ = [("number", ctypes.c_uint32), ("place", ctypes.c_uint32), ("length", ctypes.c_uint32)]
+
+
 TABLE = (ctypes.c_char_p, ctypes.c_size_t)
 BUFFER = (ctypes.c_void_p, ctypes.c_size_t)
 
@@ -65,6 +69,7 @@ FUNCTIONS = {
     "ramyearly_spare": (SpareAnswer, TABLE * 2 + (ctypes.c_uint32, ctypes.c_uint32)),
     "ramyearly_plan": (PlanAnswer, TABLE * 2 + BUFFER * 3),
     "ramyearly_rounds": (RoundsAnswer, TABLE + BUFFER),
+    "ramyearly_order": (OrderAnswer, TABLE * 4 + BUFFER),
 }
 
 
@@ -117,6 +122,7 @@ def spare(levels, jobs, start, end):
 # is too short. The place of that refusal is the length wanted.
 PLAN_BUFFERS = {12: ctypes.c_uint8, 13: ctypes.c_uint8, 14: ctypes.c_uint32}
 ROUNDS_BUFFERS = {12: ctypes.c_uint8}
+ORDER_BUFFERS = {12: ctypes.c_uint8}
 
 
 def call_into(function, lent, kinds, lengths):
@@ -145,3 +151,8 @@ def plan(levels, jobs):
 def rounds(tasks):
     """Lays tasks out: the answer, and the buffer of the job table."""
     return call(library().ramyearly_rounds, tables(tasks), ROUNDS_BUFFERS)
+
+
+def order(levels, jobs, plan, prices):
+    """Orders a plan's steps: the answer, and the buffer of the ordered plan."""
+    return call(library().ramyearly_order, tables(levels, jobs, plan, prices), ORDER_BUFFERS)

@@ -7,10 +7,18 @@ from . import __version__
 from .errors import Trouble
 from .files import Stopped, stop_in_order
 from .terminal import NAME, accept_any_name, put, say
-from .verbs import check, decode, encode, listing, plan, report, rounds
+from .verbs import check, decode, encode, listing, order, plan, report, rounds
 from .verbs.folders import DONE, FAILED, STATUSES
 
-VERBS = {"plan": plan, "check": check, "report": report, "encode": encode, "decode": decode, "rounds": rounds}
+VERBS = {
+    "plan": plan,
+    "check": check,
+    "order": order,
+    "report": report,
+    "encode": encode,
+    "decode": decode,
+    "rounds": rounds,
+}
 
 SITES = """\
 ramyearly VERB --help says more of each. A folder with the name of a verb is given as ./plan.

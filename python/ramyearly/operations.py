@@ -25,6 +25,14 @@ class Planned(NamedTuple):
     price_bytes: bytes  # the price list as the check reads it
 
 
+class Ordered(NamedTuple):
+    """A plan with its steps in cell order. Two plans for the same jobs come out equal exactly where every job has the same
+    cycles in every interval."""
+
+    steps: list  # (interval, job, cycles), interval by interval and within it by job
+    plan_bytes: bytes  # the same plan as the kernel loads it
+
+
 class Setting(NamedTuple):
     """The clock of one interval: extra / gap ticks on the upper level of the band, then the lower one."""
 
@@ -83,8 +91,13 @@ def plan_tables(levels, jobs):
 def check(levels, jobs, steps, prices):
     """The energy figure of a plan that is accepted with its prices. A plan has as many intervals as there are prices.
     Levels may begin with (0, draw)."""
+    return check_tables(level_table(levels), job_table(jobs), *plan_and_prices(steps, prices))
+
+
+def plan_and_prices(steps, prices):
+    """The bytes of a plan and of its price list."""
     plan_bytes = tables.to_bytes(tables.join_cells(steps), tables.PLAN, sizes=(len(prices),))
-    return check_tables(level_table(levels), job_table(jobs), plan_bytes, tables.to_bytes(prices, tables.PRICES))
+    return plan_bytes, tables.to_bytes(prices, tables.PRICES)
 
 
 def check_tables(levels, jobs, plan_bytes, price_bytes):
@@ -93,6 +106,21 @@ def check_tables(levels, jobs, plan_bytes, price_bytes):
     if answer.number:
         raise refused(answer.number, answer.place, Call(levels, jobs, plan_bytes, price_bytes))
     return answer.energy
+
+
+def order(levels, jobs, steps, prices):
+    """A plan that is accepted with its prices, with its steps in cell order; the prices are those of the ordered plan too.
+    A plan has as many intervals as there are prices. Levels may begin with (0, draw)."""
+    return order_tables(level_table(levels), job_table(jobs), *plan_and_prices(steps, prices))
+
+
+def order_tables(levels, jobs, plan_bytes, price_bytes):
+    """Orders a plan that is bytes, as is its price list."""
+    answer, buffer = archive.order(levels, jobs, plan_bytes, price_bytes)
+    if answer.number:
+        raise refused(answer.number, answer.place, Call(levels, jobs, plan_bytes, price_bytes))
+    ordered_bytes = bytes(buffer)[: answer.length]
+    return Ordered(tables.split_cells(entries_of(ordered_bytes, tables.PLAN)), ordered_bytes)
 
 
 def setting(levels, length, load):

@@ -60,11 +60,15 @@ JOBS = Table("jobs", "job", ("jobs",), ((("release", 32), ("deadline", 32)), (("
 TASKS = Table("tasks", "task", ("tasks",), ((("phase", 32), ("period", 32)), (("deadline", 32), ("cycles", 32))))
 PLAN = Table("plan", "step", ("intervals", "steps"), ((("cell", 16),), (("cycles", 32),)))
 PRICES = Table("prices", "interval", ("intervals",), ((("end", 32),), (("price", 8),)))
+# A plan with its steps in cell order, beside the plan that it was made from.
+ORDERED = PLAN._replace(name="ordered")
 
 # What stands in place of what: a site has one of the two.
 IN_PLACE_OF = {TASKS: JOBS, JOBS: TASKS}
 SITE_TABLES = (TASKS, JOBS, LEVELS)
-ALL_TABLES = (*SITE_TABLES, PLAN, PRICES)
+ALL_TABLES = (*SITE_TABLES, PLAN, PRICES, ORDERED)
+# What checking and ordering are lent, in their order.
+LENT_TO_CHECK = (LEVELS, JOBS, PLAN, PRICES)
 
 
 def named(table, place, is_zero):
@@ -247,7 +251,7 @@ def join_cells(steps):
 def to_text(sizes, entries, table, csv=False):
     """The text of a table: its sizes as a comment, what an idle entry has, the names of the columns, the entries."""
     names = [name for name, _ in table.columns()]
-    if table is PLAN:
+    if table in (PLAN, ORDERED):
         names = ["interval", "job", "cycles"]
         entries = split_cells(entries)
     said = ", ".join(f"{name} {size}" for name, size in zip(table.sizes, sizes))

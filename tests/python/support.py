@@ -14,6 +14,8 @@ PACKAGES = os.path.join(ROOT, "python")
 PAIR = bytes.fromhex("0200 0200 0400 0a00 1400")
 TWO_JOBS = bytes.fromhex("0200 00000000 04000000 02000000 03000000 06000000 04000000")
 PLAN = bytes.fromhex("0300 0300 0000 4100 8000 04000000 04000000 02000000")
+# The same plan with its steps from the last to the first.
+BACKWARDS = bytes.fromhex("0300 0300 8000 4100 0000 02000000 04000000 04000000")
 PRICES = bytes.fromhex("0300 02000000 03000000 04000000 01 02 01")
 LISTING = """\
 sizes 2 3 3

@@ -84,13 +84,15 @@ class Verbs(InFolder):
         self.expect([site], 0, LISTING)
         self.assertEqual(self.run_command("plan", site).returncode, 0)
         self.expect(["check", site], 0, f"{site}: accepted, energy 2200\n")
+        self.assertEqual(self.run_command("order", site).returncode, 0)
         self.assertEqual(self.run_command("report", site).returncode, 0)
 
     def test_names_that_are_no_text(self):
         site = self.good(name="caf\udce9")
-        ended = self.run_command("plan", site, text=False)
-        self.assertEqual((ended.returncode, ended.stderr), (0, b""))
-        self.assertIn(b"caf\xe9: jobs 2", ended.stdout)
+        for verb in ("plan", "order"):
+            ended = self.run_command(verb, site, text=False)
+            self.assertEqual((ended.returncode, ended.stderr), (0, b""))
+            self.assertIn(b"caf\xe9: jobs 2", ended.stdout)
         self.assertEqual(self.run_command("report", site, text=False).returncode, 0)
 
     def test_folders_with_the_name_of_a_verb(self):
@@ -119,8 +121,9 @@ class Verbs(InFolder):
 
     def test_wrong_usage(self):
         good = self.good()
-        for words in ([], ["plan"], ["check"], ["report"], ["--nonsense"], ["plan", "--nonsense", good], ["report", good, good],
-                      ["plan", good, good, "-o", self.folder], [self.folder + "/none"], [good + "/jobs.txt"]):  # fmt: skip
+        for words in ([], ["plan"], ["check"], ["order"], ["report"], ["--nonsense"], ["plan", "--nonsense", good],
+                      ["order", "--nonsense", good], ["report", good, good], ["plan", good, good, "-o", self.folder],
+                      ["order", good, good, "-o", self.folder], [self.folder + "/none"], [good + "/jobs.txt"]):  # fmt: skip
             ended = self.run_command(*words)
             self.assertEqual((ended.returncode, ended.stdout), (2, ""), words)
             self.assertIn("ramyearly", ended.stderr)

@@ -30,6 +30,8 @@ class Folders(InFolder):
             wrote = f"wrote {site}/plan.tbl and {site}/prices.tbl"
             self.expect(["plan", site], f"{site}: jobs 3, intervals 5, steps 4, energy 295000; {wrote}\n")
             self.expect(["check", site], f"{site}: accepted, energy 295000\n")
+            ordered = f"jobs 3, intervals 5, steps 4, in order already; wrote {site}/ordered.tbl"
+            self.expect(["order", site], f"{site}: {ordered}\n")
             self.expect(["report", site], f"{site}: wrote {site}/report.html\n")
             self.assertIn(b"295,000", read(os.path.join(site, "report.html")))
 

@@ -93,7 +93,7 @@ class Encoding(InFolder):
 
 class Decoding(InFolder):
     def test_all_tables_as_text(self):
-        site = self.site(jobs_tbl=TWO_JOBS, levels_tbl=PAIR, plan_tbl=PLAN, prices_tbl=PRICES)
+        site = self.site(jobs_tbl=TWO_JOBS, levels_tbl=PAIR, plan_tbl=PLAN, prices_tbl=PRICES, ordered_tbl=PLAN)
         ended = self.run_command("decode", site)
         self.assertEqual((ended.returncode, ended.stderr), (0, ""))
         self.assertEqual(
@@ -101,7 +101,8 @@ class Decoding(InFolder):
             "# jobs.tbl\n# jobs 2\n# release deadline cycles\n0 4 6\n2 3 4\n"
             "# levels.tbl\n# levels 2\n# frequency voltage\n2 10\n4 20\n"
             "# plan.tbl\n# intervals 3, steps 3\n# interval job cycles\n0 0 4\n1 1 4\n2 0 2\n"
-            "# prices.tbl\n# intervals 3\n# end price\n2 1\n3 2\n4 1\n",
+            "# prices.tbl\n# intervals 3\n# end price\n2 1\n3 2\n4 1\n"
+            "# ordered.tbl\n# intervals 3, steps 3\n# interval job cycles\n0 0 4\n1 1 4\n2 0 2\n",
         )
 
     def test_wrong_lengths(self):
@@ -130,7 +131,7 @@ class Decoding(InFolder):
     def test_nothing_to_decode(self):
         site = self.site(jobs_txt="0 4 6\n")
         ended = self.run_command("decode", site)
-        names = "tasks.tbl, jobs.tbl, levels.tbl, plan.tbl, prices.tbl"
+        names = "tasks.tbl, jobs.tbl, levels.tbl, plan.tbl, prices.tbl, ordered.tbl"
         said = f"ramyearly: {site}: no table in bytes ({names})\n"
         self.assertEqual((ended.returncode, ended.stderr), (1, said))
 

@@ -44,6 +44,8 @@ class Verbs(TaskFolders):
         self.expect(["plan", site], 0, f"{site}: {sizes}, repeats every 4 ticks; {wrote}\n")
         self.assertEqual(sorted(os.listdir(site)), ["levels.txt", "plan.tbl", "prices.tbl", "tasks.txt"])
         self.expect(["check", site], 0, f"{site}: accepted, energy 2200, repeats every 4 ticks\n")
+        ordered = "jobs 2, intervals 3, steps 3, in order already, repeats every 4 ticks"
+        self.expect(["order", site], 0, f"{site}: {ordered}; wrote {site}/ordered.tbl\n")
         # The plan is that of the same jobs.
         self.assertEqual(self.run_command("plan", other).returncode, 0)
         for name in ("plan.tbl", "prices.tbl"):
@@ -120,7 +122,7 @@ class Errors(TaskFolders):
                 said = f"{site}/{tasks.replace('_', '.')}: {jobs} {there}"
                 self.expect(["plan", site], 1, "", f"ramyearly: {said}\n")
         # The last one has both in bytes.
-        for words in ([], ["check"], ["encode"], ["decode"], ["rounds"]):
+        for words in ([], ["check"], ["order"], ["encode"], ["decode"], ["rounds"]):
             self.expect([*words, site], 1, "", f"ramyearly: {said}\n")
         self.assertEqual(sorted(os.listdir(site)), ["jobs.tbl", "levels.txt", "tasks.tbl"])
         self.expect(["report", site], 1, f"{site}: wrote {site}/report.html\n", f"ramyearly: {said}\n")
@@ -170,7 +172,7 @@ class Errors(TaskFolders):
         bad = tables.to_bytes([(0, 4, 4, 6), (0, 4, 4, 0)], tables.TASKS)
         self.refuse("tasks.tbl: 0 bytes, but the sizes alone take 2 (refusal 28)", "refused 28 0\n", tasks_tbl=b"")
         said = "tasks.tbl: cycles 0 are not in range (1 to 1,000,000,000) (refusal 28, entry 1)"
-        self.refuse(said, "refused 28 1\n", verbs=("plan", "check", "rounds"), tasks_tbl=bad)
+        self.refuse(said, "refused 28 1\n", verbs=("plan", "check", "order", "rounds"), tasks_tbl=bad)
         site = self.site(levels_txt=LEVELS)
         os.mkdir(os.path.join(site, "tasks.tbl"))
         said = "Is a directory, so it counts as empty: 0 bytes, but the sizes alone take 2 (refusal 28)"
@@ -198,7 +200,8 @@ class Errors(TaskFolders):
         self.assertEqual(self.run_command("plan", site).returncode, 0)
         write(os.path.join(site, "tasks.txt"), TASKS.replace("4 4 6", "4 4 7"))
         said = "tasks.txt line 2: the plan gives job 0 6 cycles, but it has 7 (refusal 19, job 0)"
-        self.expect(["check", site], 1, "", f"ramyearly: {site}/{said}\n")
+        for verb in ("check", "order"):
+            self.expect([verb, site], 1, "", f"ramyearly: {site}/{said}\n")
 
 
 if __name__ == "__main__":

@@ -107,12 +107,14 @@ class Reading(InFolder):
 
 
 class Checking(InFolder):
-    """Refusals of plans and price lists, by the check."""
+    """Refusals of plans and price lists, by the check and by ordering."""
 
     def expect(self, said, **files):
         site = self.site(**{"levels_txt": T, "jobs_txt": JOBS, "plan_tbl": PLAN, "prices_tbl": PRICES, **files})
-        ended = self.run_command("check", site)
-        self.assertEqual((ended.returncode, ended.stdout, ended.stderr), (1, "", f"ramyearly: {site}/{said}\n"))
+        for verb in ("check", "order"):
+            ended = self.run_command(verb, site)
+            self.assertEqual((ended.returncode, ended.stdout, ended.stderr), (1, "", f"ramyearly: {site}/{said}\n"))
+        self.assertEqual(sorted(os.listdir(site)), ["jobs.txt", "levels.txt", "plan.tbl", "prices.tbl"])
 
     def test_plans(self):
         sound = [(0, 0, 4), (1, 1, 4), (2, 0, 2)]

@@ -1,8 +1,8 @@
 """Checks the plans that stand beside the tables of sites."""
 
-from .. import tables
 from ..operations import check_tables
 from ..sites import explained, lay_out, read_plan, read_site
+from ..tables import LENT_TO_CHECK
 from .folders import LISTS, on_sites, parser_of
 
 USAGE = ("check DIR...", "check plan.tbl and prices.tbl")
@@ -22,7 +22,7 @@ def run(arguments, prepare):
         with explained(site):
             site = lay_out(site)
         with explained(site):
-            energy = check_tables(*map(site.data, (tables.LEVELS, tables.JOBS, tables.PLAN, tables.PRICES)))
+            energy = check_tables(*map(site.data, LENT_TO_CHECK))
         return f"{folder}: accepted, energy {energy}{site.repeats()}\n", None
 
     return on_sites(parser.parse_args(arguments).folders, work)

@@ -7,7 +7,10 @@ USAGE = ("decode DIR [OUT]", "tables in bytes to text")
 
 
 def run(arguments, _prepare):
-    does = "\ndecode prints each of jobs.tbl or tasks.tbl, levels.tbl, plan.tbl and prices.tbl that is there."
+    does = (
+        "\ndecode prints each of jobs.tbl or tasks.tbl, levels.tbl, plan.tbl, prices.tbl and ordered.tbl\n"
+        "that is there."
+    )
     parser = parser_of("decode", tables.__doc__ + does)
     parser.add_argument("out", metavar="OUT", nargs="?", help="the folder to write to (standard output if left out)")
     parser.add_argument("--csv", action="store_true", help="commas between the columns, and their names in a line")

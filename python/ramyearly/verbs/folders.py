@@ -40,6 +40,15 @@ def parser_of(verb, description, several=False):
     return parser
 
 
+def parse_with_out(parser, arguments):
+    """The options of a verb that writes plans beside the tables of each site, or to one other folder."""
+    parser.add_argument("-o", dest="out", metavar="OUT", help="the folder to write to (that of the site if left out)")
+    options = parser.parse_args(arguments)
+    if options.out is not None and len(options.folders) > 1:
+        parser.error("-o takes one site, or the plans would be written over each other")
+    return options
+
+
 def check_folder(path):
     if not os.path.exists(path):
         raise FileNotFoundError(errno.ENOENT, "no such folder", path)

@@ -4,7 +4,7 @@ from .. import tables
 from ..files import write_files
 from ..operations import plan_tables
 from ..sites import explained, lay_out, read_site
-from .folders import LISTS, check_folder, on_sites, parser_of
+from .folders import LISTS, check_folder, on_sites, parse_with_out, parser_of
 
 USAGE = ("plan DIR... [-o OUT]", "plan: write plan.tbl and prices.tbl")
 
@@ -19,10 +19,7 @@ def run(arguments, prepare):
         "anyone can check that no schedule needs less energy. Each is written whole or not at all." + LISTS + REPEATED,
         several=True,
     )
-    parser.add_argument("-o", dest="out", metavar="OUT", help="the folder to write to (that of the site if left out)")
-    options = parser.parse_args(arguments)
-    if options.out is not None and len(options.folders) > 1:
-        parser.error("-o takes one site, or the plans would be written over each other")
+    options = parse_with_out(parser, arguments)
 
     def work(folder):
         out = folder if options.out is None else options.out
