@@ -46,10 +46,6 @@ pub record EndsBy (bounds : ℕ) (times : List ℕ) (deadline number : ℕ) : Ty
   pub before : (i : ℕ) → i < number → getD times (i + 1) 0 ≤ deadline
   pub after : (i : ℕ) → number ≤ i → i < bounds - 1 → deadline < getD times (i + 1) 0
 
--- Interval i is one of those from `first` to before `end`.
-abbrev pub inRange : (first end i : ℕ) → Bool
-inRange first end i = leb first i && ltb i end
-
 -- One record more: job j is added to the sets of its intervals. Where all jobs before it add up and it does too, one job
 -- more adds up.
 pub record JobTested (summed j : ℕ) (job : Job) (times : List ℕ) (bounds : ℕ) (sums before after : List ℕ) (next : ℕ) : Type 0 where

@@ -1,16 +1,16 @@
 // The intervals that a job is open in: they lie between two of the bounds, which are found by halving.
 ghost use mathlib.Core.Path.{_≡_};
-ghost use Prim.Native.Nat.{_<_, _≤_};
+ghost use Prim.Native.Nat.{_<_};
 ghost use lib.ListN.{length};
-ghost use Rattle.model.specs.Limits.{maxJobs, maxIntervals};
+ghost use Rattle.model.specs.Limits.{maxJobs};
 ghost use Rattle.intervals.specs.Times.{SmallBounds};
 ghost use Rattle.job_sets.specs.IntervalSets.{setWords};
 ghost use Rattle.fitting.specs.SetsHave.{SetsHave, withJobIn};
-ghost use Rattle.fitting.specs.TestedJobs.{EndsBy, inRange, opensIn};
+ghost use Rattle.fitting.specs.TestedJobs.{EndsBy, opensIn};
 use intervals::bound_number;
 use intervals::interval_count;
 use job_sets::SET_WORDS;
-use job_sets::add;
+use job_sets::add_range;
 use model::MAX_BOUNDS;
 
 // Adds job j to the sets of the intervals that it is open in.
@@ -27,7 +27,7 @@ pub(crate) fn add_open(
 {
     let first = bound_number(times, bounds, release);
     let end = ends_by(times, bounds, deadline);
-    add_range(sets, j, first, end);
+    add_range(sets, first, end, j);
 }
 
 // How many intervals end by a deadline.
@@ -43,16 +43,4 @@ fn ends_by(times: &[u64; MAX_BOUNDS], bounds: usize, deadline: u64) -> usize
         return before;
     }
     interval_count(before)
-}
-
-// Adds job j to the sets of the intervals from `first` to before `end`.
-fn add_range(sets: &mut [u64; SET_WORDS], j: usize, first: usize, end: usize)
-    requires { ⌜ (j < maxJobs) × (end ≤ maxIntervals) × (length (now sets) ≡ setWords) ⌝ }
-    ensures { λ _. ⌜ SetsHave (now (sets .exit)) (withJobIn (now (sets .entry)) j (inRange first end)) ⌝ }
-{
-    let mut i = first;
-    while i < end {
-        add(sets, i, j);
-        i += 1;
-    }
 }

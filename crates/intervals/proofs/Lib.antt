@@ -3,3 +3,4 @@ pub mod Inserted
 pub mod Padded
 pub mod Halving
 pub mod SmallBounds
+pub mod OpenSets

@@ -1,8 +1,9 @@
-// Intervals of a job table: bounds, the number of a bound, and open pairs.
-mod pairs;
+// Intervals of a job table: bounds, the number of a bound, and open sets.
+mod opening;
 mod times;
 
-pub use pairs::open_pairs;
+pub use opening::open_sets;
 pub use times::bound_number;
+pub use times::bound_numbers;
 pub use times::bounds_of;
 pub use times::interval_count;

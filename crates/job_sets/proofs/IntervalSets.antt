@@ -1,21 +1,22 @@
--- Laws of the sets of all intervals: no jobs, after a change of one, and that two arrays with the same sets are equal.
+-- Laws of the sets of all intervals: no jobs, after a change of one, the jobs that leave, and that two arrays with the same
+-- sets are equal.
 -- Assumes nothing.
 use mathlib.Core.Path.{_≡_, refl, sym, _∙_, ap}
 use mathlib.Core.Bool.{Bool, not, _&&_, _||_}
 use mathlib.Core.List.{List}
-use Prim.Native.Nat.{ℕ, zero, suc, _<_}
+use Prim.Native.Nat.{ℕ, zero, suc, _<_, _≤_}
 use native.Mathlib.Decide.{ℕ-discrete}
 use native.Mathlib.Omega.{arith}
 use lib.ListN.{length, getD, set, replicate, length-set}
 use lib.Seq.{getD-set-same, getD-set-other}
 use lib.Dec.{eqb}
-use borrow.Author.Tests.{eq-eqb, ne-eqb}
+use borrow.Author.Tests.{lt-ltb, le-ltb, eq-eqb, ne-eqb}
 use Rattle.model.specs.Limits.{maxJobs, maxIntervals}
 use Rattle.model.specs.Entries.{listOf}
 use Rattle.model.proofs.Entries.{length-listOf, getD-listOf, listOf-getD, listOf-cong}
 use Rattle.job_sets.specs.declared.JobSet.{JobSet}
-use Rattle.job_sets.specs.JobSets.{isMember, setOf, noJobs, withJob, withoutJob}
-use Rattle.job_sets.specs.IntervalSets.{setWords, setIn, setsOf, Added, Removed}
+use Rattle.job_sets.specs.JobSets.{isMember, setOf, noJobs, withJob, withoutJob, inFirstOnly}
+use Rattle.job_sets.specs.IntervalSets.{setWords, setIn, setsOf, leavingSet, Added, Removed}
 use Rattle.job_sets.proofs.JobSets.{member-of, with-has, without-has}
 use Rattle.job_sets.proofs.SetWords.{zero-word}
 
@@ -62,6 +63,14 @@ removed-has {before} {after} {interval} {job} removed i j = go (ℕ-discrete i i
     go : Dec (i ≡ interval) → isMember (setIn after i) j ≡ (not (eqb i interval && eqb j job) && isMember (setIn before i) j)
     go (yes here) = rw (here, eq-eqb interval interval refl, removed .here) (without-has (setIn before interval) job j)
     go (no other) = rw (ne-eqb i interval other, removed .elsewhere i other)
+
+-- the jobs that leave after an interval that has a next one, and after the last
+module _ (intervals : ℕ) (sets : List ℕ) (i : ℕ) where
+  pub leaving-next : suc i < intervals → leavingSet intervals sets i ≡ inFirstOnly (setIn sets i) (setIn sets (suc i))
+  leaving-next inside = rw (lt-ltb (suc i) intervals inside)
+
+  pub leaving-last : intervals ≤ suc i → leavingSet intervals sets i ≡ setIn sets i
+  leaving-last past = rw (le-ltb (suc i) intervals past)
 
 -- two arrays with the same sets are equal
 pub same-sets : (a b : List ℕ) → length a ≡ setWords → length b ≡ setWords → ((i : ℕ) → i < maxIntervals → setIn a i ≡ setIn b i) → a ≡ b

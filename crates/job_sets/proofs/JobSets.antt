@@ -11,14 +11,14 @@ use native.Mathlib.Omega.{arith}
 use lib.Dec.{ltb, eqb}
 use borrow.Author.Tests.{lt-ltb, le-ltb, eq-eqb, ne-eqb, not-true, not-false}
 use Rattle.model.specs.Limits.{maxJobs}
-use Rattle.model.specs.Sum.{sum, onlyIf}
+use Rattle.model.specs.Sum.{onlyIf}
 use Rattle.model.specs.Search.{someBelow}
 use Rattle.model.proofs.Numbers.{lt-or-le, true≢false}
-use Rattle.model.proofs.Sum.{sum-cong, sum-mono, sum-const, sum-shorter, sum-update}
+use Rattle.model.proofs.Sum.{sum-mono, sum-const, sum-update}
 use Rattle.model.proofs.Search.{someBelow-none, someBelow-fails, FirstBelow, firstBelow-law}
 use Rattle.model.proofs.OpenSets.{bits-below, bits-at}
 use Rattle.job_sets.specs.declared.JobSet.{JobSet}
-use Rattle.job_sets.specs.JobSets.{isMember, setOf, setBelow, memberCount, leastMember, isEmpty, noJobs, allJobs, withJob, withoutJob, inBoth, inEither}
+use Rattle.job_sets.specs.JobSets.{isMember, setOf, setBelow, memberCount, leastMember, isEmpty, noJobs, allJobs, withJob, withoutJob, inBoth, inEither, inFirstOnly}
 use Rattle.job_sets.proofs.Words.{bit, same-bits}
 
 -- a job below the limit is a member where its bit is set, and no number from the limit on is one
@@ -118,6 +118,9 @@ both-has a b j = member-any (λ i. isMember a i && isMember b i) j (λ past. rw 
 pub either-has : (a b : JobSet) (j : ℕ) → isMember (inEither a b) j ≡ (isMember a j || isMember b j)
 either-has a b j = member-any (λ i. isMember a i || isMember b i) j (λ past. rw (member-past a j past, member-past b j past))
 
+pub less-has : (a b : JobSet) (j : ℕ) → isMember (inFirstOnly a b) j ≡ (isMember a j && not (isMember b j))
+less-has a b j = member-any (λ i. isMember a i && not (isMember b i)) j (λ past. rw (member-past a j past))
+
 -- how many members there are
 member-few : (t : Bool) → onlyIf t 1 ≤ 1
 member-few true = omega arith
@@ -154,7 +157,7 @@ least-has set some = go (firstBelow-law maxJobs (isMember set)) (lt-or-le (least
         let none = someBelow-fails maxJobs (isMember set) (λ j below. law .before j (omega arith)) in
         absurd (true≢false (sym (not-false (someBelow maxJobs (isMember set)) some) ∙ none))
 
--- The set of the jobs below a number that pass a test: before the first job, one more, and after the last.
+-- The set of the jobs below a number that pass a test: before the first job, one more or the same, and past the last.
 module _ (test : ℕ → Bool) where
   pub below-none : noJobs ≡ setBelow 0 test
   below-none = set-cong (λ j. false) (λ j. ltb j 0 && test j) (λ j below. rw (le-ltb j 0 (omega arith)))
@@ -175,21 +178,5 @@ module _ (test : ℕ → Bool) where
       go j (no other) (inl before) = rw (lt-ltb j i before, lt-ltb j (i + 1) (omega arith))
       go j (no other) (inr after) = rw (le-ltb j i after, le-ltb j (i + 1) (omega (arith, other)))
 
-  -- a turn of a loop that adds job i where it passes
-  module _ (i : ℕ) (set next : JobSet) (before : set ≡ setBelow i test) (tested : Bool) (is-test : tested ≡ test i) where
-    pub turn-more : tested ≡ true → (more : JobSet) → more ≡ withJob set i → next ≡ more → next ≡ setBelow (i + 1) test
-    turn-more passes more added is-next = is-next ∙ added ∙ ap (λ (s : JobSet). withJob s i) before ∙ below-more i (sym is-test ∙ passes)
-
-    pub turn-same : tested ≡ false → next ≡ set → next ≡ setBelow (i + 1) test
-    turn-same fails is-next = is-next ∙ before ∙ below-same i (sym is-test ∙ fails)
-
-  pub below-has : (count j : ℕ) → j < count → j < maxJobs → isMember (setBelow count test) j ≡ test j
-  below-has count j inside below = rw (member-of (λ i. ltb i count && test i) j below, lt-ltb j count inside)
-
   pub below-past : (count j : ℕ) → count ≤ j → isMember (setBelow count test) j ≡ false
   below-past count j past = member-any (λ i. ltb i count && test i) j (λ over. rw (le-ltb j count past)) ∙ rw (le-ltb j count past)
-
-  pub below-count : (count : ℕ) → count ≤ maxJobs → memberCount (setBelow count test) ≡ sum count (λ j. onlyIf (test j) 1)
-  below-count count most =
-      sum-shorter count maxJobs _ most (λ j past below. rw (below-past count j past))
-      ∙ sum-cong count (λ j inside. rw (below-has count j inside (omega arith)))

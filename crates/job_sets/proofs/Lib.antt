@@ -3,3 +3,4 @@ pub mod Words
 pub mod JobSets
 pub mod SetWords
 pub mod IntervalSets
+pub mod Ranges

@@ -19,7 +19,7 @@ use Rattle.model.proofs.Sum.{sum-cong, sum-shorter}
 use Rattle.model.proofs.Search.{someBelow-none, someBelow-fails, firstBelow-is, firstBelow-none}
 use Rattle.model.proofs.OpenSets.{bits-ones}
 use Rattle.job_sets.specs.declared.JobSet.{JobSet}
-use Rattle.job_sets.specs.JobSets.{isMember, setOf, memberCount, membersBelow, leastMember, isEmpty, noJobs, withJob, withoutJob, inBoth, inEither}
+use Rattle.job_sets.specs.JobSets.{isMember, setOf, memberCount, membersBelow, leastMember, isEmpty, noJobs, withJob, withoutJob, inBoth, inEither, inFirstOnly}
 use Rattle.job_sets.proofs.Words.{bit, bit-none, bit-here, bit-other, bit-and, bit-or, bit-not, lowest-unset, lowest-set}
 use Rattle.job_sets.proofs.JobSets.{member-bit, set-is}
 
@@ -38,6 +38,11 @@ either-one zero (suc zero) small-a small-b = refl
 either-one zero (suc (suc b)) small-a small-b = absurd (omega arith)
 either-one (suc (suc a)) b small-a small-b = absurd (omega arith)
 
+other-one : (a b : ℕ) → a + b ≡ 1 → eqb a 1 ≡ not (eqb b 1)
+other-one a zero one = eq-eqb a 1 (omega arith)
+other-one a (suc zero) one = ne-eqb a 1 (λ e. omega arith)
+other-one a (suc (suc b)) one = absurd (omega arith)
+
 -- a word whose bits are set where a test holds
 abbrev Tested : (word : ℕ) → (test : ℕ → Bool) → Type 0
 Tested word test = (word < 2 ^ maxJobs) × ((j : ℕ) → j < maxJobs → eqb (bit j word) 1 ≡ test j)
@@ -55,16 +60,10 @@ one-test job below = (pow-lt below, λ j inside. go j (ℕ-discrete j job))
     go j (yes here) = rw (here, bit-here job, eq-eqb job job refl)
     go j (no other) = rw (bit-other job j other, ne-eqb j job other)
 
-others-test : (job : ℕ) → job < maxJobs → Tested (2 ^ maxJobs - 1 - 2 ^ job) (λ j. not (eqb j job))
-others-test job below = (omega arith, λ j inside. go j (ℕ-discrete j job) (bit-not maxJobs j (2 ^ job) inside (pow-lt below)))
-  where
-    go : (j : ℕ) → Dec (j ≡ job) → bit j (2 ^ maxJobs - 1 - 2 ^ job) + bit j (2 ^ job) ≡ 1 → eqb (bit j (2 ^ maxJobs - 1 - 2 ^ job)) 1 ≡ not (eqb j job)
-    go j (yes here) turned =
-        let set : bit j (2 ^ job) ≡ 1 = rw here (bit-here job) in
-        rw (eq-eqb j job here) (ne-eqb (bit j (2 ^ maxJobs - 1 - 2 ^ job)) 1 (λ e. omega arith))
-    go j (no other) turned =
-        let unset : bit j (2 ^ job) ≡ 0 = bit-other job j other in
-        rw (ne-eqb j job other) (eq-eqb (bit j (2 ^ maxJobs - 1 - 2 ^ job)) 1 (omega arith))
+-- a word turned over
+turned-test : {word : ℕ} {test : ℕ → Bool} → Tested word test → Tested (2 ^ maxJobs - 1 - word) (λ j. not (test j))
+turned-test {word} (fits, bits) =
+    (omega arith, λ j below. rw (← bits j below) (other-one _ _ (bit-not maxJobs j word below fits)))
 
 -- a power of 2 less one has the bits below it
 below-test : (job : ℕ) → job < maxJobs → Tested (2 ^ job - 1) (λ j. ltb j job)
@@ -101,13 +100,17 @@ module _ (set : JobSet) (fits : set .word < 2 ^ maxJobs) where
   pub without-word : (job : ℕ) → job < maxJobs
       → _≡_ {A = JobSet} (record { word = bitAnd (set .word) (2 ^ maxJobs - 1 - 2 ^ job) }) (withoutJob set job)
   without-word job below =
-      rw (and-comm (set .word) (2 ^ maxJobs - 1 - 2 ^ job)) (tested-set _ _ (and-test (others-test job below) (own-test set fits)))
+      rw (and-comm (set .word) (2 ^ maxJobs - 1 - 2 ^ job)) (tested-set _ _ (and-test (turned-test (one-test job below)) (own-test set fits)))
 
   pub both-word : (other : JobSet) → other .word < 2 ^ maxJobs → _≡_ {A = JobSet} (record { word = bitAnd (set .word) (other .word) }) (inBoth set other)
   both-word other fits-other = tested-set _ _ (and-test (own-test set fits) (own-test other fits-other))
 
   pub either-word : (other : JobSet) → other .word < 2 ^ maxJobs → _≡_ {A = JobSet} (record { word = bitOr (set .word) (other .word) }) (inEither set other)
   either-word other fits-other = tested-set _ _ (or-test (own-test set fits) (own-test other fits-other))
+
+  pub less-word : (other : JobSet) → other .word < 2 ^ maxJobs
+      → _≡_ {A = JobSet} (record { word = bitAnd (set .word) (2 ^ maxJobs - 1 - other .word) }) (inFirstOnly set other)
+  less-word other fits-other = tested-set _ _ (and-test (own-test set fits) (turned-test (own-test other fits-other)))
 
   -- their number is its count of ones
   pub count-word : ones (set .word) ≡ memberCount set

@@ -55,3 +55,7 @@ inBoth a b = setOf (λ j. isMember a j && isMember b j)
 
 abbrev pub inEither : (a b : JobSet) → JobSet
 inEither a b = setOf (λ j. isMember a j || isMember b j)
+
+-- The members of the first set that are not in the second.
+abbrev pub inFirstOnly : (a b : JobSet) → JobSet
+inFirstOnly a b = setOf (λ j. isMember a j && not (isMember b j))

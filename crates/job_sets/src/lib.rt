@@ -3,7 +3,10 @@ mod by_interval;
 mod members;
 
 pub use by_interval::add;
+pub use by_interval::add_range;
+pub use by_interval::count_all;
 pub use by_interval::holds;
+pub use by_interval::leaving;
 pub use by_interval::remove;
 pub use by_interval::set_at;
 pub use members::all;
@@ -14,6 +17,7 @@ pub use members::either;
 pub use members::has;
 pub use members::is_empty;
 pub use members::least;
+pub use members::less;
 pub use members::none;
 pub use members::with;
 pub use members::without;

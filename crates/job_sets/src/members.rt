@@ -2,7 +2,7 @@
 ghost use mathlib.Core.Path.{_≡_};
 ghost use Prim.Native.Nat.{_<_};
 ghost use Rattle.model.specs.Limits.{maxJobs};
-ghost use Rattle.job_sets.specs.JobSets.{isMember, memberCount, membersBelow, leastMember, isEmpty, noJobs, allJobs, withJob, withoutJob, inBoth, inEither};
+ghost use Rattle.job_sets.specs.JobSets.{isMember, memberCount, membersBelow, leastMember, isEmpty, noJobs, allJobs, withJob, withoutJob, inBoth, inEither, inFirstOnly};
 use crate::JobSet;
 
 // No job.
@@ -62,6 +62,15 @@ pub fn either(a: JobSet, b: JobSet) -> JobSet
 {
     JobSet {
         word: a.word | b.word,
+    }
+}
+
+// The members of the first set that are not in the second.
+pub fn less(a: JobSet, b: JobSet) -> JobSet
+    ensures { λ r. ⌜ r ≡ inFirstOnly a b ⌝ }
+{
+    JobSet {
+        word: a.word & !b.word,
     }
 }
 

@@ -1,6 +1,6 @@
 -- What the arrays and numbers of a site that was read keep: its jobs and its working points, within the limits.
 -- Assumes nothing.
-use mathlib.Core.Path.{_≡_}
+use mathlib.Core.Path.{_≡_, sym}
 use mathlib.Core.List.{List}
 use Prim.Native.Nat.{ℕ, _-_, _<_, _≤_}
 use native.Mathlib.Omega.{arith}
@@ -12,7 +12,7 @@ use Rattle.model.specs.Processors.{allPoints, workingOf}
 use Rattle.model.specs.Sites.{Site, ValidSite}
 use Rattle.model.proofs.Working.{working-curve, working-top}
 use Rattle.tables.specs.Tables.{jobsIn}
-use Rattle.tables.proofs.Read.{jobs-count}
+use Rattle.tables.proofs.Read.{length-jobsIn, jobs-count}
 use Rattle.levels.specs.PointTables.{pointsOf, SmallPoints}
 use Rattle.levels.proofs.SmallPoints.{working-small, working-held}
 use Rattle.intervals.specs.Times.{SmallBounds}
@@ -26,6 +26,9 @@ module _ {site : Site} {table : SiteTable} {releases deadlines cycles times : Li
   -- the jobs
   pub held-jobs : ValidJobs (jobsIn (table .jobs) releases deadlines cycles)
   held-jobs = rw (holds .jobs-are) (valid .jobs)
+
+  pub held-jobs-counted : table .jobs ≡ length (site .jobs)
+  held-jobs-counted = rw (← holds .jobs-are) (sym (length-jobsIn (table .jobs) releases deadlines cycles))
 
   pub held-count : table .jobs ≤ maxJobs
   held-count = jobs-count (table .jobs) releases deadlines cycles held-jobs

@@ -4,9 +4,7 @@ ghost use mathlib.Core.List.{_++_};
 ghost use Prim.Native.Nat.{ℕ, _+_, _*_, _<_, _≤_};
 ghost use lib.ListN.{length, drop};
 ghost use Rattle.model.specs.Limits.{maxJobs, maxIntervals};
-ghost use Rattle.model.specs.Sum.{sum};
 ghost use Rattle.model.specs.Plans.{sharesIn};
-ghost use Rattle.job_sets.specs.JobSets.{memberCount};
 ghost use Rattle.job_sets.specs.IntervalSets.{setIn};
 ghost use Rattle.writing.specs.StepList.{stepOf, stepsIn, stepsOf};
 ghost use Rattle.writing.specs.HeldShares.{SharesHeld};
@@ -32,24 +30,10 @@ pub fn write_plan(
     ensures { λ r. ⌜ r ≡ length (stepsOf jobs intervals (sharesIn jobs (now (shares .entry)))) ⌝ }
     ensures { λ r. ⌜ now (plan .exit) ≡ encodePlan intervals (stepsOf jobs intervals (sharesIn jobs (now (shares .entry)))) ++ drop (4 + 6 * r) (now (plan .entry)) ⌝ }
 {
-    let count = count_steps(sets, intervals);
+    let count = job_sets::count_all(sets, intervals);
     put16(plan, 0, intervals as u64);
     put16(plan, 2, count as u64);
     write_steps(shares, sets, jobs, intervals, count, plan);
-    count
-}
-
-// How many members the sets of the first intervals have: each has a step.
-fn count_steps(sets: &[u64; SET_WORDS], intervals: usize) -> usize
-    requires { ⌜ intervals ≤ maxIntervals ⌝ }
-    ensures { λ r. ⌜ r ≡ sum intervals (λ i. memberCount (setIn (now (sets .entry)) i)) ⌝ }
-{
-    let mut count = 0;
-    let mut i = 0;
-    while i < intervals {
-        count += job_sets::count(job_sets::set_at(sets, i));
-        i += 1;
-    }
     count
 }
 

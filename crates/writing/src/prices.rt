@@ -15,7 +15,7 @@ use model::MAX_INTERVALS;
 // count from 0, those of a price list from 1.
 pub fn write_prices(
     times: &[u64; MAX_BOUNDS],
-    prices: &[u64; MAX_INTERVALS],
+    prices: &[u8; MAX_INTERVALS],
     intervals: usize,
     out: &mut [u8],
 )
@@ -41,14 +41,14 @@ fn write_ends(times: &[u64; MAX_BOUNDS], intervals: usize, out: &mut [u8])
 }
 
 // Writes the prices of the intervals, counted from 1, after the ends.
-fn write_price_bytes(prices: &[u64; MAX_INTERVALS], intervals: usize, out: &mut [u8])
+fn write_price_bytes(prices: &[u8; MAX_INTERVALS], intervals: usize, out: &mut [u8])
     requires { ⌜ (intervals ≤ maxIntervals) × (2 + 5 * intervals ≤ length (now out)) ⌝ }
     requires { ⌜ ((i : ℕ) → i < intervals → getD (now prices) i 0 < 255) ⌝ }
     ensures { λ _. ⌜ now (out .exit) ≡ sets (now (out .entry)) (2 + 4 * intervals) (priceBytes intervals (λ i. suc (getD (now (prices .entry)) i 0))) ⌝ }
 {
     let mut i = 0;
     while i < intervals {
-        out[2 + 4 * intervals + i] = (prices[i] + 1) as u8;
+        out[2 + 4 * intervals + i] = prices[i] + 1;
         i += 1;
     }
 }

@@ -17,7 +17,7 @@ add-range-requires c κs = search needs
 returns : tie.Need-returns
 returns c =
     let found = c .before .before .before in
-    range-open _ _ _ (c .add-range .ensures)
+    range-open (c .add-range .ensures) (found .before .pre .0)
     (bounds-before _ _ _ (found .before .pre .1) _ (found .bound-number .ensures)) (c .before .before .ends-by .ensures)
 
 pub add-open-spec : {M : Type 1} → statement M

@@ -13,15 +13,15 @@ use Rattle.writing.proofs.plan.write_plan.Statement.{statement}
 use Rattle.writing.proofs.plan.write_plan.Tie as tie
 
 -- the count is the number of steps
-counted : (c : tie.After-count-steps)
+counted : (c : tie.After-count-all)
     → let a = c .before .before .before .args in
-    c .count-steps .result ≡ length (stepsOf (a .jobs) (a .intervals) (sharesIn (a .jobs) (now (a .shares))))
+    c .count-all .result ≡ length (stepsOf (a .jobs) (a .intervals) (sharesIn (a .jobs) (now (a .shares))))
 counted c =
     let start = c .before .before .before in
-    c .count-steps .ensures ∙ members-are-steps _ _ _ _ (start .pre .0 .0) (start .pre .1 .0)
+    c .count-all .ensures ∙ members-are-steps _ _ _ _ (start .pre .0 .0) (start .pre .1 .0)
 
-count-steps-requires : tie.Need-count-steps-requires
-count-steps-requires c κs = search needs
+count-all-requires : tie.Need-count-all-requires
+count-all-requires c κs = search needs
 
 put16-requires : tie.Need-put16-requires
 put16-requires c κs = search needs
@@ -53,7 +53,7 @@ pub write-plan-spec : {M : Type 1} → statement M
 write-plan-spec =
     tie.close
     (tie.spec
-    count-steps-requires
+    count-all-requires
     put16-requires
     put16-requires-2
     write-steps-requires

@@ -38,20 +38,14 @@ small c = c .before .before .pre .1 _ (c .loop-test .taken)
 loop-holds : tie.Need-loop-holds Inv-loop μ-loop
 loop-holds c = (omega arith, numbers-none (bytesOf 1) 1 (length-bytesOf 1) _ _ _)
 
-mul-out : tie.Need-mul-out Inv-loop μ-loop
-mul-out c = omega arith
-
 element-copy-out-out : tie.Need-element-copy-out-out Inv-loop μ-loop
 element-copy-out-out c = omega arith
 
 add-out : tie.Need-add-out Inv-loop μ-loop
 add-out c = omega (arith, small (c .before))
 
-cast-out : tie.Need-cast-out Inv-loop μ-loop
-cast-out c = omega (arith, small (c .before))
-
-mul-out-2 : tie.Need-mul-out-2 Inv-loop μ-loop
-mul-out-2 c = omega arith
+mul-out : tie.Need-mul-out Inv-loop μ-loop
+mul-out c = omega arith
 
 add-out-2 : tie.Need-add-out-2 Inv-loop μ-loop
 add-out-2 c = omega arith
@@ -86,11 +80,9 @@ write-price-bytes-spec =
     Inv-loop
     μ-loop
     loop-holds
-    mul-out
     element-copy-out-out
     add-out
-    cast-out
-    mul-out-2
+    mul-out
     add-out-2
     add-out-3
     slice-write-out

@@ -1,23 +1,23 @@
--- `plan::count_steps` meets its contract. The loop's invariant: the count is that of the members of the first `i` sets, at
--- most maxJobs each. Assumes nothing.
+-- `by_interval::count_all` meets its contract. The loop's invariant: the members are those of the first `i` sets, at most
+-- maxJobs each. Assumes nothing.
 use mathlib.Core.Path.{_≡_, refl, _∙_, ap}
 use Prim.Native.Nat.{_-_, _*_, _≤_}
 use native.Mathlib.Omega.{arith}
 use Rattle.model.specs.Limits.{maxJobs}
 use Rattle.model.specs.Sum.{sum}
 use Rattle.model.proofs.Sum.{sum-none, sum-more, sum-whole}
 use Rattle.job_sets.specs.JobSets.{memberCount}
 use Rattle.job_sets.specs.IntervalSets.{setIn}
 use Rattle.job_sets.proofs.JobSets.{count-most}
-use Rattle.writing.proofs.plan.count_steps.Statement.{statement}
-use Rattle.writing.proofs.plan.count_steps.Tie as tie
+use Rattle.job_sets.proofs.by_interval.count_all.Statement.{statement}
+use Rattle.job_sets.proofs.by_interval.count_all.Tie as tie
 
 abbrev Inv-loop : tie.InvT-loop
-Inv-loop sets intervals count₀ i₀ count i =
-    (count ≡ sum i (λ k. memberCount (setIn sets k))) × (i ≤ intervals) × (count ≤ maxJobs * i)
+Inv-loop sets intervals members₀ i₀ members i =
+    (members ≡ sum i (λ k. memberCount (setIn sets k))) × (i ≤ intervals) × (members ≤ maxJobs * i)
 
 abbrev μ-loop : tie.MeasureT-loop
-μ-loop sets intervals count₀ i₀ count i = intervals - i
+μ-loop sets intervals members₀ i₀ members i = intervals - i
 
 loop-holds : tie.Need-loop-holds Inv-loop μ-loop
 loop-holds c = (sum-none _, omega arith, omega arith)
@@ -28,8 +28,8 @@ set-at-requires c κs = omega arith
 count-requires : tie.Need-count-requires Inv-loop μ-loop
 count-requires c κs = tt
 
-add-count : tie.Need-add-count Inv-loop μ-loop
-add-count c = omega (arith, count-most (c .before .set-at .result), c .count .ensures)
+add-members : tie.Need-add-members Inv-loop μ-loop
+add-members c = omega (arith, count-most (c .before .set-at .result), c .count .ensures)
 
 add-i : tie.Need-add-i Inv-loop μ-loop
 add-i c = omega arith
@@ -46,8 +46,8 @@ loop-again c =
 returns : tie.Need-returns Inv-loop μ-loop
 returns c = sum-whole _ _ _ _ (c .before .loop .inv .1) (c .loop-test .left) refl _ (c .before .loop .inv .0)
 
-pub count-steps-spec : {M : Type 1} → statement M
-count-steps-spec =
+pub count-all-spec : {M : Type 1} → statement M
+count-all-spec =
     tie.close
     (tie.spec
     Inv-loop
@@ -55,7 +55,7 @@ count-steps-spec =
     loop-holds
     set-at-requires
     count-requires
-    add-count
+    add-members
     add-i
     loop-less
     loop-again
