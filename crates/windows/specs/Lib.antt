@@ -1,2 +1,6 @@
 -- What the functions of this crate answer, as equations with the definitions of the crate model.
 pub mod Answers
+pub mod Additions
+pub mod RunningSums
+pub mod WindowTests
+pub mod AdditionLines

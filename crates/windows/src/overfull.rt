@@ -1,13 +1,14 @@
-// The earliest overfull window: refusal 11.
-ghost use mathlib.Core.Path.{_≡_};
-ghost use Prim.Native.Nat.{_<_, _≤_};
-ghost use Rattle.model.specs.Limits.{maxFrequency, maxJobs};
-ghost use Rattle.model.specs.Jobs.{ValidJobs};
-ghost use Rattle.model.specs.Windows.{earliestOverfull, earliestStart, earliestEnd, overfullTo};
-ghost use Rattle.tables.specs.Tables.{jobsIn};
-ghost use Rattle.windows.specs.Answers.{overfullAnswer, foundOf, smallerFound, isRepeated, unlessRepeated, unrepeatedSet, startsOverfull};
-use crate::window::cycles_inside;
+// The window test: the earliest overfull window, which is refusal 11.
+ghost use mathlib.Core.List.{List};
+ghost use Prim.Native.Nat.{ℕ, _<_, _≤_};
+ghost use Rattle.model.specs.declared.Job.{Job};
+ghost use Rattle.model.specs.Limits.{maxFrequency};
+ghost use Rattle.windows.specs.WindowTests.{TestArrays, HasReleasedFrom, EndTested, Tested};
+use crate::sums::CycleSum;
+use crate::sums::add_jobs;
 use job_sets::JobSet;
+use job_sets::SET_WORDS;
+use model::MAX_BOUNDS;
 use model::MAX_JOBS;
 
 // The earliest overfull window, if there is one.
@@ -16,187 +17,96 @@ pub enum Overfull {
     Fits,
 }
 
-// A time that was found, if there is one.
-pub enum Found {
-    At(u64),
-    Nothing,
+// What the window test found, and how often it added a job's cycles to a sum.
+pub struct WindowTest {
+    pub found: Overfull,
+    pub additions: usize,
 }
 
-// The earliest release from which a window to a later deadline is overfull, and then the earliest such deadline.
+// What the windows from one start gave: the number of the bound at which the first overfull one ends, MAX_BOUNDS where there is
+// none, and how often a job's cycles were added.
+pub struct EndTest {
+    pub end: usize,
+    pub additions: usize,
+}
+
+// Tests the windows from each release, the earliest first, until one is overfull. `from` has the jobs released at or after the
+// start, so that a start is a release where one of them is open.
 pub fn earliest_overfull(
-    releases: &[u64; MAX_JOBS],
-    deadlines: &[u64; MAX_JOBS],
+    times: &[u64; MAX_BOUNDS],
     cycles: &[u64; MAX_JOBS],
-    count: usize,
+    sets: &[u64; SET_WORDS],
+    intervals: usize,
     top: u64,
-) -> Overfull
-    requires { ⌜ ValidJobs (jobsIn count (now releases) (now deadlines) (now cycles)) ⌝ }
+) -> WindowTest
+    requires { ⌜ ((jobs : List Job) × (bounds : List ℕ) × TestArrays jobs bounds (now times) (now cycles) (now sets) intervals) ⌝ }
     requires { ⌜ top ≤ maxFrequency ⌝ }
-    ensures { λ r. ⌜ r ≡ overfullAnswer (earliestOverfull top (jobsIn count (now (releases .entry)) (now (deadlines .entry)) (now (cycles .entry)))) ⌝ }
+    ensures { λ r. ⌜ ((jobs : List Job) (bounds : List ℕ) → TestArrays jobs bounds (now (times .entry)) (now (cycles .entry)) (now (sets .entry)) intervals
+        → Tested top jobs r) ⌝ }
 {
-    let found = earliest_start(releases, deadlines, cycles, count, top);
-    match found {
-        Found::Nothing => Overfull::Fits,
-        Found::At(start) => {
-            let ends = unrepeated(deadlines, count);
-            let last = earliest_end(releases, deadlines, cycles, count, top, ends, start);
-            match last {
-                Found::Nothing => Overfull::Fits,
-                Found::At(end) => Overfull::Window { start, end },
+    let mut from = job_sets::all();
+    let mut additions = 0;
+    let mut start = 0;
+    while start < intervals {
+        let here = job_sets::set_at(sets, start);
+        if !job_sets::is_empty(job_sets::both(here, from)) {
+            let test = overfull_end(times, cycles, sets, intervals, top, from, start);
+            additions += test.additions;
+            let end = test.end;
+            if end < MAX_BOUNDS {
+                let found = Overfull::Window {
+                    start: times[start],
+                    end: times[end],
+                };
+                return WindowTest { found, additions };
             }
         }
+        from = job_sets::less(from, here);
+        start += 1;
+    }
+    WindowTest {
+        found: Overfull::Fits,
+        additions,
     }
 }
 
-// The earliest release from which some window is overfull.
-fn earliest_start(
-    releases: &[u64; MAX_JOBS],
-    deadlines: &[u64; MAX_JOBS],
+// Moves the end of a window on, interval after interval, and adds the jobs that end there to the sum, until the window is
+// overfull. `from` has the jobs released at or after the start.
+fn overfull_end(
+    times: &[u64; MAX_BOUNDS],
     cycles: &[u64; MAX_JOBS],
-    count: usize,
+    sets: &[u64; SET_WORDS],
+    intervals: usize,
     top: u64,
-) -> Found
-    requires { ⌜ ValidJobs (jobsIn count (now releases) (now deadlines) (now cycles)) ⌝ }
-    requires { ⌜ top ≤ maxFrequency ⌝ }
-    ensures { λ r. ⌜ r ≡ foundOf (earliestStart top (jobsIn count (now (releases .entry)) (now (deadlines .entry)) (now (cycles .entry)))) ⌝ }
+    from: JobSet,
+    start: usize,
+) -> EndTest
+    requires { ⌜ ((jobs : List Job) × (bounds : List ℕ) × TestArrays jobs bounds (now times) (now cycles) (now sets) intervals
+        × HasReleasedFrom jobs bounds from start) ⌝ }
+    requires { ⌜ (top ≤ maxFrequency) × (start < intervals) ⌝ }
+    ensures { λ r. ⌜ ((jobs : List Job) (bounds : List ℕ) → TestArrays jobs bounds (now (times .entry)) (now (cycles .entry)) (now (sets .entry)) intervals
+        → HasReleasedFrom jobs bounds from start → EndTested top jobs bounds start (r .end) (r .additions)) ⌝ }
 {
-    let ends = unrepeated(deadlines, count);
-    let mut found = Found::Nothing;
-    let mut j = 0;
-    while j < count {
-        if starts_overfull(releases, deadlines, cycles, count, top, ends, j) {
-            found = smaller(found, releases[j]);
-        }
-        j += 1;
-    }
-    found
-}
-
-// Whether some window from the release of job j is overfull. A release that an earlier job has was tested there and is
-// passed over. The set ends has the jobs whose deadline no earlier job has: it is made once for all releases.
-fn starts_overfull(
-    releases: &[u64; MAX_JOBS],
-    deadlines: &[u64; MAX_JOBS],
-    cycles: &[u64; MAX_JOBS],
-    count: usize,
-    top: u64,
-    ends: JobSet,
-    j: usize,
-) -> bool
-    requires { ⌜ ValidJobs (jobsIn count (now releases) (now deadlines) (now cycles)) ⌝ }
-    requires { ⌜ (top ≤ maxFrequency) × (j < count) ⌝ }
-    requires { ⌜ ends ≡ unrepeatedSet count (now deadlines) ⌝ }
-    ensures { λ r. ⌜ r ≡ unlessRepeated (now (releases .entry)) (startsOverfull top (jobsIn count (now (releases .entry)) (now (deadlines .entry)) (now (cycles .entry)))) j ⌝ }
-{
-    if is_repeated(releases, j) {
-        return false;
-    }
-    let end = earliest_end(releases, deadlines, cycles, count, top, ends, releases[j]);
-    match end {
-        Found::At(_) => true,
-        Found::Nothing => false,
-    }
-}
-
-// The jobs whose number no earlier job has.
-fn unrepeated(numbers: &[u64; MAX_JOBS], count: usize) -> JobSet
-    requires { ⌜ count ≤ maxJobs ⌝ }
-    ensures { λ r. ⌜ r ≡ unrepeatedSet count (now (numbers .entry)) ⌝ }
-{
-    let mut set = job_sets::none();
-    let mut j = 0;
-    while j < count {
-        if !is_repeated(numbers, j) {
-            set = job_sets::with(set, j);
-        }
-        j += 1;
-    }
-    set
-}
-
-// Whether one of the numbers before number j equals it.
-fn is_repeated(numbers: &[u64; MAX_JOBS], j: usize) -> bool
-    requires { ⌜ j < maxJobs ⌝ }
-    ensures { λ r. ⌜ r ≡ isRepeated (now (numbers .entry)) j ⌝ }
-{
-    let number = numbers[j];
-    let mut i = 0;
-    while i < j {
-        if numbers[i] == number {
-            return true;
-        }
-        i += 1;
-    }
-    false
-}
-
-// The earliest deadline after start to which the window is overfull.
-fn earliest_end(
-    releases: &[u64; MAX_JOBS],
-    deadlines: &[u64; MAX_JOBS],
-    cycles: &[u64; MAX_JOBS],
-    count: usize,
-    top: u64,
-    ends: JobSet,
-    start: u64,
-) -> Found
-    requires { ⌜ ValidJobs (jobsIn count (now releases) (now deadlines) (now cycles)) ⌝ }
-    requires { ⌜ top ≤ maxFrequency ⌝ }
-    requires { ⌜ ends ≡ unrepeatedSet count (now deadlines) ⌝ }
-    ensures { λ r. ⌜ r ≡ foundOf (earliestEnd top (jobsIn count (now (releases .entry)) (now (deadlines .entry)) (now (cycles .entry))) start) ⌝ }
-{
-    let mut found = Found::Nothing;
-    let mut k = 0;
-    while k < count {
-        let end = deadlines[k];
-        if overfull_to(releases, deadlines, cycles, count, top, ends, start, k) {
-            found = smaller(found, end);
-        }
-        k += 1;
-    }
-    found
-}
-
-// Whether the deadline of job k is later than start and the window from start to it is overfull. A deadline that an
-// earlier job has was tested there and is passed over.
-fn overfull_to(
-    releases: &[u64; MAX_JOBS],
-    deadlines: &[u64; MAX_JOBS],
-    cycles: &[u64; MAX_JOBS],
-    count: usize,
-    top: u64,
-    ends: JobSet,
-    start: u64,
-    k: usize,
-) -> bool
-    requires { ⌜ ValidJobs (jobsIn count (now releases) (now deadlines) (now cycles)) ⌝ }
-    requires { ⌜ (top ≤ maxFrequency) × (k < count) ⌝ }
-    requires { ⌜ ends ≡ unrepeatedSet count (now deadlines) ⌝ }
-    ensures { λ r. ⌜ r ≡ unlessRepeated (now (deadlines .entry)) (overfullTo top (jobsIn count (now (releases .entry)) (now (deadlines .entry)) (now (cycles .entry))) start) k ⌝ }
-{
-    if !job_sets::has(ends, k) {
-        return false;
-    }
-    let end = deadlines[k];
-    if end <= start {
-        return false;
-    }
-    let need = cycles_inside(releases, deadlines, cycles, count, start, end);
-    (end - start) * top < need
-}
-
-// The smaller of what was found and another time.
-fn smaller(found: Found, time: u64) -> Found
-    ensures { λ r. ⌜ r ≡ smallerFound found time ⌝ }
-{
-    match found {
-        Found::Nothing => Found::At(time),
-        Found::At(least) => {
-            if time < least {
-                Found::At(time)
-            } else {
-                Found::At(least)
+    let mut sum = CycleSum {
+        cycles: 0,
+        additions: 0,
+    };
+    let mut last = start;
+    while last < intervals {
+        let ended = job_sets::both(job_sets::leaving(sets, intervals, last), from);
+        if !job_sets::is_empty(ended) {
+            sum = add_jobs(cycles, ended, sum);
+            if (times[last + 1] - times[start]) * top < sum.cycles {
+                return EndTest {
+                    end: last + 1,
+                    additions: sum.additions,
+                };
             }
         }
+        last += 1;
+    }
+    EndTest {
+        end: MAX_BOUNDS,
+        additions: sum.additions,
     }
 }
