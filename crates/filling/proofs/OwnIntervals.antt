@@ -12,7 +12,7 @@ use Rattle.model.specs.Sum.{onlyIf}
 use Rattle.model.specs.Plans.{Shares, sharesIn}
 use Rattle.model.proofs.Sum.{sum-term}
 use Rattle.job_sets.specs.IntervalSets.{Added}
-use Rattle.workloads.specs.declared.Workload.{Workload}
+use Rattle.workloads.specs.Workloads.{Workload}
 use Rattle.workloads.specs.Placement.{Problem, SoundProblem, Open, loadOf}
 use Rattle.workloads.specs.Arrays.{numbersIn, problemIn, KeptPast}
 use Rattle.workloads.proofs.Capacity.{open-below}

@@ -8,7 +8,7 @@ use native.Mathlib.Omega.{arith}
 use lib.ListN.{set, length-set}
 use lib.Seq.{getD-set-same, getD-set-other, set-getD}
 use Rattle.model.specs.Plans.{Shares}
-use Rattle.workloads.specs.declared.Workload.{Workload}
+use Rattle.workloads.specs.Workloads.{Workload}
 use Rattle.workloads.specs.Placement.{Problem, Open, placedOf}
 use Rattle.workloads.specs.Arrays.{numbersIn}
 use Rattle.paths.specs.Placing.{Placing}

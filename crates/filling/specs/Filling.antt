@@ -5,7 +5,7 @@ use mathlib.Core.List.{List}
 use lib.ListN.{length}
 use Rattle.model.specs.Limits.{maxJobs}
 use Rattle.model.specs.Plans.{Shares, sharesIn}
-use Rattle.workloads.specs.declared.Workload.{Workload}
+use Rattle.workloads.specs.Workloads.{Workload}
 use Rattle.workloads.specs.Placement.{Problem, Open, placedOf, Priced}
 use Rattle.workloads.specs.Arrays.{numbersIn, problemIn}
 use Rattle.paths.specs.FilledTargets.{StoredShares}

@@ -4,7 +4,7 @@ use Prim.Native.Nat.{ℕ, _*_, _<_, _≤_}
 use mathlib.Core.Path.{_≡_}
 use mathlib.Core.List.{List}
 use lib.ListN.{set}
-use Rattle.workloads.specs.declared.Workload.{Workload}
+use Rattle.workloads.specs.Workloads.{Workload}
 use Rattle.workloads.specs.Placement.{Open}
 use Rattle.workloads.specs.Arrays.{numbersIn, problemIn, lentJobs, lentWindows, KeptPast}
 use Rattle.paths.specs.declared.Turn.{Turn}

@@ -12,13 +12,13 @@ use borrow.Author.Tests.{eq-eqb, ne-eqb}
 use Rattle.model.specs.Limits.{maxFrequency, maxDeadline}
 use Rattle.model.specs.Sum.{onlyIf}
 use Rattle.model.specs.Plans.{Shares, sharesIn}
-use Rattle.workloads.specs.declared.Workload.{Workload}
+use Rattle.workloads.specs.Workloads.{Workload}
 use Rattle.workloads.specs.Placement.{Problem, loadOf}
 use Rattle.workloads.specs.Arrays.{numbersIn, problemIn, RoomAt}
 use Rattle.workloads.proofs.Capacity.{capacity-most}
 use Rattle.searching.specs.Reaching.{SearchState, Reaching}
 use Rattle.paths.specs.Placing.{Placing}
-use Rattle.paths.specs.Moves.{PathPasses, CanWalk, ToMove, CanMove, MovedTables}
+use Rattle.paths.specs.Moves.{PathPasses, HoldsPath, CanWalk, ToMove, CanMove, MovedTables}
 use Rattle.paths.specs.FilledTargets.{PlacingTables, CanFill, Filled}
 
 -- the load of one interval grows, and its room falls by as much
@@ -65,6 +65,7 @@ module _ {work : Workload} {table room holders : List ℕ} {found : SearchState}
   fill-walk =
       record {
         jobs-most = can .tables .stored .sound .jobs-most;
+        intervals-most = can .tables .stored .sound .intervals-most;
         table-length = can .tables .stored .table-length;
         job = can .job;
         reaching = can .reaching;
@@ -86,13 +87,15 @@ module _ {work : Workload} {table room holders : List ℕ} {found : SearchState}
           room = omega (arith, can .tables .stored .room-at .room-is (found .target) target-inside);
         }
 
-    pub fill-move : PathPasses work table found amount → CanMove work table holders found amount
-    fill-move passes =
+    pub fill-move : {route : List ℕ} → PathPasses work table found amount × HoldsPath work found route
+        → CanMove work table holders route found amount
+    fill-move (passes, routed) =
         record {
           sound = can .tables .stored .sound;
           table-length = can .tables .stored .table-length;
           holding = can .tables .stored .holding;
           passes = passes;
+          routed = routed;
           prices = can .prices;
           lefts = can .lefts;
           job = can .job;

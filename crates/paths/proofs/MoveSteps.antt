@@ -8,7 +8,7 @@ use lib.ListN.{length, getD, length-set}
 use Rattle.model.specs.Limits.{maxDeadline, maxFrequency, maxCycles}
 use Rattle.model.specs.Plans.{sharesIn}
 use Rattle.job_sets.specs.IntervalSets.{setWords, Added}
-use Rattle.workloads.specs.declared.Workload.{Workload}
+use Rattle.workloads.specs.Workloads.{Workload}
 use Rattle.workloads.specs.Placement.{Open}
 use Rattle.workloads.specs.Arrays.{numbersIn, problemIn, Holding, KeptPast}
 use Rattle.workloads.proofs.SharesTable.{place-below, place-in, kept-refl, kept-set}
@@ -40,7 +40,8 @@ pub record MoveAt (work : Workload) (before : List ℕ) (found : SearchState) (a
   pub moving : (prices lefts : ℕ → ℕ) (job left band : ℕ) → ToMove (problemIn work) (sharesIn (work .jobs) before) prices lefts job left band found amount
       → (bound : ℕ) × MovingTable work before table found amount gap prices band bound
 
-module _ {work : Workload} {before holders-before : List ℕ} {found : SearchState} {amount : ℕ} (can : CanMove work before holders-before found amount) where
+module _ {work : Workload} {before holders-before route : List ℕ} {found : SearchState} {amount : ℕ}
+    (can : CanMove work before holders-before route found amount) where
   -- at the target
   pub move-start : {s : ℕ} → s ≡ firstOpen (problemIn work) (found .count) (numbersIn (found .reached)) (found .target)
       → MoveAt work before found amount before holders-before (found .target) s

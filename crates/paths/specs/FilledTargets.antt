@@ -3,7 +3,7 @@ use Prim.Native.Nat.{ℕ, suc, _-_, _*_, _<_, _≤_}
 use mathlib.Core.List.{List}
 use lib.ListN.{length}
 use Rattle.model.specs.Plans.{sharesIn}
-use Rattle.workloads.specs.declared.Workload.{Workload}
+use Rattle.workloads.specs.Workloads.{Workload}
 use Rattle.workloads.specs.Arrays.{numbersIn, problemIn, SoundWorkload, RoomAt, Holding, lentWindows, KeptPast}
 use Rattle.searching.specs.Reaching.{SearchState, Reaching, HasRoom}
 use Rattle.paths.specs.declared.Turn.{Turn}

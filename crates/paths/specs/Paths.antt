@@ -1,8 +1,9 @@
 -- The path from an interval with room back to the job being placed, walked and moved along, over plain functions.
-use Prim.Native.Nat.{ℕ, suc, _+_, _*_, _<_, _≤_}
+use Prim.Native.Nat.{ℕ, zero, suc, _+_, _*_, _<_, _≤_}
 use mathlib.Core.Path.{_≡_}
 use mathlib.Core.Bool.{_&&_}
 use lib.Dec.{eqb, ltb, leb}
+use Rattle.model.specs.Limits.{maxJobs}
 use Rattle.model.specs.Sum.{onlyIf}
 use Rattle.model.specs.Search.{firstBelow}
 use Rattle.model.specs.Plans.{Shares}
@@ -20,6 +21,23 @@ module _ (p : Problem) where
   -- the number of the first reached job that is open in an interval, count where none is
   unfoldable pub firstOpen : (count : ℕ) → (reached : ℕ → ℕ) → (interval : ℕ) → ℕ
   firstOpen count reached i = firstBelow count (λ s. leb (p .first (reached s)) i && ltb i (p .last (reached s)))
+
+  -- some reached job is open in an interval
+  abbrev pub SomeOpen : (count : ℕ) → (reached : ℕ → ℕ) → (interval : ℕ) → Type 0
+  SomeOpen count reached i = (s : ℕ) × (s < count) × Open p i (reached s)
+
+  module _ (count : ℕ) (reached source : ℕ → ℕ) (target : ℕ) where
+    -- the numbers of the reached jobs on the path from a target, in the order of the path
+    unfoldable pub pathNumber : ℕ → ℕ
+    pathNumber zero = firstOpen count reached target
+    pathNumber (suc k) = firstOpen count reached (source (pathNumber k))
+
+    -- A route has these numbers, up to that of the job being placed, which is 0.
+    pub record Routed (route : ℕ → ℕ) : Type 0 where
+      pub steps : ℕ
+      pub few : steps < maxJobs
+      pub ends : pathNumber steps ≡ 0
+      pub numbers : (k : ℕ) → k ≤ steps → route k ≡ pathNumber k
 
   module _ (shares : Shares) (count : ℕ) (reached source : ℕ → ℕ) where
     -- `amount` cycles can go along the path from an interval back to the job being placed: in each interval the first

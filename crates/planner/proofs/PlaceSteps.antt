@@ -12,7 +12,7 @@ use Rattle.model.specs.Limits.{maxJobs, maxDeadline, maxFrequency, maxIntervals
 use Rattle.model.specs.Plans.{sharesIn}
 use Rattle.model.proofs.Sum.{sum-zero}
 use Rattle.job_sets.specs.IntervalSets.{setWords}
-use Rattle.workloads.specs.declared.Workload.{Workload}
+use Rattle.workloads.specs.Workloads.{Workload}
 use Rattle.workloads.specs.Placement.{Open, loadOf}
 use Rattle.workloads.specs.RangesFit.{RangesFit}
 use Rattle.workloads.specs.Arrays.{numbersIn, problemIn, SoundWorkload}
@@ -36,15 +36,17 @@ use Rattle.planner.proofs.FullRange.{range-order, next-band}
 -- nothing is placed
 pub tables-start : {work : Workload} → SoundWorkload work → length (work .cycles) ≡ maxJobs → (table : List ℕ)
     → work .intervals * work .jobs ≤ length table → ((k : ℕ) → k < work .intervals * work .jobs → numbersIn table k ≡ 0)
-    → BandStart work table (replicate maxIntervals 0) (replicate setWords 0) (work .cycles) (numbersIn (replicate maxIntervals 0)) 0
-tables-start {work} sound cycles-length table room cleared =
+    → {room holders prices : List ℕ} → room ≡ replicate maxIntervals 0 → holders ≡ replicate setWords 0 → prices ≡ replicate maxIntervals 0
+    → BandStart work table room holders (work .cycles) (numbersIn prices) 0
+tables-start {work} sound cycles-length table long cleared no-room no-holder no-price =
     let no-share : (i j : ℕ) → i < work .intervals → j < work .jobs → sharesIn (work .jobs) table i j ≡ 0 =
     λ i j inside below. cleared (i * work .jobs + j) (place-below inside below) in
+    rw (no-room, no-holder, no-price)
     record {
       stored =
           record {
             sound = sound;
-            table-length = room;
+            table-length = long;
             room-at =
                 record {
                   room-length = length-replicate {A = ℕ} maxIntervals 0;

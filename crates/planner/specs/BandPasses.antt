@@ -6,7 +6,7 @@ use mathlib.Core.List.{List}
 use lib.ListN.{length, set}
 use Rattle.model.specs.Limits.{maxIntervals}
 use Rattle.model.specs.Plans.{sharesIn}
-use Rattle.workloads.specs.declared.Workload.{Workload}
+use Rattle.workloads.specs.Workloads.{Workload}
 use Rattle.workloads.specs.RangesFit.{RangesFit}
 use Rattle.workloads.specs.Arrays.{numbersIn, problemIn, lentWindows, KeptPast}
 use Rattle.searching.specs.Reached.{Closed}

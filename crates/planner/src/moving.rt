@@ -20,15 +20,15 @@ pub struct Rest {
 // Places along paths what is left of the jobs. Where some is left after that, no price of the job's window is the band's. On
 // this alone it rests that all jobs are placed at least price.
 pub(crate) fn move_jobs(
-    first: &[usize; MAX_JOBS],
-    last: &[usize; MAX_JOBS],
+    first: &[u8; MAX_JOBS],
+    last: &[u8; MAX_JOBS],
     shares: &mut [u32],
     room: &mut [u64; MAX_INTERVALS],
     holders: &mut [u64; SET_WORDS],
-    prices: &mut [u64; MAX_INTERVALS],
+    prices: &mut [u8; MAX_INTERVALS],
     left: &mut [u64; MAX_JOBS],
     jobs: usize,
-    band: u64,
+    band: u8,
 )
     requires { ⌜ WindowsRaise jobs (now first) (now last) (now shares) (now room) (now holders) (now prices) (now left) band ⌝ }
     ensures { λ _. ⌜ WindowsRaised jobs (now (first .entry)) (now (last .entry))
@@ -50,13 +50,13 @@ pub(crate) fn move_jobs(
 // Places what is left of a job, where a price of its window is not above the band, and answers how many cycles are left then.
 // Some are left only where no interval that is reached has room at the band; then the prices of all of them rise past it.
 fn move_job(
-    first: &[usize; MAX_JOBS],
-    last: &[usize; MAX_JOBS],
+    first: &[u8; MAX_JOBS],
+    last: &[u8; MAX_JOBS],
     shares: &mut [u32],
     room: &mut [u64; MAX_INTERVALS],
     holders: &mut [u64; SET_WORDS],
-    prices: &mut [u64; MAX_INTERVALS],
-    band: u64,
+    prices: &mut [u8; MAX_INTERVALS],
+    band: u8,
     turn: Turn,
 ) -> u64
     requires { ⌜ TurnRaise (now first) (now last) (now shares) (now room) (now holders) (now prices) band turn ⌝ }
@@ -68,7 +68,7 @@ fn move_job(
         return 0;
     }
     let job = turn.job;
-    if is_below(prices, first[job], last[job], band + 1) {
+    if is_below(prices, first[job] as usize, last[job] as usize, band + 1) {
         let rest = move_cycles(first, last, shares, room, holders, turn);
         if rest.left == 0 {
             return 0;
@@ -81,8 +81,8 @@ fn move_job(
 
 // Places cycles of a job along paths, until none are left or no interval that is reached has room.
 fn move_cycles(
-    first: &[usize; MAX_JOBS],
-    last: &[usize; MAX_JOBS],
+    first: &[u8; MAX_JOBS],
+    last: &[u8; MAX_JOBS],
     shares: &mut [u32],
     room: &mut [u64; MAX_INTERVALS],
     holders: &mut [u64; SET_WORDS],

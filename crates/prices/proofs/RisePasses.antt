@@ -11,7 +11,7 @@ use borrow.Author.Count.{below-none, below-more}
 use Rattle.model.specs.Limits.{maxIntervals}
 use Rattle.model.specs.Plans.{Shares, sharesIn}
 use Rattle.model.proofs.Numbers.{true≢false, true-or-false}
-use Rattle.workloads.specs.declared.Workload.{Workload}
+use Rattle.workloads.specs.Workloads.{Workload}
 use Rattle.workloads.specs.Arrays.{numbersIn, problemIn}
 use Rattle.workloads.specs.Placement.{SmallestPriced}
 use Rattle.prices.specs.RisingPrices.{Raised, LeastBand, HighestPrice, IsBelow, JobStep, roomLeft, CanPrice, CanRise, RisePass}

@@ -9,7 +9,7 @@ use lib.ListN.{length}
 use Rattle.model.specs.Limits.{maxIntervals}
 use Rattle.model.specs.Sum.{sum}
 use Rattle.model.specs.Plans.{Shares, sharesIn}
-use Rattle.workloads.specs.declared.Workload.{Workload}
+use Rattle.workloads.specs.Workloads.{Workload}
 use Rattle.workloads.specs.Placement.{Problem, Open, Priced, SmallestPriced, loadOf}
 use Rattle.workloads.specs.Arrays.{numbersIn, problemIn, workloadWith, SoundWorkload, Stored, lentWindows}
 

@@ -8,7 +8,7 @@ ghost use Rattle.prices.specs.RisingPrices.{Raised, IsBelow};
 use model::MAX_INTERVALS;
 
 // Raises the prices from start up to, not including, end to at least a price.
-pub fn raise(prices: &mut [u64; MAX_INTERVALS], start: usize, end: usize, price: u64)
+pub fn raise(prices: &mut [u8; MAX_INTERVALS], start: usize, end: usize, price: u8)
     requires { ⌜ (length (now prices) ≡ maxIntervals) × (start ≤ end) × (end ≤ maxIntervals) ⌝ }
     ensures { λ _. ⌜ Raised start end price (numbersIn (now (prices .entry))) (numbersIn (now (prices .exit)))
         × (length (now (prices .exit)) ≡ maxIntervals) ⌝ }
@@ -23,7 +23,7 @@ pub fn raise(prices: &mut [u64; MAX_INTERVALS], start: usize, end: usize, price:
 }
 
 // Whether an interval from start up to, not including, end has a lower price.
-pub fn is_below(prices: &[u64; MAX_INTERVALS], start: usize, end: usize, price: u64) -> bool
+pub fn is_below(prices: &[u8; MAX_INTERVALS], start: usize, end: usize, price: u8) -> bool
     requires { ⌜ end ≤ maxIntervals ⌝ }
     ensures { λ r. ⌜ IsBelow (numbersIn (now (prices .entry))) start end price r ⌝ }
 {

@@ -13,21 +13,21 @@ use model::MAX_JOBS;
 use model::MAX_POINTS;
 
 // The prices rise from the least ones that the loads allow, until a pass over the jobs changes nothing.
-// The arrays of a workload are lent, since for few jobs a copy takes longer than a pass; at one lifetime, so that they can be
-// fields of one struct.
-pub fn smallest_prices<'a>(
+// The arrays of a workload are lent, since for few jobs a copy takes longer than a pass.
+pub fn smallest_prices(
     jobs: usize,
     intervals: usize,
     bands: usize,
-    first: &'a [usize; MAX_JOBS],
-    last: &'a [usize; MAX_JOBS],
-    size: &'a [u64; MAX_INTERVALS],
-    frequency: &'a [u64; MAX_POINTS],
+    first: &[u8; MAX_JOBS],
+    last: &[u8; MAX_JOBS],
+    size: &[u64; MAX_INTERVALS],
+    frequency: &[u64; MAX_POINTS],
     shares: &[u32],
     loads: &[u64; MAX_INTERVALS],
-    prices: &mut [u64; MAX_INTERVALS],
+    prices: &mut [u8; MAX_INTERVALS],
 )
     requires { ⌜ ArraysPrice jobs intervals bands (now first) (now last) (now size) (now frequency) (now shares) (now loads) ⌝ }
+    requires { ⌜ length (now prices) ≡ maxIntervals ⌝ }
     ensures { λ _. ⌜ ArraysPriced jobs intervals bands (now (first .entry)) (now (last .entry)) (now (size .entry)) (now (frequency .entry))
         (now (shares .entry)) (now (loads .entry)) (now (prices .exit))
         × (length (now (prices .exit)) ≡ maxIntervals) ⌝ }
@@ -36,26 +36,25 @@ pub fn smallest_prices<'a>(
     while raise_all(jobs, first, last, shares, prices) {}
 }
 
-// The least price that each load allows.
+// The least price that each load allows. The array is not cleared, which would take longer than this for a small site.
 fn least_prices(
     intervals: usize,
     bands: usize,
     size: &[u64; MAX_INTERVALS],
     frequency: &[u64; MAX_POINTS],
     loads: &[u64; MAX_INTERVALS],
-    prices: &mut [u64; MAX_INTERVALS],
+    prices: &mut [u8; MAX_INTERVALS],
 )
-    requires { ⌜ (intervals ≤ maxIntervals) × (bands ≤ maxLevels) ⌝ }
+    requires { ⌜ (intervals ≤ maxIntervals) × (bands ≤ maxLevels) × (length (now prices) ≡ maxIntervals) ⌝ }
     requires { ⌜ ((i : ℕ) → i < intervals → numbersIn (now size) i ≤ maxDeadline) × ((k : ℕ) → k ≤ bands → numbersIn (now frequency) k ≤ maxFrequency) ⌝ }
     ensures { λ _. ⌜ (length (now (prices .exit)) ≡ maxIntervals)
         × ((i : ℕ) → i < intervals
         → LeastBand (numbersIn (now (frequency .entry))) bands (numbersIn (now (size .entry)) i) (numbersIn (now (loads .entry)) i) (numbersIn (now (prices .exit)) i)) ⌝ }
 {
-    *prices = [0; MAX_INTERVALS];
     let mut i = 0;
     while i < intervals {
         let band = least_band(frequency, bands, size[i], loads[i]);
-        prices[i] = band as u64;
+        prices[i] = band as u8;
         i += 1;
     }
 }
@@ -78,10 +77,10 @@ fn least_band(frequency: &[u64; MAX_POINTS], bands: usize, size: u64, load: u64)
 // Goes over the jobs once, and answers whether a price was raised.
 fn raise_all(
     jobs: usize,
-    first: &[usize; MAX_JOBS],
-    last: &[usize; MAX_JOBS],
+    first: &[u8; MAX_JOBS],
+    last: &[u8; MAX_JOBS],
     shares: &[u32],
-    prices: &mut [u64; MAX_INTERVALS],
+    prices: &mut [u8; MAX_INTERVALS],
 ) -> bool
     requires { ⌜ WindowsRise jobs (now first) (now last) (now shares) (now prices) ⌝ }
     ensures { λ r. ⌜ WindowsRisen jobs (now (first .entry)) (now (last .entry)) (now (shares .entry)) (now (prices .entry)) (now (prices .exit)) r ⌝ }
@@ -89,7 +88,14 @@ fn raise_all(
     let mut changed = false;
     let mut job = 0;
     while job < jobs {
-        if raise_job(shares, prices, jobs, job, first[job], last[job]) {
+        if raise_job(
+            shares,
+            prices,
+            jobs,
+            job,
+            first[job] as usize,
+            last[job] as usize,
+        ) {
             changed = true;
         }
         job += 1;
@@ -100,7 +106,7 @@ fn raise_all(
 // Raises the prices of a job's window to the highest one at which it has a share, and answers whether one was lower.
 fn raise_job(
     shares: &[u32],
-    prices: &mut [u64; MAX_INTERVALS],
+    prices: &mut [u8; MAX_INTERVALS],
     jobs: usize,
     job: usize,
     first: usize,
@@ -121,12 +127,12 @@ fn raise_job(
 // The highest price among the intervals of a window in which a job has a share, 0 where it has none.
 fn highest_price(
     shares: &[u32],
-    prices: &[u64; MAX_INTERVALS],
+    prices: &[u8; MAX_INTERVALS],
     jobs: usize,
     job: usize,
     first: usize,
     last: usize,
-) -> u64
+) -> u8
     requires { ⌜ (job < jobs) × (first ≤ last) × (last ≤ maxIntervals) × (last * jobs ≤ length (now shares)) ⌝ }
     ensures { λ r. ⌜ HighestPrice (sharesIn jobs (now (shares .entry))) (numbersIn (now (prices .entry))) job first last r ⌝ }
 {

@@ -14,7 +14,7 @@ use lib.Dec.{ltb}
 use lib.ListN.{length, set, length-set}
 use lib.Seq.{getD-set-same, getD-set-other}
 use borrow.Author.Tests.{lt-ltb, le-ltb, ltb-true}
-use Rattle.model.specs.Limits.{maxJobs}
+use Rattle.model.specs.Limits.{maxJobs, maxIntervals}
 use Rattle.model.specs.Plans.{Shares}
 use Rattle.model.proofs.Numbers.{lt-or-le, true≢false, both-true}
 use Rattle.job_sets.specs.declared.JobSet.{JobSet}
@@ -22,6 +22,7 @@ use Rattle.job_sets.specs.JobSets.{isMember, isEmpty, noJobs, allJobs, withoutJ
 use Rattle.job_sets.proofs.JobSets.{none-has, all-has, without-here, without-other, both-has, empty-has}
 use Rattle.workloads.specs.Placement.{Problem, SoundProblem, OnlyOpen}
 use Rattle.workloads.specs.Arrays.{numbersIn}
+use Rattle.workloads.proofs.JobWindows.{window-small}
 use Rattle.searching.specs.Reached.{Appended, IsListed}
 use Rattle.searching.specs.Reaching.{SearchState, onlyJob, withReached, Reaching, ToScan, ScanOf}
 use Rattle.searching.proofs.Listing.{listed-kept}
@@ -122,6 +123,10 @@ module _ {p : Problem} (sound : SoundProblem p) (most : p .jobs ≤ maxJobs) {sh
       not-now k before other (inr here) = other here
 
 module _ {p : Problem} {shares : Shares} {job : ℕ} {holders : JobSet} {before : SearchState} {interval : ℕ} (to-scan : ToScan p shares job holders before interval) where
+  -- the interval's number is small
+  pub scan-small : interval < maxIntervals
+  scan-small = omega (arith, to-scan .to, to-scan .reaching .now .end-below, to-scan .intervals-most)
+
   -- no job yet: those that are not listed are new
   pub scan-start : ScanOf p shares job before interval (inBoth holders (before .unlisted)) before
   scan-start =
@@ -168,6 +173,10 @@ module _ {p : Problem} {shares : Shares} {job : ℕ} {holders : JobSet} {before 
         }
 
     module _ (j : ℕ) (is-new : isMember new j ≡ true) where
+      -- its window is among the intervals
+      pub scan-window : (p .first j < maxIntervals) × (p .last j ≤ maxIntervals)
+      scan-window = window-small (to-scan .sound) (to-scan .intervals-most) (scan .new-below j is-new)
+
       pub scan-room : found .count < maxJobs
       scan-room =
           reach-room (to-scan .sound) (to-scan .jobs-most) (to-scan .shut) (scan .reaching) {interval = interval}

@@ -16,22 +16,9 @@ use Rattle.job_sets.proofs.JobSets.{none-has}
 use Rattle.workloads.specs.Placement.{Problem, SoundProblem, OnlyOpen, loadOf}
 use Rattle.workloads.specs.Arrays.{numbersIn, RoomAt, Holding}
 use Rattle.searching.specs.Reached.{Scanned}
-use Rattle.searching.specs.Reaching.{SearchState, onlyJob, NextInterval, Reaching, ToScan, ScanOf, Searched}
+use Rattle.searching.specs.Reaching.{SearchState, onlyJob, Reaching, ToScan, ScanOf, Searched, Scanning, ScannedUp}
 use Rattle.searching.proofs.ReachedRange.{scanned-kept}
 use Rattle.searching.proofs.ScanSteps.{reaching-start}
-
--- The intervals from low up to, not including, high are scanned, and there is no target yet.
-pub record Scanning (p : Problem) (shares : Shares) (job band : ℕ) (found : SearchState) (low high : ℕ) : Type 0 where
-  pub reaching : Reaching p shares job found
-  pub no-target : found .target ≡ maxIntervals
-  pub from : found .start ≤ low
-  pub order : low ≤ high
-  pub to : high ≤ found .end
-  pub scanned : (i : ℕ) → low ≤ i → i < high → Scanned p shares band (found .count) (numbersIn (found .reached)) i
-
--- a longer range, within the intervals, leaves fewer to be scanned
-pub scan-measure : {before after : ℕ} → before < after → after ≤ maxIntervals → maxIntervals - after < maxIntervals - before
-scan-measure longer within = omega arith
 
 -- whether an interval has room
 module _ {p : Problem} {shares : Shares} {frequency : ℕ} {room : List ℕ} (room-at : RoomAt p shares frequency room) {i : ℕ} (inside : i < p .intervals) where
@@ -65,6 +52,11 @@ reaching-target reaching target =
       source-length = reaching .source-length;
     }
 
+-- an interval with room is met
+pub up-target : {p : Problem} {shares : Shares} {job band low : ℕ} {found : SearchState} → Searched p shares job band found
+    → found .target < maxIntervals → ScannedUp p shares job band low found
+up-target searched below = record { target = λ h. searched; none = λ past. absurd (omega arith) }
+
 module _ {p : Problem} (sound : SoundProblem p) (most : p .jobs ≤ maxJobs) {shares : Shares} {job band : ℕ} where
   -- nothing is scanned yet
   pub scanning-start : job < p .jobs → (reached source : List ℕ) → length reached ≡ maxJobs → length source ≡ maxJobs
@@ -81,59 +73,68 @@ module _ {p : Problem} (sound : SoundProblem p) (most : p .jobs ≤ maxJobs) {sh
         scanned = λ i from to. absurd (omega arith);
       }
 
-  module _ {found : SearchState} {low high next : ℕ} (scanning : Scanning p shares job band found low high)
-      (is-next : NextInterval low high (found .start) (found .end) next) where
+  module _ {found : SearchState} {low high : ℕ} (scanning : Scanning p shares job band found low high) where
     -- all that is reached is scanned
-    pub searched-closed : maxIntervals ≤ next → Searched p shares job band found
-    searched-closed last =
+    pub searched-closed : low ≤ found .start → found .end ≤ high → Searched p shares job band found
+    searched-closed all-below all-above =
         record {
           reaching = scanning .reaching;
           target = λ below. absurd (omega (arith, scanning .no-target));
-          closed = λ past i from to. scanning .scanned i (omega (arith, is-next .done last)) (omega (arith, is-next .done last));
+          closed = λ past i from to. scanning .scanned i (omega arith) (omega arith);
         }
 
-    module _ (below : next < maxIntervals) where
-      -- an interval with room
-      pub searched-target : loadOf p shares next < p .size next * p .frequency (suc band) → Searched p shares job band (withTarget found next)
-      searched-target room =
+    -- nothing above is reached
+    pub up-none : found .end ≤ high → ScannedUp p shares job band low found
+    up-none all-above =
+        let e : high ≡ found .end = omega (arith, scanning .to) in
+        record { target = λ below. absurd (omega (arith, scanning .no-target)); none = λ past. rw e at scanning }
+
+    -- a reached interval
+    module _ {next : ℕ} (from : found .start ≤ next) (to : next < found .end) where
+      pub next-inside : next < p .intervals
+      next-inside = omega (arith, scanning .reaching .now .end-below)
+
+      -- it has room
+      pub searched-target : loadOf p shares next < p .size next * p .frequency (suc band) → next < maxIntervals
+          → Searched p shares job band (withTarget found next)
+      searched-target room below =
           record {
             reaching = reaching-target (scanning .reaching) next;
-            target = λ h. record { from = is-next .inside below .0; to = is-next .inside below .1; room = room };
+            target = λ h. record { from = from; to = to; room = room };
             closed = λ past. absurd (omega arith);
           }
 
-      pub next-inside : next < p .intervals
-      next-inside = omega (arith, is-next .inside below, scanning .reaching .now .end-below)
-
-      pub next-to-scan : OnlyOpen p shares → {holders : List ℕ} → Holding p shares holders → ToScan p shares job (setIn holders next) found next
-      next-to-scan shut holding =
+      pub next-to-scan : p .intervals ≤ maxIntervals → OnlyOpen p shares → {holders : List ℕ} → Holding p shares holders
+          → ToScan p shares job (setIn holders next) found next
+      next-to-scan intervals-most shut holding =
           record {
             sound = sound;
             jobs-most = most;
+            intervals-most = intervals-most;
             shut = shut;
             reaching = scanning .reaching;
-            from = is-next .inside below .0;
-            to = is-next .inside below .1;
+            from = from;
+            to = to;
             held = λ j inside. holding .held next j next-inside inside;
             held-past = λ j past. holding .held-past next j next-inside past;
           }
 
-      -- an interval that is full is scanned
-      pub scanning-next : p .size next * p .frequency (suc band) ≤ loadOf p shares next → {after : SearchState} → ScanOf p shares job found next noJobs after
-          → Scanning p shares job band after (min low next) (max high (next + 1))
-      scanning-next full {after} scan =
+      -- it is full, and is scanned
+      pub scanning-next : p .size next * p .frequency (suc band) ≤ loadOf p shares next
+          → {after : SearchState} → ScanOf p shares job found next noJobs after
+          → {lower higher : ℕ} → low ≤ suc next → next ≤ high → lower ≡ min low next → higher ≡ max high (next + 1)
+          → Scanning p shares job band after lower higher
+      scanning-next full {after} scan {lower} {higher} beside-low beside-high is-lower is-higher =
           record {
             reaching = scan .reaching;
             no-target = scan .same-target ∙ scanning .no-target;
-            from = omega (arith, is-next .inside below, scanning .from, scan .start-most);
+            from = omega (arith, scanning .from, scan .start-most);
             order = omega (arith, scanning .order);
-            to = omega (arith, is-next .inside below, scanning .to, scan .end-least);
-            scanned = λ i from to. go i from to (ℕ-discrete i next);
+            to = omega (arith, scanning .to, scan .end-least);
+            scanned = λ i above under. go i above under (ℕ-discrete i next);
           }
         where
-          go : (i : ℕ) → min low next ≤ i → i < max high (next + 1) → Dec (i ≡ next)
-              → Scanned p shares band (after .count) (numbersIn (after .reached)) i
-          go i from to (yes here) = rw here (record { full = full; listed = λ j below share. scan .listed j below share (none-has j) })
-          go i from to (no other) =
-              scanned-kept (scan .longer) (scan .same)
-              (scanning .scanned i (omega (arith, other, is-next .beside below)) (omega (arith, other, is-next .beside below)))
+          go : (i : ℕ) → lower ≤ i → i < higher → Dec (i ≡ next) → Scanned p shares band (after .count) (numbersIn (after .reached)) i
+          go i above under (yes here) = rw here (record { full = full; listed = λ j below share. scan .listed j below share (none-has j) })
+          go i above under (no other) =
+              scanned-kept (scan .longer) (scan .same) (scanning .scanned i (omega (arith, other)) (omega (arith, other)))

@@ -1,5 +1,5 @@
 -- What the search has found, in plain arrays.
-use Prim.Native.Nat.{ℕ, suc, _+_, _-_, _*_, _<_, _≤_, min, max}
+use Prim.Native.Nat.{ℕ, suc, _+_, _*_, _<_, _≤_, min, max}
 use mathlib.Core.Path.{_≡_}
 use mathlib.Core.Bool.{true, false}
 use mathlib.Core.List.{List}
@@ -62,14 +62,6 @@ withReached found job source first last =
       target = found .target;
     }
 
--- The next interval to be scanned, beside those from low up to, not including, high, in a range from start to end; the
--- largest number of intervals where there is none.
-pub record NextInterval (low high start end next : ℕ) : Type 0 where
-  pub inside : next < maxIntervals → (start ≤ next) × (next < end)
-  pub beside : next < maxIntervals → (low ≤ suc next) × (next ≤ high)
-  pub new : next < maxIntervals → high - low < max high (next + 1) - min low next
-  pub done : maxIntervals ≤ next → (low ≤ start) × (end ≤ high)
-
 module _ (p : Problem) (shares : Shares) where
   -- The arrays of the search hold what is reached from a job, and a set has the jobs that are not.
   pub record Reaching (job : ℕ) (found : SearchState) : Type 0 where
@@ -83,6 +75,7 @@ module _ (p : Problem) (shares : Shares) where
   pub record ToScan (job : ℕ) (set : JobSet) (found : SearchState) (interval : ℕ) : Type 0 where
     pub sound : SoundProblem p
     pub jobs-most : p .jobs ≤ maxJobs
+    pub intervals-most : p .intervals ≤ maxIntervals
     pub shut : OnlyOpen p shares
     pub reaching : Reaching job found
     pub from : found .start ≤ interval
@@ -115,6 +108,20 @@ module _ (p : Problem) (shares : Shares) where
     pub target : found .target < maxIntervals → HasRoom band found
     pub closed : maxIntervals ≤ found .target → (i : ℕ) → found .start ≤ i → i < found .end
         → Scanned p shares band (found .count) (numbersIn (found .reached)) i
+
+  -- The intervals from low up to, not including, high are scanned, and there is no target yet.
+  pub record Scanning (job band : ℕ) (found : SearchState) (low high : ℕ) : Type 0 where
+    pub reaching : Reaching job found
+    pub no-target : found .target ≡ maxIntervals
+    pub from : found .start ≤ low
+    pub order : low ≤ high
+    pub to : high ≤ found .end
+    pub scanned : (i : ℕ) → low ≤ i → i < high → Scanned p shares band (found .count) (numbersIn (found .reached)) i
+
+  -- Above low, an interval with room is met, or all that is reached is scanned.
+  pub record ScannedUp (job band low : ℕ) (found : SearchState) : Type 0 where
+    pub target : found .target < maxIntervals → Searched job band found
+    pub none : maxIntervals ≤ found .target → Scanning job band found low (found .end)
 
   -- An interval with room at a band can be looked for: room and sets of jobs are those of the shares, and shares stand only
   -- where jobs are open.
@@ -166,3 +173,20 @@ abbrev pub Searches : (first last room holders : List ℕ) → (job : ℕ) → (
 Searches first last room holders job found =
     (p : Problem) (shares : Shares) (band : ℕ) → ToSearch (withWindows p (p .jobs) first last) shares room holders job band
     → Searched (withWindows p (p .jobs) first last) shares job band found
+
+-- Likewise: the intervals up to, not including, `high` are scanned, of some such problem.
+pub record CanScanUp (first last room holders : List ℕ) (found : SearchState) (high : ℕ) : Type 0 where
+  pub problem : Problem
+  pub shares : Shares
+  pub job : ℕ
+  pub band : ℕ
+  pub low : ℕ
+  pub to-search : ToSearch (withWindows problem (problem .jobs) first last) shares room holders job band
+  pub scanning : Scanning (withWindows problem (problem .jobs) first last) shares job band found low high
+
+-- Those above are scanned too, or one with room is met, of each such problem.
+abbrev pub ScansUp : (first last room holders : List ℕ) → (before : SearchState) → (high : ℕ) → (found : SearchState) → Type 0
+ScansUp first last room holders before high found =
+    (p : Problem) (shares : Shares) (job band low : ℕ) → ToSearch (withWindows p (p .jobs) first last) shares room holders job band
+    → Scanning (withWindows p (p .jobs) first last) shares job band before low high
+    → ScannedUp (withWindows p (p .jobs) first last) shares job band low found

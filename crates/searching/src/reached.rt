@@ -3,7 +3,7 @@ ghost use mathlib.Core.Path.{_≡_};
 ghost use Prim.Native.Nat.{ℕ, _<_, min, max};
 ghost use mathlib.Core.List.{List};
 ghost use lib.ListN.{length};
-ghost use Rattle.model.specs.Limits.{maxJobs};
+ghost use Rattle.model.specs.Limits.{maxJobs, maxIntervals};
 ghost use Rattle.searching.specs.Reaching.{stateOf, onlyJob, withReached, CanScan, Scans};
 use job_sets::JobSet;
 use model::MAX_INTERVALS;
@@ -11,7 +11,8 @@ use model::MAX_JOBS;
 
 // What is reached: `count` jobs, and the intervals from `start` up to, not including, `end`. `unlisted` is the set of the
 // other jobs. The target is an interval with room, MAX_INTERVALS where none was found. The jobs stand in an array beside
-// this, and in another one each but the first has an interval, its source, where it has a share.
+// this, and in another one each but the first has an interval, its source, where it has a share. Numbers of jobs and of
+// intervals fit a byte, and arrays of bytes are cleared sooner.
 pub struct Found {
     pub count: usize,
     pub start: usize,
@@ -37,13 +38,13 @@ pub(crate) fn only(job: usize, first: usize, last: usize) -> Found
 
 // Lists the jobs that have a share in a reached interval, which are those of a set.
 pub(crate) fn scan(
-    first: &[usize; MAX_JOBS],
-    last: &[usize; MAX_JOBS],
+    first: &[u8; MAX_JOBS],
+    last: &[u8; MAX_JOBS],
     set: JobSet,
     before: Found,
     interval: usize,
-    reached: &mut [usize; MAX_JOBS],
-    source: &mut [usize; MAX_JOBS],
+    reached: &mut [u8; MAX_JOBS],
+    source: &mut [u8; MAX_JOBS],
 ) -> Found
     requires { ⌜ CanScan (now first) (now last) set (stateOf before (now reached) (now source)) interval ⌝ }
     ensures { λ r. ⌜ Scans (now (first .entry)) (now (last .entry)) set (stateOf before (now (reached .entry)) (now (source .entry))) interval
@@ -53,7 +54,15 @@ pub(crate) fn scan(
     let mut new = job_sets::both(set, before.unlisted);
     while !job_sets::is_empty(new) {
         let job = job_sets::least(new);
-        found = reach(found, job, interval, first[job], last[job], reached, source);
+        found = reach(
+            found,
+            job,
+            interval,
+            first[job] as usize,
+            last[job] as usize,
+            reached,
+            source,
+        );
         new = job_sets::without(new, job);
     }
     found
@@ -66,17 +75,17 @@ fn reach(
     interval: usize,
     first: usize,
     last: usize,
-    reached: &mut [usize; MAX_JOBS],
-    source: &mut [usize; MAX_JOBS],
+    reached: &mut [u8; MAX_JOBS],
+    source: &mut [u8; MAX_JOBS],
 ) -> Found
-    requires { ⌜ (before .count < maxJobs) × (job < maxJobs) ⌝ }
+    requires { ⌜ (before .count < maxJobs) × (job < maxJobs) × (interval < maxIntervals) ⌝ }
     requires { ⌜ (length (now reached) ≡ maxJobs) × (length (now source) ≡ maxJobs) ⌝ }
     ensures { λ r. ⌜ stateOf r (now (reached .exit)) (now (source .exit))
         ≡ withReached (stateOf before (now (reached .entry)) (now (source .entry))) job interval first last ⌝ }
 {
     let count = before.count;
-    reached[count] = job;
-    source[count] = interval;
+    reached[count] = job as u8;
+    source[count] = interval as u8;
     let unlisted = job_sets::without(before.unlisted, job);
     Found {
         count: count + 1,
@@ -87,13 +96,13 @@ fn reach(
     }
 }
 
-pub(crate) fn smaller(a: usize, b: usize) -> usize
+fn smaller(a: usize, b: usize) -> usize
     ensures { λ r. ⌜ r ≡ min a b ⌝ }
 {
     if b < a { b } else { a }
 }
 
-pub(crate) fn larger(a: usize, b: usize) -> usize
+fn larger(a: usize, b: usize) -> usize
     ensures { λ r. ⌜ r ≡ max a b ⌝ }
 {
     if a < b { b } else { a }

@@ -1,29 +1,27 @@
 // The search for an interval with room: from the job being placed over the intervals in which it is open, the jobs with
 // shares there, the intervals in which those are open, and so on.
 ghost use mathlib.Core.Path.{_≡_};
-ghost use Prim.Native.Nat.{_≤_};
 ghost use lib.ListN.{length};
-ghost use Rattle.model.specs.Limits.{maxJobs, maxIntervals};
-ghost use Rattle.searching.specs.Reaching.{stateOf, NextInterval, CanSearch, Searches};
+ghost use Rattle.model.specs.Limits.{maxJobs};
+ghost use Rattle.searching.specs.Reaching.{stateOf, CanSearch, Searches, CanScanUp, ScansUp};
 use crate::reached::Found;
-use crate::reached::larger;
 use crate::reached::only;
 use crate::reached::scan;
-use crate::reached::smaller;
 use job_sets::SET_WORDS;
 use model::MAX_INTERVALS;
 use model::MAX_JOBS;
 
-// Looks for an interval with room. The scanned intervals go from low up to, not including, high. For each interval `room` has
-// the cycles that it still takes, and `holders` the set of the jobs with a share there.
+// Looks for an interval with room. It scans upwards as far as is reached, then one interval down, and again; the scanned
+// intervals go from low up to, not including, high. For each interval `room` has the cycles that it still takes, and `holders`
+// the set of the jobs with a share there.
 pub fn search(
-    first: &[usize; MAX_JOBS],
-    last: &[usize; MAX_JOBS],
+    first: &[u8; MAX_JOBS],
+    last: &[u8; MAX_JOBS],
     room: &[u64; MAX_INTERVALS],
     holders: &[u64; SET_WORDS],
     job: usize,
-    reached: &mut [usize; MAX_JOBS],
-    source: &mut [usize; MAX_JOBS],
+    reached: &mut [u8; MAX_JOBS],
+    source: &mut [u8; MAX_JOBS],
 ) -> Found
     requires { ⌜ CanSearch (now first) (now last) (now room) (now holders) job ⌝ }
     requires { ⌜ (length (now reached) ≡ maxJobs) × (length (now source) ≡ maxJobs) ⌝ }
@@ -31,35 +29,54 @@ pub fn search(
         × Searches (now (first .entry)) (now (last .entry)) (now (room .entry)) (now (holders .entry)) job
         (stateOf r (now (reached .exit)) (now (source .exit))) ⌝ }
 {
-    reached[0] = job;
-    let mut low = first[job];
+    reached[0] = job as u8;
+    let mut low = first[job] as usize;
     let mut high = low;
-    let mut found = only(job, low, last[job]);
-    let mut next = next_interval(low, high, found.start, found.end);
-    while next < MAX_INTERVALS {
-        if room[next] > 0 {
-            found.target = next;
+    let mut found = only(job, low, last[job] as usize);
+    loop {
+        found = scan_up(first, last, room, holders, found, high, reached, source);
+        if found.target < MAX_INTERVALS {
             return found;
         }
-        let set = job_sets::set_at(holders, next);
-        found = scan(first, last, set, found, next, reached, source);
-        low = smaller(low, next);
-        high = larger(high, next + 1);
-        next = next_interval(low, high, found.start, found.end);
+        if low <= found.start {
+            return found;
+        }
+        high = found.end;
+        low -= 1;
+        if room[low] > 0 {
+            found.target = low;
+            return found;
+        }
+        let set = job_sets::set_at(holders, low);
+        found = scan(first, last, set, found, low, reached, source);
     }
-    found
 }
 
-// An interval of a range beside those from low up to, not including, high.
-fn next_interval(low: usize, high: usize, start: usize, end: usize) -> usize
-    requires { ⌜ (start ≤ low) × (low ≤ high) × (high ≤ end) × (end ≤ maxIntervals) ⌝ }
-    ensures { λ r. ⌜ NextInterval low high start end r ⌝ }
+// Scans the reached intervals upwards from one on, also those that are reached on the way, and stops at one with room.
+fn scan_up(
+    first: &[u8; MAX_JOBS],
+    last: &[u8; MAX_JOBS],
+    room: &[u64; MAX_INTERVALS],
+    holders: &[u64; SET_WORDS],
+    before: Found,
+    from: usize,
+    reached: &mut [u8; MAX_JOBS],
+    source: &mut [u8; MAX_JOBS],
+) -> Found
+    requires { ⌜ CanScanUp (now first) (now last) (now room) (now holders) (stateOf before (now reached) (now source)) from ⌝ }
+    ensures { λ r. ⌜ ScansUp (now (first .entry)) (now (last .entry)) (now (room .entry)) (now (holders .entry))
+        (stateOf before (now (reached .entry)) (now (source .entry))) from (stateOf r (now (reached .exit)) (now (source .exit))) ⌝ }
 {
-    if high < end {
-        return high;
+    let mut found = before;
+    let mut high = from;
+    while high < found.end {
+        if room[high] > 0 {
+            found.target = high;
+            return found;
+        }
+        let set = job_sets::set_at(holders, high);
+        found = scan(first, last, set, found, high, reached, source);
+        high += 1;
     }
-    if start < low {
-        return low - 1;
-    }
-    MAX_INTERVALS
+    found
 }

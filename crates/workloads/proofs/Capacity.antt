@@ -8,7 +8,7 @@ use native.Mathlib.Omega.{arith}
 use Rattle.model.specs.Limits.{maxFrequency, maxDeadline}
 use Rattle.model.specs.Plans.{Shares}
 use Rattle.model.proofs.Numbers.{rises-between}
-use Rattle.workloads.specs.declared.Workload.{Workload}
+use Rattle.workloads.specs.Workloads.{Workload}
 use Rattle.workloads.specs.Placement.{Problem, SoundProblem, Open, loadOf, Priced}
 use Rattle.workloads.specs.Arrays.{numbersIn, SoundWorkload}
 

@@ -22,7 +22,7 @@ use Rattle.model.specs.Prices.{PriceList, FittingPrices}
 use Rattle.model.proofs.Numbers.{lt-or-le, true≢false, both-true}
 use Rattle.model.proofs.Intervals.{length-positive}
 use Rattle.model.proofs.LeastEnergy.{fitting-is-between}
-use Rattle.workloads.specs.declared.Workload.{Workload}
+use Rattle.workloads.specs.Workloads.{Workload}
 use Rattle.workloads.specs.Placement.{Priced, SmallestPriced}
 use Rattle.workloads.specs.RangesFit.{isWithin, RangesFit}
 use Rattle.workloads.specs.SiteProblem.{problemOf}

@@ -2,8 +2,7 @@
 -- Assumes nothing.
 use mathlib.Core.Path.{_≡_, refl}
 use mathlib.Core.List.{List}
-use Prim.Native.Nat.{ℕ, zero, suc, _+_, _<_, _≤_}
-use native.Mathlib.Decide.{ℕ-discrete}
+use Prim.Native.Nat.{ℕ, zero, suc, _+_, _<_}
 use native.Mathlib.Omega.{arith}
 use lib.ListN.{length, set, replicate}
 use lib.Seq.{getD-set-same, getD-set-other}
@@ -15,15 +14,6 @@ pub stored-more : (P : (place number : ℕ) → Type 0) (array : List ℕ) (i va
     → (k : ℕ) → k < i + 1 → P k (numbersIn (set array i value) k)
 stored-more P array i value inside before here =
     below-more _ i (λ k less. rw (getD-set-other array i k value 0 (λ e. omega arith)) (before k less)) (rw (getD-set-same array i value 0 inside) here)
-
--- a bound on all numbers of an array bounds them after a store within it
-pub stored-most : {bound : ℕ} (array : List ℕ) (i value : ℕ) → i < length array → ((k : ℕ) → numbersIn array k ≤ bound) → value ≤ bound
-    → (k : ℕ) → numbersIn (set array i value) k ≤ bound
-stored-most {bound} array i value inside most small k = go (ℕ-discrete k i)
-  where
-    go : Dec (k ≡ i) → numbersIn (set array i value) k ≤ bound
-    go (yes here) = rw (here, getD-set-same array i value 0 inside) small
-    go (no other) = rw (getD-set-other array i k value 0 other) (most k)
 
 -- an array of zeros
 pub zeros : (count i : ℕ) → numbersIn (replicate count 0) i ≡ 0

@@ -9,7 +9,7 @@ use Rattle.model.specs.Limits.{maxLevels, maxFrequency, maxJobs, maxDeadline, m
 use Rattle.model.specs.Plans.{Shares, sharesIn}
 use Rattle.job_sets.specs.JobSets.{isMember}
 use Rattle.job_sets.specs.IntervalSets.{setWords, setIn}
-use Rattle.workloads.specs.declared.Workload.{Workload}
+use Rattle.workloads.specs.Workloads.{Workload}
 use Rattle.workloads.specs.Placement.{Problem, SoundProblem, loadOf}
 
 -- The numbers of an array by place, 0 past its end.

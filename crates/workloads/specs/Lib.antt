@@ -2,4 +2,5 @@
 pub mod Placement
 pub mod RangesFit
 pub mod SiteProblem
+pub mod Workloads
 pub mod Arrays

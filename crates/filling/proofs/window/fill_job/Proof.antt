@@ -1,13 +1,15 @@
 -- `window::fill_job` meets its contract (proofs/Turns.antt). Assumes nothing.
 use mathlib.Core.Path.{_∙_}
-use Prim.Native.Nat.{ℕ, _<_}
+use Prim.Native.Nat.{ℕ, _<_, _≤_}
 use mathlib.Core.List.{List}
 use native.Mathlib.Omega.{arith}
 use borrow.Author.Needs.{needs}
 use denote.Ref.{now}
-use Rattle.workloads.specs.declared.Workload.{Workload}
+use Rattle.model.specs.Limits.{maxIntervals}
+use Rattle.workloads.specs.Workloads.{Workload}
 use Rattle.workloads.specs.Arrays.{numbersIn, lentWindows}
 use Rattle.workloads.proofs.SharesTable.{kept-refl}
+use Rattle.workloads.proofs.JobWindows.{window-small}
 use Rattle.filling.specs.OwnWindows.{CanFillRange, CanFillJob}
 use Rattle.filling.proofs.Turns.{turn-start, turn-end, left-same}
 use Rattle.filling.proofs.window.fill_job.Statement.{statement}
@@ -20,17 +22,26 @@ lent c work = let a = c .args in lentWindows work (a .turn .jobs) (now (a .first
 returns : tie.Need-returns
 returns c = λ work band prices left can. (kept-refl _ _, rw (left-same left _ (can .left-is ∙ c .if1 .taken)) (can .tables))
 
-mul-fill-range : tie.Need-mul-fill-range
-mul-fill-range c = search needs
+-- the job's window is among the intervals
+window : (c : tie.Start)
+    → let a = c .args in
+    (numbersIn (now (a .first)) (a .turn .job) < maxIntervals) × (numbersIn (now (a .last)) (a .turn .job) ≤ maxIntervals)
+window c =
+    let known = c .pre .4 in
+    let sound = known .tables .stored .sound in
+    window-small (sound .sound) (sound .intervals-most) (known .job-below)
 
 element-copy-out-fill-range : tie.Need-element-copy-out-fill-range
 element-copy-out-fill-range c = search needs
 
-mul-fill-range-2 : tie.Need-mul-fill-range-2
-mul-fill-range-2 c = search needs
+cast-fill-range : tie.Need-cast-fill-range
+cast-fill-range c = omega (arith, window (c .before .before .before .before .before .before .before) .0)
 
 element-copy-out-fill-range-2 : tie.Need-element-copy-out-fill-range-2
 element-copy-out-fill-range-2 c = search needs
+
+cast-fill-range-2 : tie.Need-cast-fill-range-2
+cast-fill-range-2 c = omega (arith, window (c .before .before .before .before .before .before .before .before) .1)
 
 -- the window can be filled
 can-fill : (c : tie.Else1)
@@ -69,10 +80,10 @@ fill-job-spec =
     tie.close
     (tie.spec
     returns
-    mul-fill-range
     element-copy-out-fill-range
-    mul-fill-range-2
+    cast-fill-range
     element-copy-out-fill-range-2
+    cast-fill-range-2
     fill-range-requires
     same-length
     returns-2)

@@ -1,22 +1,24 @@
 -- `window::fill_jobs` meets its contract. The loop's invariant: some cycles are placed. Assumes nothing.
-use mathlib.Core.Path.{refl}
-use Prim.Native.Nat.{_-_, _*_, _<_}
+use mathlib.Core.Path.{_≡_}
+use mathlib.Core.Bool.{true}
+use Prim.Native.Nat.{ℕ, _-_, _*_, _<_}
 use native.Mathlib.Omega.{arith}
 use denote.Ref.{now}
-use Rattle.model.specs.Limits.{maxJobs}
-use Rattle.workloads.specs.Arrays.{numbersIn, lentWindows, KeptPast}
+use Rattle.job_sets.specs.JobSets.{isMember}
+use Rattle.workloads.specs.Arrays.{lentWindows, KeptPast}
 use Rattle.workloads.proofs.SharesTable.{kept-refl, kept-trans}
 use Rattle.filling.specs.Filling.{FillingTables}
 use Rattle.filling.specs.OwnWindows.{WindowsPassed}
+use Rattle.filling.proofs.JobMembers.{leaving-below}
 use Rattle.filling.proofs.window.fill_jobs.Statement.{statement}
 use Rattle.filling.proofs.window.fill_jobs.Tie as tie
 
 abbrev Inv-loop : tie.InvT-loop
-Inv-loop first last order shares₀ room₀ holders₀ left₀ jobs k₀ shares room holders left k =
+Inv-loop first last «open» shares₀ room₀ holders₀ left₀ jobs intervals interval₀ shares room holders left interval =
     WindowsPassed jobs first last shares₀ room₀ holders₀ left₀ shares room holders left
 
 abbrev μ-loop : tie.MeasureT-loop
-μ-loop first last order shares₀ room₀ holders₀ left₀ jobs k₀ shares room holders left k = jobs - k
+μ-loop first last «open» shares₀ room₀ holders₀ left₀ jobs intervals interval₀ shares room holders left interval = intervals - interval
 
 -- the function's entry
 abbrev entry : tie.At-loop Inv-loop μ-loop → tie.Start Inv-loop μ-loop
@@ -34,54 +36,33 @@ own : (c : tie.At-loop Inv-loop μ-loop)
     (c .loop .left) (known .2) (known .1) 0
 own c = let known = entry c .pre .0 in c .loop .inv (known .0) (known .1) (known .2) (known .3)
 
--- the place in the order and the job there fit the arrays
-below : (c : tie.In-loop Inv-loop μ-loop) → c .before .loop .k < maxJobs
-below c = omega (arith, c .loop-test .taken, entry (c .before) .pre .0 .3 .stored .sound .jobs-most)
+leaving-requires : tie.Need-leaving-requires Inv-loop μ-loop
+leaving-requires c κs = (c .loop-test .taken, entry (c .before) .pre .1 .0)
 
-job-below : (c : tie.In-loop Inv-loop μ-loop) → let a = entry (c .before) .args in numbersIn (now (a .order)) (c .before .loop .k) < a .jobs
-job-below c = entry (c .before) .pre .1 (c .before .loop .k) (c .loop-test .taken)
+-- those that leave are jobs
+all-jobs : (c : tie.After-leaving Inv-loop μ-loop) → (j : ℕ) → isMember (c .leaving .result) j ≡ true → j < entry (c .before .before) .args .jobs
+all-jobs c = leaving-below _ _ _ (entry (c .before .before) .pre .1 .1) _ (c .before .loop-test .taken) _ (c .leaving .ensures)
 
-job-small : (c : tie.In-loop Inv-loop μ-loop) → numbersIn (now (entry (c .before) .args .order)) (c .before .loop .k) < maxJobs
-job-small c = omega (arith, job-below c, entry (c .before) .pre .0 .3 .stored .sound .jobs-most)
-
-mul-job : tie.Need-mul-job Inv-loop μ-loop
-mul-job c = omega (arith, below c)
-
-element-copy-out-job : tie.Need-element-copy-out-job Inv-loop μ-loop
-element-copy-out-job c = below c
-
-mul-left : tie.Need-mul-left Inv-loop μ-loop
-mul-left c = omega (arith, job-small (c .before))
-
-element-copy-out-left : tie.Need-element-copy-out-left Inv-loop μ-loop
-element-copy-out-left c = job-small (c .before)
-
-fill-job-requires : tie.Need-fill-job-requires Inv-loop μ-loop
-fill-job-requires c κs =
-    let turn = c .before .before .before .before .before in
-    let head = turn .before in
+fill-set-requires : tie.Need-fill-set-requires Inv-loop μ-loop
+fill-set-requires c κs =
+    let here = c .before .before .before .before in
+    let head = here .before .before in
     let known = entry head .pre .0 in
-    (known .0, known .1, known .2, head .loop .left, record { job-below = job-below turn; left-is = refl; tables = own head .1 })
+    ((known .0, known .1, known .2, own head .1), all-jobs here)
 
-mul-left-2 : tie.Need-mul-left-2 Inv-loop μ-loop
-mul-left-2 c = omega (arith, job-small (c .before .before .before .before .before .before .before .before))
-
-element-write-left : tie.Need-element-write-left Inv-loop μ-loop
-element-write-left c = job-small (c .before .before .before .before .before .before .before .before)
-
-add-k : tie.Need-add-k Inv-loop μ-loop
-add-k c = omega (arith, below (c .before .before .before .before .before .before .before .before))
+add-interval : tie.Need-add-interval Inv-loop μ-loop
+add-interval c =
+    let turn = c .before .before .before .before .before .before .before .before in
+    omega (arith, turn .loop-test .taken, entry (turn .before) .pre .1 .0)
 
 loop-less : tie.Need-loop-less Inv-loop μ-loop
 loop-less c = omega (arith, c .before .before .before .before .before .before .before .before .loop-test .taken)
 
 loop-again : tie.Need-loop-again Inv-loop μ-loop
 loop-again c = λ work band prices tables.
-    let turn = c .before .before .before .before .before .before .before .before in
-    let head = turn .before in
+    let head = c .before .before .before .before .before .before .before .before .before in
     let (kept, filling) = head .loop .inv work band prices tables in
-    let (kept-next, next) = c .before .before .fill-job .ensures work band prices (head .loop .left)
-    (record { job-below = job-below turn; left-is = refl; tables = filling }) in
+    let (kept-next, next) = c .before .before .fill-set .ensures work band prices filling in
     (kept-trans kept kept-next, next)
 
 same-length : tie.Need-same-length Inv-loop μ-loop
@@ -97,14 +78,9 @@ fill-jobs-spec =
     Inv-loop
     μ-loop
     loop-holds
-    mul-job
-    element-copy-out-job
-    mul-left
-    element-copy-out-left
-    fill-job-requires
-    mul-left-2
-    element-write-left
-    add-k
+    leaving-requires
+    fill-set-requires
+    add-interval
     loop-less
     loop-again
     same-length

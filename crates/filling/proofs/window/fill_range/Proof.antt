@@ -3,7 +3,7 @@
 use Prim.Native.Nat.{ℕ, _+_, _-_, _*_, _≤_}
 use native.Mathlib.Omega.{arith}
 use denote.Ref.{now}
-use Rattle.workloads.specs.declared.Workload.{Workload}
+use Rattle.workloads.specs.Workloads.{Workload}
 use Rattle.workloads.specs.Arrays.{lentJobs, KeptPast}
 use Rattle.workloads.proofs.SharesTable.{kept-refl, kept-trans}
 use Rattle.paths.specs.FilledTargets.{PlacingTables}

@@ -7,7 +7,7 @@ use lib.ListN.{length, length-replicate}
 use denote.Ref.{now}
 use Rattle.model.specs.Limits.{maxJobs}
 use Rattle.model.specs.Plans.{sharesIn}
-use Rattle.workloads.specs.declared.Workload.{Workload}
+use Rattle.workloads.specs.Workloads.{Workload}
 use Rattle.workloads.specs.Arrays.{problemIn, lentWindows, KeptPast}
 use Rattle.workloads.proofs.SharesTable.{kept-refl, kept-trans}
 use Rattle.searching.specs.Reaching.{stateOf, Searched}

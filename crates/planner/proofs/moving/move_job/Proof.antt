@@ -1,13 +1,15 @@
 -- `moving::move_job` meets its contract (proofs/PlaceSteps.antt). Assumes nothing.
 use mathlib.Core.Path.{_∙_}
 use mathlib.Core.List.{List}
-use Prim.Native.Nat.{ℕ, _<_}
+use Prim.Native.Nat.{ℕ, _<_, _≤_}
 use native.Mathlib.Omega.{arith}
 use borrow.Author.Needs.{needs}
 use denote.Ref.{now}
-use Rattle.workloads.specs.declared.Workload.{Workload}
+use Rattle.model.specs.Limits.{maxIntervals, maxLevels}
+use Rattle.workloads.specs.Workloads.{Workload}
 use Rattle.workloads.specs.Arrays.{numbersIn, lentWindows}
 use Rattle.workloads.proofs.SharesTable.{kept-refl}
+use Rattle.workloads.proofs.JobWindows.{window-small}
 use Rattle.paths.specs.FilledTargets.{PlacingTables}
 use Rattle.prices.proofs.RaisedPrices.{raised-up}
 use Rattle.filling.proofs.Turns.{turn-start}
@@ -32,26 +34,38 @@ returns c = λ work left can. (
   raise-passed (can .can) (can .left-is ∙ c .if1 .taken) (λ i inside has is-open. absurd (omega (arith, can .left-is, c .if1 .taken))),
 )
 
-mul-is-below : tie.Need-mul-is-below
-mul-is-below c = search needs
+-- the job's window is among the intervals
+window : (c : tie.Start)
+    → let a = c .args in
+    (numbersIn (now (a .first)) (a .turn .job) < maxIntervals) × (numbersIn (now (a .last)) (a .turn .job) ≤ maxIntervals)
+window c =
+    let known = c .pre .2 in
+    let sound = known .can .tables .stored .sound in
+    window-small (sound .sound) (sound .intervals-most) (known .job-below)
 
 element-copy-out-is-below : tie.Need-element-copy-out-is-below
 element-copy-out-is-below c = search needs
 
-mul-is-below-2 : tie.Need-mul-is-below-2
-mul-is-below-2 c = search needs
+cast-is-below : tie.Need-cast-is-below
+cast-is-below c = omega (arith, window (c .before .before .before .before .before) .0)
 
 element-copy-out-is-below-2 : tie.Need-element-copy-out-is-below-2
 element-copy-out-is-below-2 c = search needs
 
+cast-is-below-2 : tie.Need-cast-is-below-2
+cast-is-below-2 c = omega (arith, window (c .before .before .before .before .before .before) .1)
+
+-- the band is small: a price past it fits a byte
+band-small : (c : tie.Start) → c .args .band < maxLevels
+band-small c =
+    let tables = c .pre .2 .can .tables in
+    omega (arith, tables .band-below, tables .stored .sound .bands-most)
+
 add-is-below : tie.Need-add-is-below
-add-is-below c = search needs
+add-is-below c = omega (arith, band-small (c .before .before .before .before .before .before))
 
 is-below-requires : tie.Need-is-below-requires
-is-below-requires c κs =
-    let known = c .before .before .before .before .before .before .pre .2 in
-    let sound = known .can .tables .stored .sound in
-    omega (arith, sound .sound .inside _ (known .job-below), sound .intervals-most)
+is-below-requires c κs = window (c .before .before .before .before .before .before) .1
 
 -- the job is placed
 placing : (c : tie.Else1)
@@ -93,7 +107,7 @@ returns-2 c = λ work left can.
     )
 
 add-raise : tie.Need-add-raise
-add-raise c = search needs
+add-raise c = omega (arith, band-small (c .before .before .before .before .before .before .before .before .before .before .before .before .before .before .before .before .before))
 
 -- some cycles are left
 lacks : (c : tie.Else3) → 0 < c .before .before .before .before .move-cycles .result .left
@@ -133,10 +147,10 @@ move-job-spec =
     tie.close
     (tie.spec
     returns
-    mul-is-below
     element-copy-out-is-below
-    mul-is-below-2
+    cast-is-below
     element-copy-out-is-below-2
+    cast-is-below-2
     add-is-below
     is-below-requires
     move-cycles-requires

@@ -1,12 +1,12 @@
 -- `placement::place` meets its contract. The loop's invariant: the bands before `band` are done (proofs/PlaceSteps.antt).
 -- Assumes nothing.
-use mathlib.Core.Path.{_≡_, refl}
-use Prim.Native.Nat.{_+_, _-_, _*_, _<_, _≤_}
+use mathlib.Core.Path.{_≡_, refl, ap, _∙_}
+use Prim.Native.Nat.{ℕ, _+_, _-_, _*_, _<_, _≤_}
 use native.Mathlib.Omega.{arith}
-use lib.ListN.{length}
+use lib.ListN.{length, length-replicate}
 use denote.Ref.{now}
 use Rattle.model.specs.Limits.{maxLevels, maxIntervals}
-use Rattle.workloads.specs.declared.Workload.{Workload}
+use Rattle.workloads.specs.Workloads.{Workload}
 use Rattle.workloads.specs.Arrays.{numbersIn, workloadWith, KeptPast}
 use Rattle.workloads.proofs.SharesTable.{kept-refl, kept-trans}
 use Rattle.filling.specs.Filling.{FillingTables}
@@ -17,14 +17,14 @@ use Rattle.planner.proofs.placement.place.Statement.{statement}
 use Rattle.planner.proofs.placement.place.Tie as tie
 
 abbrev Inv-loop : tie.InvT-loop
-Inv-loop jobs intervals bands first last cycles size frequency shares₀ loads₀ prices₀ holders₀ left₀ order band₀ shares loads prices holders left band =
+Inv-loop jobs intervals bands first last cycles size frequency «open» shares₀ loads₀ prices₀ holders₀ left₀ band₀ shares loads prices holders left band =
     (band ≤ bands)
     × KeptPast (intervals * jobs) shares₀ shares
     × (length prices ≡ maxIntervals)
     × BandStart (workloadWith cycles jobs intervals bands first last size frequency) shares loads holders left (numbersIn prices) band
 
 abbrev μ-loop : tie.MeasureT-loop
-μ-loop jobs intervals bands first last cycles size frequency shares₀ loads₀ prices₀ holders₀ left₀ order band₀ shares loads prices holders left band =
+μ-loop jobs intervals bands first last cycles size frequency «open» shares₀ loads₀ prices₀ holders₀ left₀ band₀ shares loads prices holders left band =
     bands - band
 
 mul-clear : tie.Need-mul-clear Inv-loop μ-loop
@@ -33,12 +33,9 @@ mul-clear c = omega (arith, c .before .before .pre .1 .1 .0)
 clear-requires : tie.Need-clear-requires Inv-loop μ-loop
 clear-requires c κs = c .before .before .pre .1 .1 .0
 
-by-deadline-requires : tie.Need-by-deadline-requires Inv-loop μ-loop
-by-deadline-requires c κs = c .before .before .before .before .before .before .before .before .before .pre .0 .jobs-most
-
 -- the function's entry
 abbrev entry : tie.At-loop Inv-loop μ-loop → tie.Start Inv-loop μ-loop
-entry c = c .before .before .before .before .before .before .before .before .before .before .before
+entry c = c .before .before .before .before .before .before .before
 
 -- the workload that is lent
 abbrev lent : tie.Start Inv-loop μ-loop → Workload
@@ -48,12 +45,14 @@ lent c =
 
 loop-holds : tie.Need-loop-holds Inv-loop μ-loop
 loop-holds c =
-    let start = c .before .before .before .before .before .before .before .before .before .before in
-    let clear = c .before .before .before .before .before .before .before .clear in (
+    let start = c .before .before .before .before .before .before in
+    let clear = c .before .before .before .clear in
+    let (no-room, no-price, no-holder) = start .pre .1 .1 .1 .1 .1 in (
       omega arith,
       kept-refl _ _,
-      refl,
-      tables-start (start .pre .0) (start .pre .1 .1 .1) (clear .last .0) (omega (arith, start .pre .1 .1 .0, clear .ensures .0 .same-length)) (clear .ensures .1),
+      ap length no-price ∙ length-replicate {A = ℕ} maxIntervals 0,
+      tables-start (start .pre .0) (start .pre .1 .1 .1 .0) (clear .last .0) (omega (arith, start .pre .1 .1 .0, clear .ensures .0 .same-length)) (clear .ensures .1)
+          no-room no-holder no-price,
     )
 
 -- the band has an end
@@ -97,38 +96,42 @@ opened c =
 
 fill-jobs-requires : tie.Need-fill-jobs-requires Inv-loop μ-loop
 fill-jobs-requires c κs =
-    let begun = c .before .before .before .before .before in
+    let begun = c .before .before .before .before in
     let head = begun .before .before .before .before .before in
-    ((lent (entry head), head .loop .band, numbersIn (head .loop .prices), opened begun), head .before .by-deadline .ensures)
+    let pre = entry head .pre in
+    ((lent (entry head), head .loop .band, numbersIn (head .loop .prices), opened begun), (pre .0 .intervals-most, pre .1 .1 .1 .1 .0))
 
 -- the windows are filled
 filled : (c : tie.After-fill-jobs Inv-loop μ-loop)
-    → let head = c .before .before .before .before .before .before .before .before .before .before .before in
+    → let head = c .before .before .before .before .before .before .before .before .before .before in
     let work = lent (entry head) in
     KeptPast (work .intervals * work .jobs) (head .loop .shares) (c .fill-jobs .last .1 .1 .1 .0)
     × FillingTables work (c .fill-jobs .last .1 .1 .1 .0) (c .fill-jobs .last .1 .1 .1 .1 .0) (c .fill-jobs .last .1 .1 .1 .1 .1 .0)
     (c .fill-jobs .last .1 .1 .1 .1 .1 .1 .0) (numbersIn (head .loop .prices)) (head .loop .band) 0
 filled c =
-    let begun = c .before .before .before .before .before .before in
+    let begun = c .before .before .before .before .before in
     let head = begun .before .before .before .before .before in
     c .fill-jobs .ensures (lent (entry head)) (head .loop .band) (numbersIn (head .loop .prices)) (opened begun)
 
 can-move : (c : tie.After-fill-jobs Inv-loop μ-loop)
-    → let head = c .before .before .before .before .before .before .before .before .before .before .before in
+    → let head = c .before .before .before .before .before .before .before .before .before .before in
     CanRaise (lent (entry head)) (c .fill-jobs .last .1 .1 .1 .0) (c .fill-jobs .last .1 .1 .1 .1 .0) (c .fill-jobs .last .1 .1 .1 .1 .1 .0)
     (head .loop .prices) (c .fill-jobs .last .1 .1 .1 .1 .1 .1 .0) (head .loop .band) 0
 can-move c =
-    let head = c .before .before .before .before .before .before .before .before .before .before .before in
+    let head = c .before .before .before .before .before .before .before .before .before .before in
     record { fit = entry head .pre .1 .0; prices-length = head .loop .inv .2; tables = filled c .1 }
+
+cast-move-jobs : tie.Need-cast-move-jobs Inv-loop μ-loop
+cast-move-jobs c = omega (arith, end-inside (c .before .before .before .before .before .before .before .before .before .before .before .before .before .before .before .before))
 
 move-jobs-requires : tie.Need-move-jobs-requires Inv-loop μ-loop
 move-jobs-requires c κs =
     let windows = c .before .before .before .before .before .before .before in
-    (lent (entry (windows .before .before .before .before .before .before .before .before .before .before .before)), can-move windows)
+    (lent (entry (windows .before .before .before .before .before .before .before .before .before .before)), can-move windows)
 
 -- the turn of a loop
 abbrev turn-of : tie.After-slice-known4 Inv-loop μ-loop → tie.In-loop Inv-loop μ-loop
-turn-of c = c .before .before .before .before .before .before .before .before .before .before .before .before .before .before .before .before .before .before .before .before
+turn-of c = c .before .before .before .before .before .before .before .before .before .before .before .before .before .before .before .before .before .before .before
 
 add-band : tie.Need-add-band Inv-loop μ-loop
 add-band c = omega (arith, end-inside (turn-of c))
@@ -167,7 +170,7 @@ loads-of-requires c κs =
 kept : (c : tie.After-loop Inv-loop μ-loop)
     → let a = entry (c .before) .args in
     KeptPast (a .intervals * a .jobs) (now (a .shares)) (c .before .loop .shares)
-kept c = kept-trans (c .before .before .before .before .before .before .before .before .before .clear .ensures .0) (c .before .loop .inv .1)
+kept c = kept-trans (c .before .before .before .before .before .clear .ensures .0) (c .before .loop .inv .1)
 
 same-length : tie.Need-same-length Inv-loop μ-loop
 same-length c = kept (c .before .before .before) .same-length
@@ -187,7 +190,6 @@ place-spec =
     μ-loop
     mul-clear
     clear-requires
-    by-deadline-requires
     loop-holds
     add-gap
     mul-gap
@@ -197,6 +199,7 @@ place-spec =
     sub-gap
     add-band-requires
     fill-jobs-requires
+    cast-move-jobs
     move-jobs-requires
     add-band
     loop-less

@@ -21,14 +21,8 @@ abbrev μ-loop : tie.MeasureT-loop
 loop-holds : tie.Need-loop-holds Inv-loop μ-loop
 loop-holds c = (omega arith, omega arith, c .pre .0, raised-none _ _ _)
 
-mul-if1 : tie.Need-mul-if1 Inv-loop μ-loop
-mul-if1 c = omega arith
-
 element-copy-out-if1 : tie.Need-element-copy-out-if1 Inv-loop μ-loop
 element-copy-out-if1 c = omega arith
-
-mul-prices : tie.Need-mul-prices Inv-loop μ-loop
-mul-prices c = omega arith
 
 element-write-prices : tie.Need-element-write-prices Inv-loop μ-loop
 element-write-prices c = omega arith
@@ -64,9 +58,7 @@ raise-spec =
     Inv-loop
     μ-loop
     loop-holds
-    mul-if1
     element-copy-out-if1
-    mul-prices
     element-write-prices
     add-i
     loop-less

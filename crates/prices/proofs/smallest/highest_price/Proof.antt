@@ -40,14 +40,8 @@ mul-if1-2 c = omega (arith, inside c)
 shared-slice-read-if1 : tie.Need-shared-slice-read-if1 Inv-loop μ-loop
 shared-slice-read-if1 c = inside (c .before)
 
-mul-if2 : tie.Need-mul-if2 Inv-loop μ-loop
-mul-if2 c = omega arith
-
 element-copy-out-if2 : tie.Need-element-copy-out-if2 Inv-loop μ-loop
 element-copy-out-if2 c = omega arith
-
-mul-highest : tie.Need-mul-highest Inv-loop μ-loop
-mul-highest c = omega arith
 
 element-copy-out-highest : tie.Need-element-copy-out-highest Inv-loop μ-loop
 element-copy-out-highest c = omega arith
@@ -85,9 +79,7 @@ highest-price-spec =
     add-if1
     mul-if1-2
     shared-slice-read-if1
-    mul-if2
     element-copy-out-if2
-    mul-highest
     element-copy-out-highest
     add-i
     loop-less

@@ -1,5 +1,5 @@
 -- `smallest::least_prices` meets its contract. The loop's invariant: the prices before `i` are the least. Assumes nothing.
-use mathlib.Core.Path.{_≡_, refl, _∙_}
+use mathlib.Core.Path.{_≡_, _∙_}
 use Prim.Native.Nat.{ℕ, _-_, _<_, _≤_}
 use native.Mathlib.Omega.{arith}
 use lib.ListN.{length, length-set}
@@ -22,7 +22,7 @@ abbrev μ-loop : tie.MeasureT-loop
 μ-loop intervals bands size frequency loads prices₀ i₀ prices i = intervals - i
 
 loop-holds : tie.Need-loop-holds Inv-loop μ-loop
-loop-holds c = (omega arith, refl, below-none _)
+loop-holds c = (omega arith, c .pre .0 .2, below-none _)
 
 -- the interval's number fits the arrays
 below : (c : tie.In-loop Inv-loop μ-loop) → c .before .loop .i < maxIntervals
@@ -42,11 +42,11 @@ element-copy-out-least-band-2 c = below (c .before)
 
 least-band-requires : tie.Need-least-band-requires Inv-loop μ-loop
 least-band-requires c κs =
-    let pre = c .before .before .before .before .before .pre in
+    let pre = c .before .before .before .before .pre in
     (pre .0 .1, pre .1 .0 _ (c .before .before .loop-test .taken), pre .1 .1)
 
-mul-prices : tie.Need-mul-prices Inv-loop μ-loop
-mul-prices c = omega (arith, below (c .before .before .before))
+cast-prices : tie.Need-cast-prices Inv-loop μ-loop
+cast-prices c = omega (arith, c .least-band .ensures .0, c .before .before .before .before .before .pre .0 .1)
 
 element-write-prices : tie.Need-element-write-prices Inv-loop μ-loop
 element-write-prices c = below (c .before .before .before)
@@ -60,7 +60,7 @@ loop-less c = omega (arith, c .before .before .before .loop-test .taken)
 loop-again : tie.Need-loop-again Inv-loop μ-loop
 loop-again c =
     let turn = c .before .before .before in
-    let a = turn .before .before .before .args in
+    let a = turn .before .before .args in
     let prices = turn .before .loop .prices in
     let i = turn .before .loop .i in
     let inv = turn .before .loop .inv in
@@ -73,7 +73,7 @@ loop-again c =
 
 returns : tie.Need-returns Inv-loop μ-loop
 returns c =
-    let all : c .before .loop .i ≡ c .before .before .before .args .intervals = omega arith in
+    let all : c .before .loop .i ≡ c .before .before .args .intervals = omega arith in
     (c .before .loop .inv .1, rw all at (c .before .loop .inv .2))
 
 pub least-prices-spec : {M : Type 1} → statement M
@@ -88,7 +88,7 @@ least-prices-spec =
     mul-least-band-2
     element-copy-out-least-band-2
     least-band-requires
-    mul-prices
+    cast-prices
     element-write-prices
     add-i
     loop-less

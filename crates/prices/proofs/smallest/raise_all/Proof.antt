@@ -5,9 +5,11 @@ use mathlib.Core.Logic.{⊎-elim}
 use Prim.Native.Nat.{_-_, _<_, _≤_}
 use native.Mathlib.Nat.{mul-le-mul-right}
 use native.Mathlib.Omega.{arith}
-use Rattle.model.specs.Limits.{maxJobs}
-use Rattle.workloads.specs.declared.Workload.{Workload}
-use Rattle.workloads.specs.Arrays.{lentWindows}
+use denote.Ref.{now}
+use Rattle.model.specs.Limits.{maxJobs, maxIntervals}
+use Rattle.workloads.specs.Workloads.{Workload}
+use Rattle.workloads.specs.Arrays.{numbersIn, lentWindows}
+use Rattle.workloads.proofs.JobWindows.{window-small}
 use Rattle.prices.specs.RisingPrices.{CanRise, RisePass}
 use Rattle.prices.proofs.RisePasses.{pass-start, pass-raised, pass-settled}
 use Rattle.prices.proofs.smallest.raise_all.Statement.{statement}
@@ -33,17 +35,26 @@ loop-holds c = (omega arith, λ work can. pass-start can)
 below : (c : tie.In-loop Inv-loop μ-loop) → c .before .loop .job < maxJobs
 below c = omega (arith, entry (c .before) .pre .1 .sound .jobs-most)
 
-mul-raise-job : tie.Need-mul-raise-job Inv-loop μ-loop
-mul-raise-job c = omega (arith, below (c .before))
+-- its window is among the intervals
+window : (c : tie.In-loop Inv-loop μ-loop)
+    → let a = entry (c .before) .args in
+    let job = c .before .loop .job in
+    (numbersIn (now (a .first)) job < maxIntervals) × (numbersIn (now (a .last)) job ≤ maxIntervals)
+window c =
+    let sound = entry (c .before) .pre .1 .sound in
+    window-small (sound .sound) (sound .intervals-most) (c .loop-test .taken)
 
 element-copy-out-raise-job : tie.Need-element-copy-out-raise-job Inv-loop μ-loop
 element-copy-out-raise-job c = below (c .before)
 
-mul-raise-job-2 : tie.Need-mul-raise-job-2 Inv-loop μ-loop
-mul-raise-job-2 c = omega (arith, below (c .before .before))
+cast-raise-job : tie.Need-cast-raise-job Inv-loop μ-loop
+cast-raise-job c = omega (arith, window (c .before .before) .0)
 
 element-copy-out-raise-job-2 : tie.Need-element-copy-out-raise-job-2 Inv-loop μ-loop
 element-copy-out-raise-job-2 c = below (c .before .before)
+
+cast-raise-job-2 : tie.Need-cast-raise-job-2 Inv-loop μ-loop
+cast-raise-job-2 c = omega (arith, window (c .before .before .before) .1)
 
 raise-job-requires : tie.Need-raise-job-requires Inv-loop μ-loop
 raise-job-requires c κs =
@@ -87,10 +98,10 @@ raise-all-spec =
     Inv-loop
     μ-loop
     loop-holds
-    mul-raise-job
     element-copy-out-raise-job
-    mul-raise-job-2
+    cast-raise-job
     element-copy-out-raise-job-2
+    cast-raise-job-2
     raise-job-requires
     add-job
     loop-less

@@ -3,7 +3,7 @@
 use Prim.Native.Nat.{ℕ}
 use mathlib.Core.List.{List}
 use denote.Ref.{now}
-use Rattle.workloads.specs.declared.Workload.{Workload}
+use Rattle.workloads.specs.Workloads.{Workload}
 use Rattle.workloads.specs.Arrays.{numbersIn, workloadWith}
 use Rattle.prices.specs.RisingPrices.{roomLeft, CanPrice, CanRise, RisePass}
 use Rattle.prices.proofs.RisePasses.{rise-start, rise-again, rise-end}
@@ -34,14 +34,15 @@ Priceable c cycles = CanPrice (lent c cycles) (now (c .args .shares)) (now (c .a
 
 least-prices-requires : tie.Need-least-prices-requires Inv-loop μ-loop
 least-prices-requires c κs =
-    let sound = c .before .before .pre .1 .sound in
-    ((sound .intervals-most, sound .bands-most), (sound .size-most, sound .frequency-most))
+    let pre = c .before .before .pre in
+    let sound = pre .0 .1 .sound in
+    ((sound .intervals-most, sound .bands-most, pre .1), (sound .size-most, sound .frequency-most))
 
 loop-holds : tie.Need-loop-holds Inv-loop μ-loop
 loop-holds c = λ cycles can. rise-start can (c .least-prices .ensures .0) (c .least-prices .ensures .1)
 
 raise-all-requires : tie.Need-raise-all-requires Inv-loop μ-loop
-raise-all-requires c κs = let (cycles, can) = entry (c .before) .pre in (lent (entry (c .before)) cycles, c .before .loop .inv cycles can)
+raise-all-requires c κs = let (cycles, can) = entry (c .before) .pre .0 in (lent (entry (c .before)) cycles, c .before .loop .inv cycles can)
 
 -- a pass over the jobs
 pass : (c : tie.After-raise-all Inv-loop μ-loop) (cycles : List ℕ) → Priceable (entry (c .before .before)) cycles
@@ -50,14 +51,14 @@ pass : (c : tie.After-raise-all Inv-loop μ-loop) (cycles : List ℕ) → Pricea
 pass c cycles can = c .raise-all .ensures (lent (entry (c .before .before)) cycles) (c .before .before .loop .inv cycles can)
 
 loop-less : tie.Need-loop-less Inv-loop μ-loop
-loop-less c = let (cycles, can) = entry (c .before .before .before) .pre in pass (c .before) cycles can .falls (c .if1 .taken)
+loop-less c = let (cycles, can) = entry (c .before .before .before) .pre .0 in pass (c .before) cycles can .falls (c .if1 .taken)
 
 loop-again : tie.Need-loop-again Inv-loop μ-loop
 loop-again c = λ cycles can. rise-again (c .before .before .before .loop .inv cycles can) (pass (c .before) cycles can)
 
 returns : tie.Need-returns Inv-loop μ-loop
 returns c =
-    let (own, known) = entry (c .before .before .before) .pre in (
+    let (own, known) = entry (c .before .before .before) .pre .0 in (
       λ cycles can. rise-end (c .before .before .before .loop .inv cycles can) (pass (c .before) cycles can) (c .if1 .left),
       pass (c .before) own known .prices-length,
     )

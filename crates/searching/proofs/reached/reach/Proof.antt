@@ -3,14 +3,14 @@ use borrow.Author.Needs.{needs}
 use Rattle.searching.proofs.reached.reach.Statement.{statement}
 use Rattle.searching.proofs.reached.reach.Tie as tie
 
-mul-reached : tie.Need-mul-reached
-mul-reached c = search needs
+cast-reached : tie.Need-cast-reached
+cast-reached c = search needs
 
 element-write-reached : tie.Need-element-write-reached
 element-write-reached c = search needs
 
-mul-source : tie.Need-mul-source
-mul-source c = search needs
+cast-source : tie.Need-cast-source
+cast-source c = search needs
 
 element-write-source : tie.Need-element-write-source
 element-write-source c = search needs
@@ -18,8 +18,8 @@ element-write-source c = search needs
 without-requires : tie.Need-without-requires
 without-requires c κs = search needs
 
-add-t10 : tie.Need-add-t10
-add-t10 c = search needs
+add-t15 : tie.Need-add-t15
+add-t15 c = search needs
 
 smaller-requires : tie.Need-smaller-requires
 smaller-requires c κs = search needs
@@ -34,12 +34,12 @@ pub reach-spec : {M : Type 1} → statement M
 reach-spec =
     tie.close
     (tie.spec
-    mul-reached
+    cast-reached
     element-write-reached
-    mul-source
+    cast-source
     element-write-source
     without-requires
-    add-t10
+    add-t15
     smaller-requires
     larger-requires
     returns)

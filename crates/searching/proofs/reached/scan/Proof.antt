@@ -2,18 +2,19 @@
 -- that are still in `new` (proofs/ScanSteps.antt). Assumes nothing.
 use mathlib.Core.Path.{_≡_, sym, subst, _∙_}
 use mathlib.Core.Bool.{true, false}
-use Prim.Native.Nat.{ℕ, _<_}
+use Prim.Native.Nat.{ℕ, _<_, _≤_}
 use native.Mathlib.Omega.{arith}
 use borrow.Author.Tests.{not-true, not-false}
 use denote.Ref.{now}
-use Rattle.model.specs.Limits.{maxJobs}
+use Rattle.model.specs.Limits.{maxJobs, maxIntervals}
 use Rattle.model.specs.Plans.{Shares}
 use Rattle.job_sets.specs.declared.JobSet.{JobSet}
 use Rattle.job_sets.specs.JobSets.{isMember, memberCount, isEmpty, withoutJob, inBoth}
 use Rattle.job_sets.proofs.JobSets.{count-without, least-has}
 use Rattle.workloads.specs.Placement.{Problem}
+use Rattle.workloads.specs.Arrays.{numbersIn}
 use Rattle.searching.specs.Reaching.{SearchState, stateOf, withWindows, ToScan, ScanOf}
-use Rattle.searching.proofs.ScanSteps.{scan-start, scan-end, scan-room, scan-reach}
+use Rattle.searching.proofs.ScanSteps.{scan-small, scan-start, scan-end, scan-window, scan-room, scan-reach}
 use Rattle.searching.proofs.reached.scan.Statement.{statement}
 use Rattle.searching.proofs.reached.scan.Tie as tie
 
@@ -62,24 +63,35 @@ is-new c = rw (c .least .ensures) (least-has (c .before .before .before .loop .n
 small : (c : tie.After-least Inv-loop μ-loop) → c .least .result < maxJobs
 small c = rw (c .least .ensures) (least-has (c .before .before .before .loop .new) (some (c .before)) .0)
 
-mul-reach : tie.Need-mul-reach Inv-loop μ-loop
-mul-reach c = omega (arith, small c)
+-- its window is among the intervals
+window : (c : tie.After-least Inv-loop μ-loop)
+    → let a = entry (c .before .before .before) .args in
+    (numbersIn (now (a .first)) (c .least .result) < maxIntervals) × (numbersIn (now (a .last)) (c .least .result) ≤ maxIntervals)
+window c =
+    let head = c .before .before .before in
+    scan-window (entry head .pre .to-scan) (at head) _ (is-new c)
 
 element-copy-out-reach : tie.Need-element-copy-out-reach Inv-loop μ-loop
 element-copy-out-reach c = small c
 
-mul-reach-2 : tie.Need-mul-reach-2 Inv-loop μ-loop
-mul-reach-2 c = omega (arith, small (c .before))
+cast-reach : tie.Need-cast-reach Inv-loop μ-loop
+cast-reach c = omega (arith, window (c .before) .0)
 
 element-copy-out-reach-2 : tie.Need-element-copy-out-reach-2 Inv-loop μ-loop
 element-copy-out-reach-2 c = small (c .before)
+
+cast-reach-2 : tie.Need-cast-reach-2 Inv-loop μ-loop
+cast-reach-2 c = omega (arith, window (c .before .before) .1)
 
 reach-requires : tie.Need-reach-requires Inv-loop μ-loop
 reach-requires c κs =
     let turn = c .before .before .before .before in
     let head = turn .before .before .before in
     let scan = at head in
-    ((scan-room (entry head .pre .to-scan) scan _ (is-new turn), small turn), (scan .reaching .reached-length, scan .reaching .source-length))
+    let to-scan = entry head .pre .to-scan in (
+      (scan-room to-scan scan _ (is-new turn), small turn, scan-small to-scan),
+      (scan .reaching .reached-length, scan .reaching .source-length),
+    )
 
 without-requires : tie.Need-without-requires Inv-loop μ-loop
 without-requires c κs = small (c .before .before .before .before .before)
@@ -116,10 +128,10 @@ scan-spec =
     loop-holds
     is-empty-requires
     least-requires
-    mul-reach
     element-copy-out-reach
-    mul-reach-2
+    cast-reach
     element-copy-out-reach-2
+    cast-reach-2
     reach-requires
     without-requires
     loop-less
