@@ -25,10 +25,9 @@ use Rattle.levels.specs.PointTables.{pointsOf}
 use Rattle.levels.specs.Settings.{Fits}
 use Rattle.site.specs.declared.SiteTable.{SiteTable}
 use Rattle.site.specs.SiteTables.{HoldsSite}
-use Rattle.site.proofs.HeldSites.{held-points, held-small, held-curve, held-top-point, held-bounds, held-bounds-small}
+use Rattle.site.proofs.HeldSites.{held-jobs-counted, held-points, held-small, held-curve, held-top-point, held-bounds, held-bounds-small}
 use Rattle.intervals.specs.Times.{SmallBounds}
 use Rattle.model.proofs.Joined.{joined-cong}
-use Rattle.planning.proofs.RoomSizes.{jobs-counted}
 use Rattle.listing_text.specs.PlanText.{spanLines, planText, textOfPlan}
 use Rattle.listing_text.specs.ShownPlans.{boundsIn, pricesIn, ShownPlan, ListedPlan}
 
@@ -93,7 +92,7 @@ module _ {levelBytes jobBytes : List ℕ} {intervals steps energy : ℕ} {prices
 
     pub shown-plan : ShownPlan (table .working) (table .jobs) intervals times prices shares
     shown-plan =
-        rw (jobs-counted valid holds)
+        rw (held-jobs-counted valid holds)
         (record {
           small = held-small valid holds;
           curve = held-curve valid holds;
@@ -116,4 +115,4 @@ module _ {levelBytes jobBytes : List ℕ} {intervals steps energy : ℕ} {prices
     pub shown-text : planText (pointsOf (table .working)) (table .jobs) intervals (boundsIn times) (pricesIn intervals prices) (sharesIn (table .jobs) shares) steps energy
         ≡ textOfPlan site (pricesOf priceList) (sharesIn jobs shares) steps energy
     unfolding planText
-    shown-text = rw (held-points valid holds, jobs-counted valid holds, spans-same, planned .interval-count)
+    shown-text = rw (held-points valid holds, held-jobs-counted valid holds, spans-same, planned .interval-count)

@@ -1,5 +1,4 @@
 -- Laws for the proofs of the functions, of placing for a site, and of the plan that is made.
-pub mod SiteTables
 pub mod SiteArrays
 pub mod Placeable
 pub mod WrittenSite

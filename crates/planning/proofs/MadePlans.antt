@@ -8,7 +8,6 @@ use native.Mathlib.Omega.{arith}
 use lib.ListN.{length, getD, take, drop, length-take}
 use lib.Seq.{take-at, drop-at, getD-take}
 use Rattle.model.specs.declared.Job.{Job}
-use Rattle.model.specs.Limits.{maxBounds}
 use Rattle.model.specs.Points.{Point}
 use Rattle.model.specs.Processors.{workingOf, topOf}
 use Rattle.model.specs.Intervals.{boundAt, intervalCount, openPairs}
@@ -16,34 +15,32 @@ use Rattle.model.specs.Sites.{Site, ValidSite}
 use Rattle.model.specs.Demands.{LongEnough}
 use Rattle.model.specs.Plans.{Gives, load, sharesIn}
 use Rattle.model.specs.Prices.{PriceList, FittingPrices}
-use Rattle.tables.proofs.Column.{column-at}
 use Rattle.levels.specs.PointTables.{pointsOf}
 use Rattle.site.specs.declared.SiteTable.{SiteTable}
-use Rattle.site.specs.SiteTables.{HoldsSite}
-use Rattle.site.proofs.HeldSites.{held-points, held-bounds, held-bounds-small}
 use Rattle.energy.specs.Figures.{figureOfLoads}
 use Rattle.writing.specs.StepList.{stepsOf}
 use Rattle.writing.specs.PriceListBytes.{encodePrices}
 use Rattle.writing.proofs.WrittenPlan.{planOf, few-steps}
 use Rattle.writing.proofs.WrittenPrices.{length-price-list}
 use Rattle.writing.proofs.EncodedPlan.{length-plan}
-use Rattle.workloads.specs.declared.Workload.{Workload}
+use Rattle.workloads.specs.Workloads.{Workload}
 use Rattle.workloads.specs.Arrays.{numbersIn, problemIn, KeptPast}
 use Rattle.workloads.specs.Placement.{SmallestPriced}
 use Rattle.planner.specs.PlacedTables.{PlacedTables}
-use Rattle.planning.specs.Workloads.{SiteWorkload}
+use Rattle.planning.specs.SiteArrays.{InArrays}
 use Rattle.planning.specs.MadePlans.{MadePlan}
+use Rattle.planning.proofs.SiteArrays.{SiteWorkload, points-held, held-times, held-ends, time-at}
 use Rattle.planning.proofs.Placeable.{jobs-counted, intervals-counted, workload-gives, smallest-prices-fit, smallest-prices-least}
 use Rattle.planning.proofs.RoomSizes.{pairs-few}
 use Rattle.planning.proofs.WrittenSite.{plan-planned}
 
-module _ {site : Site} {table : SiteTable} {releases deadlines cycles times : List ℕ}
-    (valid : ValidSite site) (holds : HoldsSite site table releases deadlines cycles times) where
+module _ {site : Site} {table : SiteTable} {cycles times first last sets : List ℕ}
+    (held : InArrays site table cycles times first last sets) where
   ends-held : (i : ℕ) → i < intervalCount (site .bounds)
       → (getD times (suc i) 0 ≡ boundAt (site .bounds) (suc i)) × (getD times (suc i) 0 < 2 ^ 32)
   ends-held i below = (
-    rw (holds .bounds-are .array) (column-at maxBounds _ (length (site .bounds)) (suc i) (omega (arith, valid .few-bounds)) (omega arith)),
-    omega (arith, held-bounds-small valid holds .last (suc i) (omega (arith, holds .bounds-are .counted))),
+    time-at (held .valid) (held .bounds-are) (suc i) (omega arith),
+    omega (arith, held-times held .last (suc i) (omega (arith, held .bounds-are .counted))),
   )
 
 -- there is room for the shares and the prices
@@ -53,7 +50,7 @@ rooms valid made long =
     rw (jobs-counted valid made, intervals-counted valid made) (omega (arith, long .share-room), long .price-room)
 
 module _ {site : Site} {work : Workload} (valid : ValidSite site) (made : SiteWorkload site work)
-    (table loads first : List ℕ) (tables : PlacedTables work table loads first) where
+    (table loads bands : List ℕ) (tables : PlacedTables work table loads bands) where
   abbrev ws : List Point
   ws = workingOf (site .processor)
 
@@ -92,13 +89,14 @@ module _ {site : Site} {work : Workload} (valid : ValidSite site) (made : SiteWo
     byte : (i : ℕ) → i < intervalCount (site .bounds) → counted i < 256
     byte i below = omega (arith, made .sound .bands-most, smallest .priced .band i (omega (arith, intervals-are)))
 
-    module _ {held : SiteTable} {releases deadlines cycles times : List ℕ} (holds : HoldsSite site held releases deadlines cycles times) (steps energy : ℕ)
+    module _ {site-table : SiteTable} {cycles times first last sets : List ℕ}
+        (held : InArrays site site-table cycles times first last sets) (steps energy : ℕ)
         (plan₀ prices₀ shares₀ plan prices : List ℕ) (kept : KeptPast (work .intervals * work .jobs) shares₀ table)
         (steps-are : steps ≡ length (stepsOf (work .jobs) (work .intervals) (sharesIn (work .jobs) table)))
         (plan-is : plan ≡ planOf (work .jobs) (work .intervals) (sharesIn (work .jobs) table) ++ drop (4 + 6 * steps) plan₀)
         (prices-are : prices ≡ encodePrices (work .intervals) (λ i. getD times (suc i) 0) counted
         ++ drop (2 + 5 * work .intervals) prices₀)
-        (energy-is : energy ≡ figureOfLoads (pointsOf (held .working)) (take (held .bounds) times) loads) where
+        (energy-is : energy ≡ figureOfLoads (pointsOf (site-table .working)) (take (site-table .bounds) times) loads) where
       plan-size : length (planOf (work .jobs) (work .intervals) (sharesIn (work .jobs) table)) ≡ 4 + 6 * steps
       plan-size = rw steps-are (length-plan (work .intervals) (stepsOf (work .jobs) (work .intervals) (sharesIn (work .jobs) table)))
 
@@ -117,7 +115,7 @@ module _ {site : Site} {work : Workload} (valid : ValidSite site) (made : SiteWo
       size = rw jobs-are (omega arith)
 
       figure-is : energy ≡ figureOfLoads ws (site .bounds) loads
-      figure-is = rw (held-points valid holds, held-bounds valid holds) at energy-is
+      figure-is = rw (points-held held, held-ends held) at energy-is
 
       pub made-plan : MadePlan site (work .intervals) steps energy
           (record { plan = plan₀; prices = prices₀; shares = shares₀ }) (record { plan = plan; prices = prices; shares = table })
@@ -126,7 +124,7 @@ module _ {site : Site} {work : Workload} (valid : ValidSite site) (made : SiteWo
           planned =
               rw (plan-first, list-first, intervals-are)
               (plan-planned site valid (sharesIn (length jobs) table) gives counted byte
-              fitting least (λ i. getD times (suc i) 0) (ends-held valid holds) loads loaded steps energy
+              fitting least (λ i. getD times (suc i) 0) (ends-held held) loads loaded steps energy
               (take (length jobs * intervalCount (site .bounds)) table) (rw (jobs-are, intervals-are) at steps-are) figure-is table-size table-at);
           plan-kept =
               rw plan-is

@@ -17,7 +17,7 @@ use Rattle.model.specs.Plans.{Shares, Gives, sharesIn}
 use Rattle.model.specs.Prices.{PriceList, FittingPrices}
 use Rattle.model.proofs.Working.{working-curve, working-top}
 use Rattle.model.proofs.Windows.{earliestOverfull-none}
-use Rattle.workloads.specs.declared.Workload.{Workload}
+use Rattle.workloads.specs.Workloads.{Workload}
 use Rattle.workloads.specs.Placement.{Problem, Placed, SmallestPriced}
 use Rattle.workloads.specs.RangesFit.{RangesFit}
 use Rattle.workloads.specs.SiteProblem.{problemOf}
@@ -26,7 +26,7 @@ use Rattle.workloads.proofs.SiteProblem.{placed-gives}
 use Rattle.workloads.proofs.SitePrices.{ranges-fit, smallest-fit, smallest-least}
 use Rattle.prices.specs.RisingPrices.{CanPrice}
 use Rattle.planner.specs.PlacedTables.{PlacedTables}
-use Rattle.planning.specs.Workloads.{SiteWorkload}
+use Rattle.planning.proofs.SiteArrays.{SiteWorkload}
 
 module _ {site : Site} {work : Workload} (valid : ValidSite site) (made : SiteWorkload site work) where
   abbrev ws : List Point

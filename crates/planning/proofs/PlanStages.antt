@@ -2,7 +2,7 @@
 -- Assumes nothing.
 use mathlib.Core.Path.{_≡_, refl, sym, _∙_, ap}
 use mathlib.Core.List.{List}
-use mathlib.Core.Option.{Option, none, some}
+use mathlib.Core.Option.{none, some}
 use Prim.Native.Nat.{ℕ, _<_, _≤_}
 use native.Mathlib.Omega.{arith}
 use lib.ListN.{length}
@@ -14,7 +14,7 @@ use Rattle.model.specs.Outcome.{refused, answer}
 use Rattle.model.specs.Jobs.{ValidJobs}
 use Rattle.model.specs.Processors.{topOf}
 use Rattle.model.specs.Sites.{Site, readSite}
-use Rattle.model.specs.Windows.{Window, spareOf, earliestOverfull}
+use Rattle.model.specs.Windows.{spareOf, earliestOverfull}
 use Rattle.model.specs.Planning.{comesOut, refusal, planLength, priceLength, shareCount, planFor, planning}
 use Rattle.model.specs.Demands.{ValidTables, LongEnough, CanBeServed}
 use Rattle.model.proofs.Outcome.{refused≢answer, answer-injective}
@@ -23,6 +23,7 @@ use Rattle.model.proofs.Windows.{earliestOverfull-found}
 use Rattle.model.proofs.Demands.{planned-is-best, window-comes-out, window-never-served, served-comes-out}
 use Rattle.windows.specs.declared.overfull.Overfull.the-variants.{Window as WindowFound}
 use Rattle.windows.specs.Answers.{overfullAnswer}
+use Rattle.windows.proofs.Answers.{window-is}
 use Rattle.planning.specs.declared.operation.PlanAnswer.{PlanAnswer}
 use Rattle.planning.specs.declared.operation.PlanAnswer.the-variants.{Plan, Overfull, Refused}
 use Rattle.planning.specs.MadePlans.{Buffers, MadePlan}
@@ -34,17 +35,10 @@ no-plan is = let z : _≡_ {A = ℕ} 0 1 = cc is in absurd (omega (arith, z))
 
 -- the window that is returned
 module _ (top : ℕ) (jobs : List Job) (start end : ℕ) where
-  window-is : (found : Option Window) → overfullAnswer found ≡ WindowFound start end → found ≡ some (record { start = start; end = end })
-  window-is none e = let z : _≡_ {A = ℕ} 0 1 = cc e in absurd (omega (arith, z))
-  window-is (some w) e =
-      let starts : w .start ≡ start = cc e in
-      let ends : w .end ≡ end = cc e in
-      rw (← starts, ← ends)
-
   pub window-inside : ValidJobs jobs → overfullAnswer (earliestOverfull top jobs) ≡ WindowFound start end
       → (start ≤ end) × (end ≤ maxDeadline)
   window-inside valid e =
-      let law = earliestOverfull-found top jobs _ (window-is (earliestOverfull top jobs) e) in
+      let law = earliestOverfull-found top jobs _ (window-is (earliestOverfull top jobs) start end e) in
       let (k, inside, ends) = law .deadline in
       (omega (arith, law .later), rw (← ends) (valid .deadline-high k inside))
 
@@ -54,16 +48,15 @@ module _ (site : Site) (lent : Buffers) where
       → SitePlanned site lent lent (Refused number place)
   refused-here number place e = record { outcome = sym e; untouched = λ _. refl; written = λ intervals steps energy. no-plan }
 
-  pub window-found : (top : ℕ) (jobs : List Job) (start end : ℕ) → topOf (site .processor) ≡ top → site .jobs ≡ jobs
-      → overfullAnswer (earliestOverfull top jobs) ≡ WindowFound start end
-      → (spare : ℤ) → spare ≡ spareOf top jobs start end → SitePlanned site lent lent (Overfull start end spare)
+  pub window-found : (top start end : ℕ) → topOf (site .processor) ≡ top → overfullAnswer (earliestOverfull top (site .jobs)) ≡ WindowFound start end
+      → (spare : ℤ) → spare ≡ spareOf top (site .jobs) start end → SitePlanned site lent lent (Overfull start end spare)
   unfolding planFor
-  window-found top jobs start end is-top are-jobs e spare is =
+  window-found top start end is-top e spare is =
       record {
         outcome =
             let found : earliestOverfull (topOf (site .processor)) (site .jobs) ≡ some (record { start = start; end = end }) =
-            rw (is-top, are-jobs) (window-is top jobs start end (earliestOverfull top jobs) e) in
-            rw (found, is-top, are-jobs, is);
+            rw is-top (window-is (earliestOverfull top (site .jobs)) start end e) in
+            rw (found, is-top, is);
         untouched = λ _. refl;
         written = λ intervals steps energy same. let z : _≡_ {A = ℕ} 0 1 = cc same in absurd (omega (arith, z));
       }

@@ -1,43 +1,51 @@
--- The laws of a workload made of a site that was read: a column of an array is a function that is 0 past the last entry, the
--- bound that is a time is found by its number, and arrays filled so hold what is to be placed for the site.
+-- A site that was read stands in the arrays that planning makes of it: the bound that is a time is found by its number, and the open
+-- sets are those of the numbers. With the lengths of its intervals, arrays in which a site stands hold what is to be placed for it.
 -- Assumes nothing.
 use mathlib.Core.Path.{_≡_, refl, sym, _∙_, ap, subst}
+use mathlib.Core.Bool.{true}
 use mathlib.Core.Logic.{_⊎_, inl, inr}
 use mathlib.Core.List.{List, [], _∷_}
 use Prim.Native.Nat.{ℕ, zero, suc, _+_, _-_, _<_, _≤_}
 use native.Mathlib.Numerals.{add-one}
 use native.Mathlib.Omega.{arith}
-use lib.ListN.{length, getD}
+use lib.ListN.{length, getD, take}
 use borrow.Author.Tests.{le-leb, lt-leb}
 use Rattle.model.specs.declared.Job.{Job}
 use Rattle.model.specs.Limits.{maxJobs, maxBounds, maxIntervals, maxPoints, maxDeadline}
 use Rattle.model.specs.Jobs.{jobOf, noJob}
 use Rattle.model.specs.Points.{Point, idlingPoint}
 use Rattle.model.specs.Bands.{frequencyOf, Curve}
-use Rattle.model.specs.Processors.{workingOf}
+use Rattle.model.specs.Processors.{allPoints, workingOf}
 use Rattle.model.specs.Intervals.{boundAt, intervalCount, lengthOf, OpenRange}
 use Rattle.model.specs.Sites.{Site, ValidSite}
 use Rattle.model.proofs.Numbers.{lt-or-le}
 use Rattle.model.proofs.Search.{firstBelow-is}
 use Rattle.model.proofs.Intervals.{open-range, bounds-rise}
+use Rattle.model.proofs.Working.{working-curve}
 use Rattle.tables.specs.Column.{columnOf}
-use Rattle.tables.proofs.Column.{length-column, column-at, column-past}
-use Rattle.tables.proofs.Read.{length-jobsIn, job-in}
+use Rattle.tables.proofs.Column.{length-column, column-at, column-past, column-cong}
+use Rattle.tables.proofs.Read.{job-in}
+use Rattle.job_sets.specs.JobSets.{isMember}
+use Rattle.job_sets.specs.IntervalSets.{setIn}
 use Rattle.levels.specs.declared.points.PointTable.{PointTable}
-use Rattle.levels.specs.PointTables.{pointTable}
-use Rattle.levels.proofs.PointTables.{length-pointsOf}
-use Rattle.intervals.specs.Times.{RisingTimes}
-use Rattle.intervals.proofs.Padded.{holds-rising}
+use Rattle.levels.specs.PointTables.{pointsOf, SmallPoints}
+use Rattle.levels.proofs.SmallPoints.{working-small, working-held}
+use Rattle.intervals.specs.Times.{HoldsTimes, SmallBounds, numberOf}
+use Rattle.intervals.specs.OpenSets.{openSets}
+use Rattle.intervals.proofs.OpenSets.{open-held}
+use Rattle.intervals.proofs.Padded.{take-padded, holds-first}
+use Rattle.intervals.proofs.SmallBounds.{small-bounds}
 use Rattle.site.specs.declared.SiteTable.{SiteTable}
 use Rattle.site.specs.SiteTables.{HoldsSite}
-use Rattle.site.proofs.HeldSites.{held-count, held-points, held-small, held-curve, held-few, held-bounds-small}
-use Rattle.workloads.specs.declared.Workload.{Workload}
+use Rattle.site.proofs.HeldSites.{held-jobs-counted, held-count}
+use Rattle.windows.specs.WindowTests.{TestArrays}
+use Rattle.workloads.specs.Workloads.{Workload}
 use Rattle.workloads.specs.Placement.{SoundProblem}
 use Rattle.workloads.specs.SiteProblem.{problemOf}
-use Rattle.workloads.specs.Arrays.{numbersIn, problemIn, SoundWorkload}
+use Rattle.workloads.specs.Arrays.{numbersIn, problemIn, workloadWith, SoundWorkload}
 use Rattle.workloads.proofs.SiteProblem.{problem-sound}
 use Rattle.workloads.proofs.SitePrices.{problem-same}
-use Rattle.planning.specs.Workloads.{numberOf, SiteWorkload}
+use Rattle.planning.specs.SiteArrays.{InArrays}
 
 -- past the end of a list stands the default
 getD-past : {A : Type 0} (l : List A) (i : ℕ) (d : A) → length l ≤ i → getD l i d ≡ d
@@ -55,140 +63,216 @@ column-is size count f g fits agree zeros i = go (lt-or-le i count) (lt-or-le i 
     go (inr past) (inl inside) = column-past size f count i inside past ∙ sym (zeros i past)
     go (inr past) (inr outside) = getD-past (columnOf size count f) i 0 (omega (arith, length-column size f count)) ∙ sym (zeros i past)
 
-module _ {site : Site} {table : SiteTable} {releases deadlines cycles times : List ℕ}
-    (valid : ValidSite site) (holds : HoldsSite site table releases deadlines cycles times) where
-  abbrev jobs : List Job
-  jobs = site .jobs
+-- A sound workload that holds what is to be placed for a site: each job is open in the intervals from its first up to,
+-- not including, its last.
+pub record SiteWorkload (site : Site) (work : Workload) : Type 0 where
+  pub sound : SoundWorkload work
+  pub problem : problemIn work
+      ≡ problemOf (workingOf (site .processor)) (site .jobs) (site .bounds) (numbersIn (work .first)) (numbersIn (work .last))
+  pub ranges : (j : ℕ) → j < length (site .jobs)
+      → OpenRange (site .jobs) (site .bounds) j (numbersIn (work .first) j) (numbersIn (work .last) j)
 
+-- the bounds of a valid site, in an array
+module _ {site : Site} {times : List ℕ} {count : ℕ} (valid : ValidSite site) (holds : HoldsTimes times count (site .bounds)) where
   abbrev bounds : List ℕ
   bounds = site .bounds
 
-  abbrev ws : List Point
-  ws = workingOf (site .processor)
+  -- they rise, and none is above the latest deadline allowed
+  pub bounds-small : SmallBounds count times
+  bounds-small =
+      rw (holds .counted, holds .array)
+      (small-bounds (valid .bounds) (valid .jobs) (valid .few-bounds) _ (take-padded bounds (valid .few-bounds)))
 
-  counted : length jobs ≡ table .jobs
-  counted = rw (← holds .jobs-are) (length-jobsIn (table .jobs) releases deadlines cycles)
+  pub bounds-held : take count times ≡ bounds
+  bounds-held = holds-first holds (bounds-small .rising .few)
+
+  pub time-at : (i : ℕ) → i < length bounds → getD times i 0 ≡ boundAt bounds i
+  time-at i below =
+      ap (λ (array : List ℕ). getD array i 0) (holds .array)
+      ∙ column-at maxBounds _ _ i (omega (arith, valid .few-bounds)) below
+
+  -- the bound that is a time is found by its number
+  number-found : (i time : ℕ) → i < length bounds → boundAt bounds i ≡ time → numberOf count times time ≡ i
+  number-found i time below same =
+      firstBelow-is count _ i (omega (arith, holds .counted))
+      (λ k before. lt-leb time (getD times k 0) (omega (arith, time-at k (omega arith), bounds-rise (valid .bounds) k i before below)))
+      (le-leb time (getD times i 0) (omega (arith, time-at i below)))
+
+-- a site that was read, and the numbers of its jobs' bounds
+module _ {site : Site} {table : SiteTable} {releases deadlines cycles times first last : List ℕ}
+    (valid : ValidSite site) (holds : HoldsSite site table releases deadlines cycles times)
+    (first-are : first ≡ columnOf maxJobs (table .jobs) (λ j. numberOf (table .bounds) times (getD releases j 0)))
+    (last-are : last ≡ columnOf maxJobs (table .jobs) (λ j. numberOf (table .bounds) times (getD deadlines j 0))) where
+  abbrev jobs : List Job
+  jobs = site .jobs
+
+  counted : table .jobs ≡ length jobs
+  counted = held-jobs-counted valid holds
 
   own-job : (j : ℕ) → j < table .jobs → jobOf jobs j ≡ record { release = getD releases j 0; deadline = getD deadlines j 0; cycles = getD cycles j 0 }
   own-job j below = rw (← holds .jobs-are) (job-in (table .jobs) releases deadlines cycles j below)
 
-  pub bounds-few : table .bounds ≤ maxBounds
-  bounds-few = held-few valid holds
+  cycles-held : cycles ≡ columnOf maxJobs (table .jobs) (λ j. jobOf jobs j .cycles)
+  cycles-held = holds .zeros-past ∙ column-cong maxJobs (table .jobs) _ _ (λ j below. ap (λ (job : Job). job .cycles) (sym (own-job j below)))
 
-  time-at : (i : ℕ) → i < length bounds → getD times i 0 ≡ boundAt bounds i
-  time-at i below =
-      ap (λ (array : List ℕ). getD array i 0) (holds .bounds-are .array)
-      ∙ column-at maxBounds _ _ i (omega (arith, valid .few-bounds)) below
+  range-at : (j : ℕ) → j < length jobs → OpenRange jobs (site .bounds) j (getD first j 0) (getD last j 0)
+  range-at j below = go (open-range (valid .bounds) j below (valid .jobs .release-before-deadline j below))
+    where
+      here : j < table .jobs
+      here = omega (arith, counted)
 
-  -- the times rise
-  pub times-rise : RisingTimes (table .bounds) times
-  times-rise = holds-rising (holds .bounds-are) bounds-few (valid .bounds .rises)
+      own : jobOf jobs j ≡ record { release = getD releases j 0; deadline = getD deadlines j 0; cycles = getD cycles j 0 }
+      own = own-job j here
 
-  -- the bound that is a time is found by its number
-  number-found : (i time : ℕ) → i < length bounds → boundAt bounds i ≡ time → numberOf (table .bounds) times time ≡ i
-  number-found i time below same =
-      firstBelow-is (table .bounds) _ i (omega (arith, holds .bounds-are .counted))
-      (λ k before. lt-leb time (getD times k 0) (omega (arith, time-at k (omega arith), bounds-rise (valid .bounds) k i before below)))
-      (le-leb time (getD times i 0) (omega (arith, time-at i below)))
+      number-at : (numbers moments : List ℕ) (i : ℕ)
+          → numbers ≡ columnOf maxJobs (table .jobs) (λ j. numberOf (table .bounds) times (getD moments j 0))
+          → i < length (site .bounds) → boundAt (site .bounds) i ≡ getD moments j 0 → getD numbers j 0 ≡ i
+      number-at numbers moments i are inside same =
+          rw are
+          (column-at maxJobs _ (table .jobs) j (omega (arith, held-count valid holds)) here
+          ∙ number-found valid (holds .bounds-are) i (getD moments j 0) inside same)
 
-  -- there are bands, and a table with all working points
+      go : (lo : ℕ) × (hi : ℕ) × OpenRange jobs (site .bounds) j lo hi → OpenRange jobs (site .bounds) j (getD first j 0) (getD last j 0)
+      go (lo, hi, range) =
+          let some = range .nonempty in
+          let within = range .within in
+          let starts : getD first j 0 ≡ lo =
+          number-at first releases lo first-are (omega arith) (range .starts ∙ ap (λ (job : Job). job .release) own) in
+          let ends : getD last j 0 ≡ hi =
+          number-at last deadlines hi last-are (omega arith) (range .ends ∙ ap (λ (job : Job). job .deadline) own) in
+          rw (starts, ends) range
+
+  -- no number is past the last interval
+  pub numbers-few : (j : ℕ) → j < table .jobs → (getD first j 0 ≤ maxIntervals) × (getD last j 0 ≤ maxIntervals)
+  numbers-few j below =
+      let range = range-at j (omega (arith, counted)) in
+      (omega (arith, range .nonempty, range .within, valid .few-bounds), omega (arith, range .within, valid .few-bounds))
+
+  -- it stands in the arrays
+  pub site-in-arrays : {sets : List ℕ} → sets ≡ openSets (table .jobs) first last → InArrays site table cycles times first last sets
+  site-in-arrays open-are = record {
+    valid = valid;
+    working-are = holds .working-are;
+    jobs-counted = counted;
+    cycles-are = cycles-held;
+    bounds-are = holds .bounds-are;
+    ranges = range-at;
+    open-are = rw (open-are, counted) (open-held first last (valid .jobs .few) (omega (arith, valid .few-bounds)) range-at);
+  }
+
+-- a site that stands in arrays
+module _ {site : Site} {table : SiteTable} {cycles times first last sets : List ℕ}
+    (held : InArrays site table cycles times first last sets) where
+  abbrev ws : List Point
+  ws = workingOf (site .processor)
+
+  -- the working points
+  pub points-held : pointsOf (table .working) ≡ ws
+  points-held = rw (held .working-are) (working-held (site .processor) (held .valid .processor))
+
+  pub points-small : SmallPoints (table .working)
+  points-small = rw (held .working-are) (working-small (site .processor) (held .valid .processor))
+
+  curve : Curve ws
+  curve = working-curve (allPoints (site .processor)) (held .valid .processor .rising)
+
+  points-counted : table .working .count ≡ length ws
+  points-counted = ap (λ (t : PointTable). t .count) (held .working-are)
+
+  -- there are bands
   pub points-some : 2 ≤ table .working .count
-  points-some = rw (← length-pointsOf (table .working)) (held-curve valid holds .some)
+  points-some = omega (arith, points-counted, curve .some)
 
-  points-whole : table .working ≡ pointTable ws
-  points-whole = holds .working-are
+  pub held-times : SmallBounds (table .bounds) times
+  held-times = bounds-small (held .valid) (held .bounds-are)
 
-  module _ (work : Workload)
-      (jobs-are : work .jobs ≡ table .jobs) (intervals-are : work .intervals ≡ table .bounds - 1)
-      (bands-are : work .bands ≡ table .working .count - 1)
-      (first-are : work .first ≡ columnOf maxJobs (table .jobs) (λ j. numberOf (table .bounds) times (getD releases j 0)))
-      (last-are : work .last ≡ columnOf maxJobs (table .jobs) (λ j. numberOf (table .bounds) times (getD deadlines j 0)))
-      (cycles-are : work .cycles ≡ cycles)
-      (size-are : work .size ≡ columnOf maxIntervals (work .intervals) (λ i. getD times (i + 1) 0 - getD times i 0))
-      (frequency-are : work .frequency ≡ table .working .frequencies) where
-    cycles-at : (j : ℕ) → numbersIn (work .cycles) j ≡ jobOf jobs j .cycles
-    cycles-at j =
-        ap (λ (array : List ℕ). getD array j 0) (cycles-are ∙ holds .zeros-past)
-        ∙ (column-is maxJobs (table .jobs) _ (λ j. jobOf jobs j .cycles) (held-count valid holds)
-        (λ j below. ap (λ (job : Job). job .cycles) (sym (own-job j below)))
-        (λ j past. ap (λ (job : Job). job .cycles) (getD-past jobs j noJob (omega (arith, counted)))) j)
+  pub held-ends : take (table .bounds) times ≡ site .bounds
+  held-ends = bounds-held (held .valid) (held .bounds-are)
 
-    intervals-counted : work .intervals ≡ intervalCount bounds
-    intervals-counted = intervals-are ∙ ap (λ (n : ℕ). n - 1) (holds .bounds-are .counted)
+  pub intervals-counted : table .bounds - 1 ≡ intervalCount (site .bounds)
+  intervals-counted = ap (λ (n : ℕ). n - 1) (held .bounds-are .counted)
 
-    size-at : (i : ℕ) → numbersIn (work .size) i ≡ lengthOf bounds i
+  -- its jobs' cycles
+  pub cycles-length : length cycles ≡ maxJobs
+  cycles-length = ap length (held .cycles-are) ∙ length-column maxJobs _ (table .jobs)
+
+  cycles-at : (j : ℕ) → numbersIn cycles j ≡ jobOf (site .jobs) j .cycles
+  cycles-at j =
+      ap (λ (array : List ℕ). getD array j 0) (held .cycles-are)
+      ∙ column-is maxJobs (table .jobs) _ (λ j. jobOf (site .jobs) j .cycles) (omega (arith, held .jobs-counted, held .valid .jobs .few))
+      (λ j below. refl)
+      (λ j past. ap (λ (job : Job). job .cycles) (getD-past (site .jobs) j noJob (omega (arith, held .jobs-counted)))) j
+
+  -- the members of its open sets are jobs
+  pub open-jobs : (intervals : ℕ) → intervals ≡ table .bounds - 1
+      → (i j : ℕ) → i < intervals → isMember (setIn sets i) j ≡ true → j < table .jobs
+  open-jobs intervals are i j inside member =
+      omega (arith, held .jobs-counted, held .open-are .only i j (omega (arith, intervals-counted)) member)
+
+  -- they hold what the window test asks for
+  pub test-arrays : (intervals : ℕ) → intervals ≡ table .bounds - 1 → TestArrays (site .jobs) (site .bounds) times cycles sets intervals
+  test-arrays intervals are = record {
+    valid = held .valid .jobs;
+    bounds-of = held .valid .bounds;
+    few = held .valid .few-bounds;
+    counted = are ∙ intervals-counted;
+    times-are = time-at (held .valid) (held .bounds-are);
+    cycles-are = λ j below. cycles-at j;
+    open-are = held .open-are;
+  }
+
+  -- with the lengths of its intervals
+  module _ (intervals : ℕ) (size : List ℕ) (intervals-are : intervals ≡ table .bounds - 1)
+      (size-are : size ≡ columnOf maxIntervals intervals (λ i. getD times (i + 1) 0 - getD times i 0)) where
+    abbrev work : Workload
+    work =
+        workloadWith cycles (table .jobs) intervals (table .working .count - 1) first last size (table .working .frequencies)
+
+    time-in : (i : ℕ) → i < length (site .bounds) → getD times i 0 ≡ boundAt (site .bounds) i
+    time-in = time-at (held .valid) (held .bounds-are)
+
+    counted-all : intervals ≡ intervalCount (site .bounds)
+    counted-all = intervals-are ∙ intervals-counted
+
+    size-at : (i : ℕ) → numbersIn size i ≡ lengthOf (site .bounds) i
     unfolding lengthOf
     size-at i =
         rw size-are
-        (column-is maxIntervals (work .intervals) _ (lengthOf bounds) (omega (arith, intervals-are, bounds-few))
-        (λ i below. rw (time-at (i + 1) (omega (arith, intervals-counted)), time-at i (omega (arith, intervals-counted)), add-one i))
-        (λ i past. rw (getD-past bounds (suc i) 0 (omega (arith, intervals-counted))) (omega arith)) i)
+        (column-is maxIntervals intervals _ (lengthOf (site .bounds)) (omega (arith, intervals-are, held-times .rising .few))
+        (λ i below. rw (time-in (i + 1) (omega (arith, counted-all)), time-in i (omega (arith, counted-all)), add-one i))
+        (λ i past. rw (getD-past (site .bounds) (suc i) 0 (omega (arith, counted-all))) (omega arith)) i)
 
-    points-counted : length ws ≡ table .working .count
-    points-counted = sym (ap (λ (t : PointTable). t .count) points-whole)
-
-    frequency-at : (k : ℕ) → numbersIn (work .frequency) k ≡ frequencyOf ws k
+    frequency-at : (k : ℕ) → numbersIn (table .working .frequencies) k ≡ frequencyOf ws k
     frequency-at k =
-        rw frequency-are
-        (ap (λ (t : PointTable). getD (t .frequencies) k 0) points-whole
-        ∙ column-is maxPoints (length ws) _ (frequencyOf ws) (omega (arith, points-counted, held-small valid holds .few))
+        ap (λ (t : PointTable). getD (t .frequencies) k 0) (held .working-are)
+        ∙ column-is maxPoints (length ws) _ (frequencyOf ws) (omega (arith, points-counted, points-small .few))
         (λ i below. refl)
-        (λ i past. ap (λ (p : Point). p .frequency) (getD-past ws i (idlingPoint 0) past)) k)
+        (λ i past. ap (λ (p : Point). p .frequency) (getD-past ws i (idlingPoint 0) past)) k
 
-    range-at : (j : ℕ) → j < length jobs → OpenRange jobs bounds j (numbersIn (work .first) j) (numbersIn (work .last) j)
-    range-at j below = go (open-range (valid .bounds) j below (valid .jobs .release-before-deadline j below))
-      where
-        here : j < table .jobs
-        here = omega (arith, counted)
-
-        own : jobOf jobs j ≡ record { release = getD releases j 0; deadline = getD deadlines j 0; cycles = getD cycles j 0 }
-        own = own-job j here
-
-        number-at : (numbers moments : List ℕ) (i : ℕ)
-            → numbers ≡ columnOf maxJobs (table .jobs) (λ j. numberOf (table .bounds) times (getD moments j 0))
-            → i < length bounds → boundAt bounds i ≡ getD moments j 0 → numbersIn numbers j ≡ i
-        number-at numbers moments i are inside same =
-            rw are (column-at maxJobs _ (table .jobs) j (omega (arith, held-count valid holds)) here ∙ number-found i (getD moments j 0) inside same)
-
-        go : (lo : ℕ) × (hi : ℕ) × OpenRange jobs bounds j lo hi
-            → OpenRange jobs bounds j (numbersIn (work .first) j) (numbersIn (work .last) j)
-        go (lo, hi, range) =
-            let some = range .nonempty in
-            let within = range .within in
-            let first : numbersIn (work .first) j ≡ lo =
-            number-at (work .first) releases lo first-are (omega arith) (range .starts ∙ ap (λ (job : Job). job .release) own) in
-            let last : numbersIn (work .last) j ≡ hi =
-            number-at (work .last) deadlines hi last-are (omega arith) (range .ends ∙ ap (λ (job : Job). job .deadline) own) in
-            rw (first, last) range
-
-    problem-at : problemIn work ≡ problemOf ws jobs bounds (numbersIn (work .first)) (numbersIn (work .last))
+    problem-at : problemIn work ≡ problemOf ws (site .jobs) (site .bounds) (numbersIn first) (numbersIn last)
     problem-at =
-        problem-same work ws jobs bounds (jobs-are ∙ sym counted) intervals-counted
-        (bands-are ∙ ap (λ (n : ℕ). n - 1) (sym points-counted)) cycles-at size-at frequency-at
+        problem-same work ws (site .jobs) (site .bounds) (held .jobs-counted) counted-all
+        (ap (λ (n : ℕ). n - 1) points-counted) cycles-at size-at frequency-at
 
-    length-high : (i : ℕ) → i < work .intervals → lengthOf bounds i ≤ maxDeadline
+    length-high : (i : ℕ) → i < intervals → lengthOf (site .bounds) i ≤ maxDeadline
     unfolding lengthOf
     length-high i below =
-        let inside : suc i < length bounds = omega (arith, intervals-counted) in
-        omega (arith, held-bounds-small valid holds .last (suc i) (omega (arith, holds .bounds-are .counted)), time-at (suc i) inside)
-
-    curve : Curve ws
-    curve = rw (held-points valid holds) at (held-curve valid holds)
+        let inside : suc i < length (site .bounds) = omega (arith, counted-all) in
+        omega (arith, held-times .last (suc i) (omega (arith, held .bounds-are .counted)), time-in (suc i) inside)
 
     workload-sound : SoundWorkload work
     workload-sound =
         record {
-          sound = subst SoundProblem (sym problem-at) (problem-sound curve (valid .bounds) range-at);
-          jobs-most = omega (arith, jobs-are, held-count valid holds);
-          intervals-most = omega (arith, intervals-are, bounds-few);
-          bands-most = omega (arith, bands-are, held-small valid holds .few);
-          cycles-most = λ j below. rw (cycles-at j) (valid .jobs .cycles-high j (omega (arith, jobs-are, counted)));
+          sound = subst SoundProblem (sym problem-at) (problem-sound curve (held .valid .bounds) (held .ranges));
+          jobs-most = omega (arith, held .jobs-counted, held .valid .jobs .few);
+          intervals-most = omega (arith, intervals-are, held-times .rising .few);
+          bands-most = omega (arith, points-small .few);
+          cycles-most = λ j below. rw (cycles-at j) (held .valid .jobs .cycles-high j (omega (arith, held .jobs-counted)));
           size-most = λ i below. rw (size-at i) (length-high i below);
           frequency-most = λ k below.
-              rw (frequency-at k)
-              (rw (held-points valid holds) at (held-small valid holds .frequency-high) k (omega (arith, bands-are, points-some)));
+              rw (frequency-at k) (rw points-held at (points-small .frequency-high) k (omega (arith, points-some)));
         }
 
     -- the arrays hold what is to be placed
     pub site-workload : SiteWorkload site work
-    site-workload = record { sound = workload-sound; problem = problem-at; ranges = range-at }
+    site-workload = record { sound = workload-sound; problem = problem-at; ranges = held .ranges }

@@ -1,5 +1,5 @@
--- What is to be placed for a site, in the terms of the crates model and planner.
-pub mod Workloads
+-- What planning promises, and a site in the arrays that it works on.
+pub mod SiteArrays
 pub mod MadePlans
 pub mod WantedRooms
 pub mod PlanAnswers

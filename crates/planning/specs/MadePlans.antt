@@ -5,12 +5,12 @@ use mathlib.Core.List.{List}
 use mathlib.Core.Option.{none}
 use lib.ListN.{length, take, drop}
 use Rattle.model.specs.Processors.{topOf}
-use Rattle.model.specs.Sites.{Site, ValidSite}
+use Rattle.model.specs.Sites.{Site}
 use Rattle.model.specs.Windows.{earliestOverfull}
 use Rattle.model.specs.Planning.{Planned}
 use Rattle.model.specs.Demands.{LongEnough}
 use Rattle.site.specs.declared.SiteTable.{SiteTable}
-use Rattle.site.specs.SiteTables.{HoldsSite}
+use Rattle.planning.specs.SiteArrays.{InArrays}
 
 -- The three buffers.
 pub record Buffers : Type 0 where
@@ -28,14 +28,13 @@ pub record Written (site : Site) (intervals steps energy : ℕ) (before after : 
   pub shares-kept : drop (length (site .jobs) * intervals) (after .shares) ≡ drop (length (site .jobs) * intervals) (before .shares)
 
 -- A valid site without an overfull window stands in a table and arrays.
-pub record FitsIn (site : Site) (table : SiteTable) (releases deadlines cycles times : List ℕ) : Type 0 where
-  pub valid : ValidSite site
-  pub holds : HoldsSite site table releases deadlines cycles times
+pub record FitsIn (site : Site) (table : SiteTable) (cycles times first last sets : List ℕ) : Type 0 where
+  pub in-arrays : InArrays site table cycles times first last sets
   pub fits : earliestOverfull (topOf (site .processor)) (site .jobs) ≡ none
 
 -- A plan can be made of it: the buffers are long enough too.
-pub record CanMake (site : Site) (table : SiteTable) (releases deadlines cycles times : List ℕ) (before : Buffers) : Type 0 where
-  pub in-arrays : FitsIn site table releases deadlines cycles times
+pub record CanMake (site : Site) (table : SiteTable) (cycles times first last sets : List ℕ) (before : Buffers) : Type 0 where
+  pub fitting : FitsIn site table cycles times first last sets
   pub long : LongEnough site (length (before .plan)) (length (before .prices)) (length (before .shares))
 
 -- What is made, with the numbers answered, which have 32 bits.

@@ -1,4 +1,4 @@
--- `workload::sizes` meets its contract. The loop's invariant: the first `i` lengths are filled, zeros after them.
+-- `making::sizes` meets its contract. The loop's invariant: the first `i` lengths are filled, zeros after them.
 -- Assumes nothing.
 use mathlib.Core.Path.{_≡_, refl, _∙_}
 use Prim.Native.Nat.{_+_, _-_, _≤_}
@@ -6,8 +6,8 @@ use native.Mathlib.Omega.{arith}
 use lib.ListN.{getD}
 use Rattle.tables.specs.Column.{columnOf}
 use Rattle.tables.proofs.Column.{column-none, column-more, column-whole}
-use Rattle.planning.proofs.workload.sizes.Statement.{statement}
-use Rattle.planning.proofs.workload.sizes.Tie as tie
+use Rattle.planning.proofs.making.sizes.Statement.{statement}
+use Rattle.planning.proofs.making.sizes.Tie as tie
 
 abbrev Inv-loop : tie.InvT-loop
 Inv-loop times intervals lengths₀ i₀ lengths i =
