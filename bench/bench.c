@@ -1,5 +1,5 @@
 /* The benchmark: times the proved functions and their peers on the same sites in the same run, and holds every optimum
- * against ours.
+ * against ours. Built WITH_BEFORE it also times the planning of an earlier commit, which is linked as before_plan.
  *
  *   bench times            a line of comma-separated values for each site
  *   bench stack            the deepest stack of each function over all sites, and of rounds over its largest tables
@@ -42,24 +42,39 @@ struct buffers {
 static struct site site;
 static struct network network;
 static struct buffers ours, theirs;
-static struct ramyearly_plan_answer planned;
+static struct ramyearly_plan_answer planned, answered;
 /* Our plan with its steps out of order, and what ordering makes of it. */
 static uint8_t mixed[4 + 6 * MAX_PAIRS], ordered[4 + 6 * MAX_PAIRS];
 static struct totals loads_by_band;
 static uint64_t loads[MAX_INTERVALS];
 static volatile uint64_t kept;
 
+typedef __typeof__(ramyearly_plan) planner;
+
+static struct ramyearly_plan_answer plan_with(planner *call, struct buffers *to)
+{
+    return call(site.level_bytes, site.level_length, site.job_bytes, site.job_length,
+        to->plan, sizeof to->plan, to->prices, sizeof to->prices, to->shares, sizeof to->shares / sizeof *to->shares);
+}
+
 static void plan(void)
 {
-    planned = ramyearly_plan(site.level_bytes, site.level_length, site.job_bytes, site.job_length,
-        ours.plan, sizeof ours.plan, ours.prices, sizeof ours.prices, ours.shares, sizeof ours.shares / sizeof *ours.shares);
+    planned = plan_with(ramyearly_plan, &ours);
 }
 
 static void plain(void)
 {
-    kept = plain_plan(site.level_bytes, site.level_length, site.job_bytes, site.job_length,
-        theirs.plan, sizeof theirs.plan, theirs.prices, sizeof theirs.prices, theirs.shares, sizeof theirs.shares / sizeof *theirs.shares).energy;
+    answered = plan_with(plain_plan, &theirs);
 }
+
+#ifdef WITH_BEFORE
+planner before_plan;
+
+static void plan_before(void)
+{
+    answered = plan_with(before_plan, &theirs);
+}
+#endif
 
 static struct ramyearly_check_answer checked(const uint8_t *steps)
 {
@@ -229,12 +244,20 @@ static void same_optimum(const char *who, const struct totals *t)
         wrong(who, "another figure");
 }
 
+/* Whether another planner has our answer and writes our bytes. */
+static void same_plan(const char *who, void (*call)(void))
+{
+    memset(&theirs, 0, sizeof theirs);
+    call();
+    if (memcmp(&planned, &answered, sizeof planned) || memcmp(&ours, &theirs, sizeof ours))
+        wrong(who, "another plan");
+}
+
 static void open_site(int family, int jobs, int seed)
 {
     make_site(&site, family, jobs, seed);
     make_network(&network, &site);
     memset(&ours, 0, sizeof ours);
-    memset(&theirs, 0, sizeof theirs);
     plan();
     if (planned.number)
         wrong("planning", "refused");
@@ -247,9 +270,10 @@ static void open_site(int family, int jobs, int seed)
     order();
     if (kept != 4 + 6 * planned.steps || memcmp(ordered, ours.plan, kept))
         wrong("ordering", "another plan");
-    plain();
-    if (memcmp(&ours, &theirs, sizeof ours))
-        wrong("plain planner", "another plan");
+    same_plan("plain planner", plain);
+#ifdef WITH_BEFORE
+    same_plan("planning before", plan_before);
+#endif
 }
 
 /* Whether a peer, after its last run, has our optimum. */
@@ -270,11 +294,27 @@ static void take_samples(struct timed *timed, int count)
             timed[k].samples[r] = sample(&timed[k], timed[k].count) / (double)timed[k].count;
 }
 
+struct named {
+    const char *name;
+    void (*call)(void);
+};
+
+/* Our functions and the plain planner, in the order of their columns. */
+static const struct named calls[] = {
+    { "plan", plan },
+#ifdef WITH_BEFORE
+    { "plan before", plan_before },
+#endif
+    { "check", check }, { "setting", settings }, { "spare", spare }, { "check mixed", check_mixed }, { "order", order }, { "plain", plain }
+};
+enum { CALLS = sizeof calls / sizeof *calls };
+
 static void time_site(void)
 {
-    enum { SETTINGS = 2, OURS = 7, SOLVING = OURS, WHOLE = OURS + PEERS, ALL = OURS + 2 * PEERS };
-    struct timed timed[ALL] = { { .call = plan }, { .call = check }, { .call = settings }, { .call = spare }, { .call = check_mixed },
-        { .call = order }, { .call = plain } };
+    enum { SOLVING = CALLS, WHOLE = CALLS + PEERS, ALL = CALLS + 2 * PEERS };
+    struct timed timed[ALL] = { { 0 } };
+    for (int k = 0; k < CALLS; k++)
+        timed[k].call = calls[k].call;
     for (int p = 0; p < PEERS; p++) {
         timed[SOLVING + p] = (struct timed){ .by = time_solving, .peer = peers[p] };
         timed[WHOLE + p] = (struct timed){ .by = time_whole, .peer = peers[p] };
@@ -288,13 +328,15 @@ static void time_site(void)
     take_samples(timed + WHOLE, PEERS);
     printf("%s,%d,%d,%d,%d,%d,%u", site.family, site.jobs, site.seed, network.intervals, network.pairs, network.bands, planned.steps);
     for (int k = 0; k < ALL; k++)
-        printf(",%.1f", median(timed[k].samples) / (k == SETTINGS ? planned.intervals : 1));
+        printf(",%.1f", median(timed[k].samples) / (timed[k].call == settings ? planned.intervals : 1));
     printf("\n");
 }
 
 static void times(void)
 {
-    printf("family,jobs,seed,intervals,pairs,bands,steps,plan,check,setting,spare,check mixed,order,plain");
+    printf("family,jobs,seed,intervals,pairs,bands,steps");
+    for (int k = 0; k < CALLS; k++)
+        printf(",%s", calls[k].name);
     for (int p = 0; p < PEERS; p++)
         printf(",%s", peers[p]->name);
     for (int p = 0; p < PEERS; p++)
@@ -337,18 +379,23 @@ static long depth(void (*call)(void))
 
 static void stacks(void)
 {
-    enum { CALLS = 7 };
-    void (*const calls[CALLS])(void) = { plan, check, order, settings, spare, rounds, plain };
-    static const char *const names[CALLS] = { "plan", "check", "order", "setting", "spare", "rounds", "plain" };
-    long deepest[CALLS] = { 0 };
+    static const struct named called[] = {
+        { "plan", plan },
+#ifdef WITH_BEFORE
+        { "plan before", plan_before },
+#endif
+        { "check", check }, { "order", order }, { "setting", settings }, { "spare", spare }, { "rounds", rounds }, { "plain", plain }
+    };
+    enum { CALLED = sizeof called / sizeof *called };
+    long deepest[CALLED] = { 0 };
     long empty = depth(nothing);
     make_tasks();
     for (int family = 0; family < family_count; family++)
         for (int n = 0; n < SIZES; n++)
             for (int seed = 1; seed <= SEEDS; seed++) {
                 open_site(family, sizes[n], seed);
-                for (int k = 0; k < CALLS; k++) {
-                    long d = depth(calls[k]) - empty;
+                for (int k = 0; k < CALLED; k++) {
+                    long d = depth(called[k].call) - empty;
                     if (d > deepest[k])
                         deepest[k] = d;
                 }
@@ -356,8 +403,8 @@ static void stacks(void)
     if (laid_out[0] != MAX_JOBS)
         wrong("rounds", "not as many jobs as there are");
     printf("function,bytes\n");
-    for (int k = 0; k < CALLS; k++)
-        printf("%s,%ld\n", names[k], deepest[k]);
+    for (int k = 0; k < CALLED; k++)
+        printf("%s,%ld\n", called[k].name, deepest[k]);
 }
 
 /* The plan with the most steps that there can be, which no site of the families has. */
@@ -374,7 +421,7 @@ static void longest(void)
     printf("steps,check mixed,order\n%u,%.1f,%.1f\n", planned.steps, median(timed[0].samples), median(timed[1].samples));
 }
 
-/* Opening a site calls planning, checking, ordering and the plain planner once each. */
+/* Opening a site calls each planner, checking and ordering once. */
 static int one(char **words)
 {
     int family = 0;

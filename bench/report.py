@@ -1,4 +1,5 @@
-"""Tables of the benchmark, from the files of a results folder, and the goals, met or missed."""
+"""Tables of the benchmark, from the files of a results folder, and the goals, met or missed. Of several folders, each with the
+results of a run, the figures of the goals side by side."""
 import csv
 import math
 import os
@@ -6,7 +7,10 @@ import statistics
 import sys
 
 WHOLE = " whole"  # a peer's time with building its model
+BEFORE = "plan before"  # planning of an earlier commit
 TAIL = 8  # growth is fitted from this many jobs on: below it the fixed costs of a call are most of the time
+PEER = "LEMON"  # the solver that the goals name, the fastest of them
+EASY = ("small", "chains")  # where the flow is easy, so that other work shows in the growth
 
 
 def read(folder, name):
@@ -36,7 +40,9 @@ class Times:
         self.rows = rows
         self.families = list(dict.fromkeys(r["family"] for r in rows))
         self.sizes = sorted({int(r["jobs"]) for r in rows})
+        self.cells = [(f, n) for f in self.families for n in self.sizes]
         self.peers = [c[: -len(WHOLE)] for c in rows[0] if c.endswith(WHOLE)]
+        self.plans = ["plan"] + [BEFORE] * (BEFORE in rows[0])
 
     def sites(self, family, jobs):
         return [r for r in self.rows if r["family"] == family and int(r["jobs"]) == jobs]
@@ -72,8 +78,12 @@ class Times:
 
 def grids(t):
     t.grid("Planning, microseconds", lambda f, n: t.median(f, n, "plan") / 1000)
+    if BEFORE in t.plans:
+        t.grid("Planning before, microseconds", lambda f, n: t.median(f, n, BEFORE) / 1000)
+        t.grid("Time of planning before / time of planning (above 1: planning is faster now)", lambda f, n: t.ratio(f, n, BEFORE, "plan"))
     for peer in t.peers:
-        t.grid(f"Time of {peer}, building and solving / time of planning (above 1: planning is faster)", lambda f, n: t.ratio(f, n, peer + WHOLE, "plan"))
+        t.grid(f"Time of {peer}, building and solving / time of planning (above 1: planning is faster)",
+               lambda f, n: t.ratio(f, n, peer + WHOLE, "plan"))
         t.grid(f"Time of {peer}, solving alone / time of planning", lambda f, n: t.ratio(f, n, peer, "plan"))
     t.grid("Time of planning / time of the plain C planner (below 1: planning is faster)", lambda f, n: t.ratio(f, n, "plan", "plain"))
     t.grid("Checking, microseconds", lambda f, n: t.median(f, n, "check") / 1000)
@@ -84,21 +94,36 @@ def grids(t):
     table(f"Sites of {last} jobs: sizes, and one call of setting and of spare, nanoseconds",
           ["family", "intervals", "pairs K", "bands", "steps", "setting", "spare"],
           [[f] + [f"{t.median(f, last, c):.0f}" for c in ("intervals", "pairs", "bands", "steps", "setting", "spare")] for f in t.families])
-    columns = ["plan", "check", "plain"] + t.peers
+    columns = t.plans + ["check", "plain"] + t.peers
     for over, name in (("jobs", "the number of jobs"), ("pairs", "the number of pairs K")):
         table(f"Growth: exponent of {name}, fitted from {TAIL} to {last} jobs, and planning's from {t.sizes[-2]} to {last} alone",
-              ["family"] + columns + ["plan, last"],
-              [[f] + [f"{t.exponent(f, c, over):.2f}" for c in columns] + [f"{t.last_step(f, 'plan', over):.2f}"] for f in t.families])
+              ["family"] + columns + [f"{p}, last" for p in t.plans],
+              [[f] + [f"{t.exponent(f, c, over):.2f}" for c in columns] + [f"{t.last_step(f, p, over):.2f}" for p in t.plans]
+               for f in t.families])
 
 
 def longest_plans(folder):
     """The longest plan of the sites, and the one with the most steps that there can be."""
     site = max(read(folder, "times.csv"), key=lambda r: int(r["steps"]))
-    return [(f"{site['family']}, {site['jobs']} jobs, seed {site['seed']}", site), ("the most steps that there can be", read(folder, "longest.csv")[0])]
+    return [(f"{site['family']}, {site['jobs']} jobs, seed {site['seed']}", site),
+            ("the most steps that there can be", read(folder, "longest.csv")[0])]
 
 
 def ordering_share(r):
     return float(r["order"]) / float(r["check mixed"])
+
+
+def instructions(folder):
+    names = {"ramyearly_plan": "plan", "before_plan": BEFORE, "plain_plan": "plain", "ramyearly_check": "check", "ramyearly_order": "order"}
+    ratios = [(BEFORE, "plan"), ("plan", "plain"), ("plan", "check"), ("order", "check")]
+    counts = {}
+    for r in read(folder, "instructions.csv"):
+        counts.setdefault((r["family"], r["jobs"]), {})[names[r["function"]]] = int(r["instructions"])
+    if counts:
+        columns = [n for n in names.values() if n in next(iter(counts.values()))]
+        ratios = [(a, b) for a, b in ratios if a in columns]
+        table("Instructions of one call (callgrind), seed 1", ["family", "jobs"] + columns + [f"{a} / {b}" for a, b in ratios],
+              [[f, n] + [c[name] for name in columns] + [short(c[a] / c[b]) for a, b in ratios] for (f, n), c in counts.items()])
 
 
 def others(folder):
@@ -110,44 +135,66 @@ def others(folder):
     table("Deepest stack over all sites, bytes", [r["function"] for r in stack], [[r["bytes"] for r in stack]])
     size = read(folder, "size.csv")
     table("The archive, its machine code and the plain planner's, bytes", [r["what"] for r in size], [[r["bytes"] for r in size]])
-    counts = {}
-    for r in read(folder, "instructions.csv"):
-        counts.setdefault((r["family"], r["jobs"]), {})[r["function"]] = int(r["instructions"])
-    if counts:
-        table("Instructions of one call (callgrind), seed 1",
-              ["family", "jobs", "plan", "plain", "check", "order", "plan / plain", "plan / check", "order / check"],
-              [[f, n, c["ramyearly_plan"], c["plain_plan"], c["ramyearly_check"], c["ramyearly_order"],
-                short(c["ramyearly_plan"] / c["plain_plan"]), short(c["ramyearly_plan"] / c["ramyearly_check"]),
-                short(c["ramyearly_order"] / c["ramyearly_check"])] for (f, n), c in counts.items()])
+    instructions(folder)
 
 
 def goal(name, met, found):
     print(f"{'met   ' if met else 'MISSED'} {name}: {found}")
 
 
-def goals(t, folder):
-    print()
-    cells = [(f, n) for f in t.families for n in t.sizes]
+def extreme(choose, cells, ratio):
+    """The smallest or largest ratio, with its cell."""
+    cell = choose(cells, key=ratio)
+    return f"{short(ratio(cell))} ({cell[0]}, {cell[1]})"
+
+
+def span(cells, ratio):
+    return f"from {extreme(min, cells, ratio)} to {extreme(max, cells, ratio)} times"
+
+
+def count(cells, holds):
+    return f"{sum(holds(c) for c in cells)} of {len(cells)} cells"
+
+
+def goals(t):
+    """Those of the planner's speed."""
+    if PEER in t.peers:
+        alone = lambda c: t.ratio(*c, PEER, "plan")
+        whole = lambda c: t.ratio(*c, PEER + WHOLE, "plan")
+        goal(f"planning faster than {PEER}, solving alone, in all cells", all(alone(c) > 1 for c in t.cells),
+             f"{span(t.cells, alone)}; faster in {count(t.cells, lambda c: alone(c) > 1)}")
+        goal(f"planning at least 3 times faster than {PEER}, building and solving, in all cells", all(whole(c) >= 3 for c in t.cells),
+             f"{span(t.cells, whole)}; 3 or more in {count(t.cells, lambda c: whole(c) >= 3)}")
+    else:
+        print(f"not measured: planning against {PEER}")
+    plain = lambda c: t.ratio(*c, "plan", "plain")
+    more = [c for c in t.cells if c[1] > 2]
+    goal("planning within 1.5 times of the plain C planner in all cells", all(plain(c) <= 1.5 for c in t.cells),
+         f"at most {extreme(max, t.cells, plain)}, and {extreme(max, more, plain)} with more than two jobs; "
+         f"within it in {count(t.cells, lambda c: plain(c) <= 1.5)}")
+    # the fit hides a steep end, so the last step counts as well
+    slopes = {f: (t.exponent(f, "plan", "jobs"), t.last_step(f, "plan", "jobs")) for f in t.families if f in EASY}
+    goal(f"planning grows at most quadratically in the number of jobs on {' and '.join(slopes)}", all(max(s) <= 2 for s in slopes.values()),
+         "exponents (fit, last step) " + ", ".join(f"{f} {fit:.2f} and {last:.2f}" for f, (fit, last) in slopes.items()))
+    if BEFORE in t.plans:
+        faster = lambda c: t.ratio(*c, BEFORE, "plan")
+        print(f"planning before / planning: {span(t.cells, faster)}; faster now in {count(t.cells, lambda c: faster(c) > 1)}")
+
+
+def earlier_goals(t, folder):
+    """Those of earlier changes."""
     last = t.sizes[-1]
     for whole, work in (("", "solving alone"), (WHOLE, "building and solving")) if t.peers else ():
         ratio = lambda c: t.fastest(*c, whole)
-        worst, best = min(cells, key=ratio), max(cells, key=ratio)
-        goal(f"planning at least 10 times faster than the fastest general solver, {work}", ratio(worst) >= 10,
-             f"from {short(ratio(worst))} ({worst[0]}, {worst[1]}) to {short(ratio(best))} times ({best[0]}, {best[1]}); "
-             f"10 or more in {sum(ratio(c) >= 10 for c in cells)} of {len(cells)} cells, faster in {sum(ratio(c) > 1 for c in cells)}")
-    if not t.peers:
-        print("not measured: planning against general solvers")
-    ratio = lambda c: t.ratio(*c, "plan", "plain")
-    worst = max(cells, key=ratio)
-    goal("planning within 1.5 times of the plain C planner", ratio(worst) <= 1.5,
-         f"at most {short(ratio(worst))} ({worst[0]}, {worst[1]}); within it in {sum(ratio(c) <= 1.5 for c in cells)} of {len(cells)} cells")
-    worst = min(t.families, key=lambda f: t.ratio(f, last, "plan", "check"))
-    goal(f"checking at least 10 times faster than planning at {last} jobs", t.ratio(worst, last, "plan", "check") >= 10,
-         f"at least {short(t.ratio(worst, last, 'plan', 'check'))} ({worst})")
+        goal(f"planning at least 10 times faster than the fastest general solver, {work}", all(ratio(c) >= 10 for c in t.cells),
+             f"{span(t.cells, ratio)}; 10 or more in {count(t.cells, lambda c: ratio(c) >= 10)}")
+    largest = [(f, last) for f in t.families]
+    ratio = lambda c: t.ratio(*c, "plan", "check")
+    goal(f"checking at least 10 times faster than planning at {last} jobs", all(ratio(c) >= 10 for c in largest),
+         span(largest, ratio))
     slowest = max((r for name, r in longest_plans(folder)), key=ordering_share)
     goal("ordering at most twice the time of checking, on the longest plans", ordering_share(slowest) <= 2,
          f"at most {short(ordering_share(slowest))} ({slowest['steps']} steps)")
-    # the fit hides a steep end, so the last step counts as well
     steep = lambda f: max(t.exponent(f, "plan", "pairs"), t.last_step(f, "plan", "pairs"))
     found = [f"{f} {t.exponent(f, 'plan', 'pairs'):.2f} and {t.last_step(f, 'plan', 'pairs'):.2f}" for f in t.families if steep(f) > 2]
     worst = max(t.families, key=steep)
@@ -155,14 +202,48 @@ def goals(t, folder):
          f"above 2 (fit, last step): {', '.join(found)}" if found else f"largest exponent {steep(worst):.2f} ({worst})")
 
 
-def main():
-    folder = sys.argv[1]
+def run_of(folder):
+    return (read(folder, "run.csv") or [{"date": "no date", "machine": "", "compilers": ""}])[0]
+
+
+def figures(folder):
+    """For each goal the ratio of the cell that is farthest from it, with the cell."""
+    t = Times(read(folder, "times.csv"))
+    found = {"run": run_of(folder)["date"]}
+    if PEER in t.peers:
+        found[f"{PEER} alone, smallest"] = extreme(min, t.cells, lambda c: t.ratio(*c, PEER, "plan"))
+        found[f"{PEER} whole, smallest"] = extreme(min, t.cells, lambda c: t.ratio(*c, PEER + WHOLE, "plan"))
+    found["plain, largest"] = extreme(max, t.cells, lambda c: t.ratio(*c, "plan", "plain"))
+    for f in EASY:
+        found[f"growth of {f}"] = f"{t.exponent(f, 'plan', 'jobs'):.2f} and {t.last_step(f, 'plan', 'jobs'):.2f}"
+    if BEFORE in t.plans:
+        found["before / now, smallest"] = extreme(min, t.cells, lambda c: t.ratio(*c, BEFORE, "plan"))
+    return found
+
+
+def all_tables(folder):
+    run = run_of(folder)
+    print(f"measured: {run['date']}\nmachine: {run['machine']}\ncompilers: {run['compilers']}")
     times = Times(read(folder, "times.csv"))
-    print(f"{len(times.rows)} sites; the plain planner writes the same bytes as ours"
+    writers = "the plain planner and planning before write" if BEFORE in times.plans else "the plain planner writes"
+    print(f"{len(times.rows)} sites; {writers} the same bytes as ours"
           + (f", and {', '.join(times.peers)} find the same exact energy" if times.peers else ""))
     grids(times)
     others(folder)
-    goals(times, folder)
+    print("\nGoals")
+    goals(times)
+    print("\nGoals of earlier changes")
+    earlier_goals(times, folder)
+
+
+def main():
+    folders = sys.argv[1:]
+    if len(folders) == 1:
+        all_tables(folders[0])
+        return
+    rows = [figures(f) for f in folders]
+    head = list(dict.fromkeys(c for row in rows for c in row))
+    table("The goals in each run", head, [[row.get(c, "") for c in head] for row in rows])
 
 
 main()

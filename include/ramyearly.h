@@ -12,8 +12,8 @@
  * units, which must be below the power of the level after it. It is one of the 1 to 8 entries, but no level. Without it
  * idling draws 0. A plan, and every schedule it is compared with, pays for idling from earliest release to latest deadline.
  *
- * No function uses a heap or writable static data. The deepest stack that was measured, on x86-64, is 14 kB for planning, 12 kB
- * for ordering, 11 kB for checking, 5 kB for the spare and 2 kB for the setting and for rounds (docs/BENCHMARK.md). */
+ * No function uses a heap or writable static data. The deepest stack that was measured, on x86-64, is 12 kB for ordering, 11 kB
+ * for checking, 10 kB for planning, 5 kB for the spare and 2 kB for the setting and for rounds (docs/BENCHMARK.md). */
 #ifndef RAMYEARLY_H
 #define RAMYEARLY_H
 
