@@ -48,8 +48,8 @@ pub record RunningSums : Type 0 where
   pub exactly : (call : TestCall) → Fitting call → (call .answered .found ≡ Fits) × (call .answered .additions ≡ additions (call .jobs))
   -- and for no set more
   pub never-more : (call : TestCall) → call .answered .additions ≤ additions (call .jobs)
-  -- where a window is named the test stopped there: one for each distinct release before it and each job released at or after that,
-  -- and one for each job inside
+  -- where a window is named the test stopped there: one for each distinct release before the window's start and each job released at or
+  -- after that release, and one for each job inside the window
   pub until-the-window : (call : TestCall) (start end : ℕ) → call .answered .found ≡ Window start end
       → call .answered .additions ≡ additionsBefore (call .jobs) start + jobsInside (call .jobs) start end
   -- "the window named by 11, is the same": the earliest start that has an overfull window, and then its earliest end

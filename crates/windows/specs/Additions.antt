@@ -20,7 +20,7 @@ module _ (jobs : List Job) where
   unfoldable pub isNewRelease : (j : ℕ) → Bool
   isNewRelease j = not (someBelow j (λ i. eqb (jobOf jobs i .release) (jobOf jobs j .release)))
 
-  -- One for each distinct release before a time and each job released at or after it.
+  -- One for each distinct release that is before a time, and each job released at or after that release.
   unfoldable pub additionsBefore : (time : ℕ) → ℕ
   additionsBefore time =
       sum (length jobs) (λ j. onlyIf (isNewRelease j) (onlyIf (ltb (jobOf jobs j .release) time) (releasedFrom (jobOf jobs j .release))))

@@ -46,7 +46,8 @@ pub record EndTested (top : ℕ) (jobs : List Job) (bounds : List ℕ) (start en
 
 -- What the window test answers: the earliest overfull window, or that the jobs fit; and how often it added a job's cycles to a sum,
 -- which for a fitting set is exactly one for each distinct release and each job released at or after it. Where a window is overfull the
--- test stops there: one for each distinct release before the window and each job released at or after it, and one for each job inside.
+-- test stops there: one for each distinct release before the window's start and each job released at or after that release, and one for
+-- each job inside the window.
 pub record Tested (top : ℕ) (jobs : List Job) (test : WindowTest) : Type 0 where
   pub found-is : test .found ≡ overfullAnswer (earliestOverfull top jobs)
   pub additions-most : test .additions ≤ additions jobs
