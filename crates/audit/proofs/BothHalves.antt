@@ -2,12 +2,11 @@
 -- whole, and that the figure is the plan's.
 -- Assumes nothing.
 use mathlib.Core.Path.{_≡_, sym, _∙_, ap}
-use mathlib.Core.Bool.{false, not}
+use mathlib.Core.Bool.{false}
 use mathlib.Core.List.{List}
 use Prim.Native.Nat.{ℕ, _-_, _<_}
 use native.Mathlib.Omega.{arith}
 use lib.ListN.{length, getD, take}
-use lib.Dec.{eqb}
 use Rattle.model.specs.declared.Job.{Job}
 use Rattle.model.specs.Limits.{maxBounds}
 use Rattle.model.specs.Outcome.{Outcome, answer}
@@ -16,7 +15,7 @@ use Rattle.model.specs.Processors.{workingOf}
 use Rattle.model.specs.Intervals.{intervalCount}
 use Rattle.model.specs.Sites.{Site, ValidSite}
 use Rattle.model.specs.Plans.{load}
-use Rattle.model.specs.Steps.{planIntervals, wrongPlanLength, sharesOf}
+use Rattle.model.specs.Steps.{wrongPlanLength, sharesOf}
 use Rattle.model.specs.Checking.{fitting, wrongPriceLength, pricing, figureOf, checkFor}
 use Rattle.model.specs.Accepted.{IsPlan}
 use Rattle.model.proofs.Entries.{listOf-cong, listOf-getD}
@@ -37,7 +36,7 @@ use Rattle.fitting.specs.Verdicts.{verdictOf, passed}
 use Rattle.fitting.specs.SetsHave.{SetsHave}
 use Rattle.fitting.specs.TestedJobs.{openBelow}
 use Rattle.fitting.specs.FirstHalf.{boundsIn, siteIn, Fitted}
-use Rattle.fitting.proofs.Verdicts.{Both, both-alone, both-when, both-entries, both-refused, both-passed}
+use Rattle.fitting.proofs.Verdicts.{Both, both-alone, both-when, both-entries, both-stepping, both-refused, both-passed}
 use Rattle.fitting.proofs.FirstHalf.{are-loads, load-at}
 use Rattle.pricing.specs.SecondHalf.{Planned}
 use Rattle.audit.specs.declared.checking.CheckAnswer.the-variants.{Accepted, Refused as RefusedCheck}
@@ -51,9 +50,7 @@ refused-accepted e = let z : _≡_ {A = ℕ} 0 1 = cc e in absurd (omega arith)
 fitting-both : {B : Type 0} (site : Site) (plan : List ℕ) (next : Outcome B) → Both (fitting site plan passed) next (fitting site plan next)
 unfolding fitting
 fitting-both site plan next =
-    both-when (wrongPlanLength plan) 15
-    (both-when (not (eqb (planIntervals plan) (intervalCount (site .bounds)))) 16
-    (both-entries _ _ (both-entries _ _ (both-entries _ _ (both-alone tt)))))
+    both-stepping (site .jobs) (site .bounds) plan (both-entries _ _ (both-entries _ _ (both-alone tt)))
 
 pricing-both : {B : Type 0} (site : Site) (plan prices : List ℕ) (next : Outcome B) → Both (pricing site plan prices passed) next (pricing site plan prices next)
 unfolding pricing

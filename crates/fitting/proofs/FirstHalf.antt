@@ -1,35 +1,42 @@
--- The first half over what was found of the jobs, one law for each way out of the code: the refusals 15 and 16, what the verdict on the
--- steps says, the refusal 19, and that the loads added by step are the plan's.
+-- The first half over what was found of the jobs, one law for each way out of the code: what the verdict on the steps says, the
+-- refusal 19, and that the loads added by step are the plan's.
 -- Assumes nothing.
 use mathlib.Core.Path.{_≡_, sym, _∙_, ap}
-use mathlib.Core.Bool.{true, false, not, cond}
+use mathlib.Core.Bool.{false, not, cond}
 use mathlib.Core.List.{List}
 use Prim.Native.Nat.{ℕ, _-_, _<_, _≤_}
 use native.Mathlib.Omega.{arith}
 use lib.ListN.{length, getD}
-use borrow.Author.Tests.{eq-eqb, ne-eqb, not-true, not-false}
+use borrow.Author.Tests.{not-true, not-false}
 use Rattle.model.specs.declared.Job.{Job}
 use Rattle.model.specs.Limits.{maxIntervals, maxJobs, maxBounds}
-use Rattle.model.specs.Outcome.{Outcome, byEntry}
+use Rattle.model.specs.Outcome.{Outcome, refused, byEntry}
+use Rattle.model.specs.Jobs.{jobOf}
 use Rattle.model.specs.Processors.{Processor, topOf}
+use Rattle.model.specs.Intervals.{intervalCount, isOpen}
 use Rattle.model.specs.Sites.{Site}
 use Rattle.model.specs.Plans.{load}
-use Rattle.model.specs.Steps.{planIntervals, stepCount, stepAt, wrongPlanLength, jobSum, sharesOf}
-use Rattle.model.specs.Checking.{stepFault, jobSumFault, loadFault, fitting}
+use Rattle.model.specs.Steps.{stepCount, stepAt, wrongPlanLength, jobSum, sharesOf}
+use Rattle.model.specs.Checking.{stepping, jobSumFault, loadFault, fitting}
+use Rattle.model.specs.Accepted.{IsPlan}
 use Rattle.model.proofs.Search.{FirstBelow, firstBelow-law}
-use Rattle.model.proofs.Outcome.{byEntry-answered, byEntry-passes, byEntry-stops}
+use Rattle.model.proofs.Outcome.{byEntry-passes, byEntry-stops}
 use Rattle.model.proofs.Steps.{load-of-steps}
-use Rattle.model.proofs.Faults.{SoundCell, step-sound}
+use Rattle.model.proofs.Faults.{plan-length}
+use Rattle.model.proofs.FittingHalf.{stepping-answered}
+use Rattle.job_sets.specs.JobSets.{isMember}
+use Rattle.job_sets.specs.IntervalSets.{setIn}
 use Rattle.fitting.specs.declared.Verdict.{Verdict}
 use Rattle.fitting.specs.declared.Verdict.the-variants.{Passed, Refused}
 use Rattle.fitting.specs.Verdicts.{verdictOf, passed}
 use Rattle.fitting.specs.TestedJobs.{addsUp, TestedBelow, HoldsCycles}
 use Rattle.fitting.specs.Sums.{jobSums, planSums, intervalLoads, planLoads}
-use Rattle.fitting.specs.FirstHalf.{boundsIn, siteIn, stepFaultIn, loadFaultIn}
-use Rattle.fitting.proofs.Verdicts.{byEntry-cong, entries-refused, entries-passed}
+use Rattle.fitting.specs.FirstHalf.{boundsIn, siteIn, steppingIn, loadFaultIn}
+use Rattle.fitting.proofs.Verdicts.{byEntry-cong, both-alone, both-stepping, both-refused, both-passed}
 use Rattle.fitting.proofs.Tallies.{tally-at}
-use Rattle.fitting.proofs.BoundsIn.{intervals-in}
-use Rattle.fitting.proofs.StepFaults.{same-fault}
+use Rattle.fitting.proofs.BoundsIn.{length-boundsIn, intervals-in, open-in}
+use Rattle.fitting.proofs.StepFaults.{stepping-same}
+use Rattle.fitting.proofs.TestedJobs.{open-has}
 
 -- the sums of a plan of the right length, and its loads, which are those of its intervals where each step has one of the jobs
 module _ (plan : List ℕ) (right : wrongPlanLength plan ≡ false) where
@@ -63,83 +70,81 @@ module _
 
   -- what is left to go through after the steps, and after the jobs
   abbrev afterSums : Outcome (Unit {0})
-  afterSums = byEntry (bounds - 1) (loadFault site plan) passed
+  afterSums = byEntry (intervalCount bs) (loadFault site plan) passed
 
   abbrev afterSteps : Outcome (Unit {0})
   afterSteps = byEntry (length jobs) (jobSumFault site plan) afterSums
 
-  pub wrong-length-refused : wrongPlanLength plan ≡ true → Refused 15 0 ≡ verdictOf outcome
-  unfolding fitting
-  wrong-length-refused wrong = rw wrong
+  -- the open sets are those of the bounds
+  opened : (i j : ℕ) → i < intervalCount bs → j < length jobs → isMember (setIn sets i) j ≡ isOpen bs (jobOf jobs j) i
+  opened i j interval job =
+      let inside : i < bounds - 1 = omega (arith, intervals-in bounds times) in
+      open-has jobs times bounds count (tested .opened) i j inside (omega arith) (omega arith) (omega arith)
+      ∙ sym (open-in bounds times (jobOf jobs j) i (omega arith))
 
-  module _ (right : wrongPlanLength plan ≡ false) where
-    pub wrong-intervals-refused : (planIntervals plan ≡ bounds - 1 → ⊥) → Refused 16 0 ≡ verdictOf outcome
+  module _ (steps : Verdict) (went : steps ≡ verdictOf (steppingIn sets cycles count bounds plan passed)) where
+    judged : steps ≡ verdictOf (stepping jobs bs plan passed)
+    judged =
+        let in-arrays : steppingIn sets cycles (length jobs) (length bs) plan passed ≡ steppingIn sets cycles count bounds plan passed =
+        rw (counted, length-boundsIn bounds times) in
+        went ∙ ap verdictOf (sym (stepping-same jobs bs sets cycles opened held plan passed ∙ in-arrays))
+
+    pub steps-refused : (number place : ℕ) → steps ≡ Refused number place → Refused number place ≡ verdictOf outcome
     unfolding fitting
-    wrong-intervals-refused other = rw (right, intervals-in bounds times, ne-eqb (planIntervals plan) (bounds - 1) other)
+    steps-refused number place e =
+        let found : outcome ≡ refused number place =
+        both-refused (stepping jobs bs plan passed) _ (both-stepping jobs bs plan (both-alone tt)) number place (sym judged ∙ e) in
+        ap verdictOf (sym found)
 
-    module _ (intervals : planIntervals plan ≡ bounds - 1) where
-      -- the faults of the steps, as the code has them
-      abbrev faultIn : ℕ → ℕ
-      faultIn = stepFaultIn sets cycles count bounds plan
-
-      same-step : (s : ℕ) → stepFault site plan s ≡ faultIn s
-      same-step s =
-          rw (← counted)
-          (same-fault jobs times bounds sets cycles (rw (← counted) at (tested .opened)) held few-bounds (omega arith) processor plan s)
-
-      past-lengths : outcome ≡ byEntry (stepCount plan) faultIn afterSteps
+    module _ (sound : steps ≡ Passed) where
+      past-steps : outcome ≡ afterSteps
       unfolding fitting
-      past-lengths =
-          rw (right, intervals-in bounds times, eq-eqb (planIntervals plan) (bounds - 1) intervals)
-          (byEntry-cong (stepCount plan) _ _ afterSteps (λ s below. same-step s))
+      past-steps = both-passed (stepping jobs bs plan passed) _ (both-stepping jobs bs plan (both-alone tt)) (sym judged ∙ sound)
 
-      module _ (steps : Verdict) (went : steps ≡ verdictOf (byEntry (stepCount plan) faultIn passed)) where
-        pub steps-refused : (number place : ℕ) → steps ≡ Refused number place → Refused number place ≡ verdictOf outcome
-        steps-refused number place e = rw (past-lengths ∙ entries-refused afterSteps (stepCount plan) _ steps went number place e)
+      is-plan : IsPlan jobs bs plan
+      is-plan =
+          stepping-answered jobs bs plan passed
+          (both-passed (stepping jobs bs plan passed) _ (both-stepping jobs bs plan (both-alone tt)) (sym judged ∙ sound)) .0
 
-        module _ (sound : steps ≡ Passed) where
-          past-steps : outcome ≡ afterSteps
-          past-steps = past-lengths ∙ entries-passed afterSteps (stepCount plan) _ steps went sound
+      right : wrongPlanLength plan ≡ false
+      right = plan-length plan .1 (is-plan .size)
 
-          cell-sound : (s : ℕ) → s < stepCount plan → SoundCell jobs bs plan s
-          cell-sound s below =
-              step-sound site plan s .0
-              (same-step s ∙ byEntry-answered _ passed (stepCount plan) (entries-passed passed (stepCount plan) _ steps went sound) .0 s below) .0
+      -- the jobs before the first whose steps do not add to its cycles
+      first : FirstBelow (length jobs) (λ j. not (addsUp jobs (planSums plan) j)) summed
+      first = rw (counted, tested .added) (firstBelow-law count _)
 
-          -- the jobs before the first whose steps do not add to its cycles
-          first : FirstBelow (length jobs) (λ j. not (addsUp jobs (planSums plan) j)) summed
-          first = rw (counted, tested .added) (firstBelow-law count _)
+      fault : (j : ℕ) → j < length jobs → jobSumFault site plan j ≡ cond (addsUp jobs (planSums plan) j) 0 19
+      unfolding jobSumFault jobSum
+      fault j below =
+          rw (
+            are-sums plan right,
+            tally-at maxJobs (λ s. stepAt plan s .job) (λ s. stepAt plan s .cycles) (stepCount plan) j (omega arith),
+          )
 
-          fault : (j : ℕ) → j < length jobs → jobSumFault site plan j ≡ cond (addsUp jobs (planSums plan) j) 0 19
-          unfolding jobSumFault jobSum
-          fault j below =
-              rw (
-                are-sums plan right,
-                tally-at maxJobs (λ s. stepAt plan s .job) (λ s. stepAt plan s .cycles) (stepCount plan) j (omega arith),
-              )
+      adds : (j : ℕ) → j < length jobs → j < summed → jobSumFault site plan j ≡ 0
+      adds j below earlier = fault j below ∙ rw (not-false (addsUp jobs (planSums plan) j) (first .before j earlier))
 
-          adds : (j : ℕ) → j < length jobs → j < summed → jobSumFault site plan j ≡ 0
-          adds j below earlier = fault j below ∙ rw (not-false (addsUp jobs (planSums plan) j) (first .before j earlier))
+      pub sums-refused : summed < count → Refused 19 summed ≡ verdictOf outcome
+      sums-refused short =
+          let below : summed < length jobs = omega arith in
+          let bad : jobSumFault site plan summed ≡ 19 = fault summed below ∙ rw (not-true (addsUp jobs (planSums plan) summed) (first .here below)) in
+          rw (
+            past-steps,
+            byEntry-stops (jobSumFault site plan) afterSums (length jobs) summed (λ j earlier. adds j (omega arith) earlier) below (omega arith),
+            bad,
+          )
 
-          pub sums-refused : summed < count → Refused 19 summed ≡ verdictOf outcome
-          sums-refused short =
-              let below : summed < length jobs = omega arith in
-              let bad : jobSumFault site plan summed ≡ 19 = fault summed below ∙ rw (not-true (addsUp jobs (planSums plan) summed) (first .here below)) in
-              rw (
-                past-steps,
-                byEntry-stops (jobSumFault site plan) afterSums (length jobs) summed (λ j earlier. adds j (omega arith) earlier) below (omega arith),
-                bad,
-              )
+      module _ (whole : count ≤ summed) where
+        past-sums : outcome ≡ afterSums
+        past-sums = past-steps ∙ byEntry-passes (jobSumFault site plan) afterSums (length jobs) (λ j below. adds j below (omega arith))
 
-          module _ (whole : count ≤ summed) where
-            past-sums : outcome ≡ afterSums
-            past-sums = past-steps ∙ byEntry-passes (jobSumFault site plan) afterSums (length jobs) (λ j below. adds j below (omega arith))
+        same-load : (i : ℕ) → i < bounds - 1 → loadFault site plan i ≡ loadFaultIn top bs (planLoads plan) i
+        unfolding loadFault
+        same-load i below = rw (is-top, load-at plan right jobs (is-plan .step-job) i (omega arith))
 
-            same-load : (i : ℕ) → i < bounds - 1 → loadFault site plan i ≡ loadFaultIn top bs (planLoads plan) i
-            unfolding loadFault
-            same-load i below = rw (is-top, load-at plan right jobs (λ s inside. cell-sound s inside .job) i (omega arith))
-
-            pub loads-decide : (loads : List ℕ) → loads ≡ planLoads plan → (last : Verdict) → last ≡ verdictOf (byEntry (bounds - 1) (loadFaultIn top bs loads) passed)
-                → last ≡ verdictOf outcome
-            loads-decide loads added last found =
-                found ∙ rw added (ap verdictOf (sym (past-sums ∙ byEntry-cong (bounds - 1) _ _ passed same-load)))
+        pub loads-decide : (loads : List ℕ) → loads ≡ planLoads plan → (last : Verdict) → last ≡ verdictOf (byEntry (bounds - 1) (loadFaultIn top bs loads) passed)
+            → last ≡ verdictOf outcome
+        loads-decide loads added last found =
+            let same : afterSums ≡ byEntry (bounds - 1) (loadFaultIn top bs (planLoads plan)) passed =
+            rw (intervals-in bounds times) (byEntry-cong (bounds - 1) _ _ passed same-load) in
+            found ∙ rw added (ap verdictOf (sym (past-sums ∙ same)))

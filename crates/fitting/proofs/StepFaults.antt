@@ -1,21 +1,23 @@
 -- Refusals 17 and 18 at a step, one law for each way out of the code, over open sets and cycles that stand in arrays; that
--- with the pairs of the earlier steps marked they are those of the plan's cells; and that over what was found of the jobs
--- those are the definition's.
+-- with the pairs of the earlier steps marked they are those of the plan's cells; and that over the open sets and the cycles of the jobs
+-- the refusals 15 to 18 are the definition's.
 -- Assumes nothing.
-use mathlib.Core.Path.{_≡_, sym, _∙_}
+use mathlib.Core.Path.{_≡_, sym, _∙_, ap}
 use mathlib.Core.Bool.{Bool, true, false, not, _&&_, _||_}
 use mathlib.Core.Logic.{_⊎_, inl, inr}
 use mathlib.Core.List.{List}
 use Prim.Native.Nat.{ℕ, _+_, _-_, _<_, _≤_}
 use native.Mathlib.Omega.{arith}
 use lib.ListN.{length, getD}
-use lib.Dec.{ltb, leb}
+use lib.Dec.{ltb, leb, eqb}
 use borrow.Author.Tests.{lt-ltb, le-ltb, lt-leb, le-leb, ltb-true, not-false}
 use Rattle.model.specs.declared.Job.{Job}
 use Rattle.model.specs.Limits.{maxIntervals, maxJobs, maxBounds}
-use Rattle.model.specs.Processors.{Processor}
-use Rattle.model.specs.Steps.{Step, stepAt}
-use Rattle.model.specs.Checking.{isOpenPair, stepFault}
+use Rattle.model.specs.Outcome.{Outcome, refuseWhen}
+use Rattle.model.specs.Jobs.{jobOf}
+use Rattle.model.specs.Intervals.{intervalCount, isOpen}
+use Rattle.model.specs.Steps.{Step, planIntervals, stepCount, stepAt, wrongPlanLength}
+use Rattle.model.specs.Checking.{isOpenPair, stepFault, stepping}
 use Rattle.model.proofs.Numbers.{lt-or-le, true-or-false, both-true}
 use Rattle.model.proofs.Steps.{step-cell}
 use Rattle.model.proofs.Tests.{neither, no-fault}
@@ -25,10 +27,9 @@ use Rattle.job_sets.specs.JobSets.{isMember}
 use Rattle.job_sets.specs.IntervalSets.{setWords, setIn, Added}
 use Rattle.fitting.specs.SetsHave.{SetsHave}
 use Rattle.fitting.specs.SeenCells.{isSeen}
-use Rattle.fitting.specs.TestedJobs.{openBelow, HoldsCycles}
-use Rattle.fitting.specs.FirstHalf.{siteIn, openPairIn, faultWhere, faultOfStep, stepFaultIn}
-use Rattle.fitting.proofs.BoundsIn.{intervals-in, open-in}
-use Rattle.fitting.proofs.TestedJobs.{open-has}
+use Rattle.fitting.specs.TestedJobs.{HoldsCycles}
+use Rattle.fitting.specs.FirstHalf.{openPairIn, faultWhere, faultOfStep, stepFaultIn, steppingIn}
+use Rattle.fitting.proofs.Verdicts.{byEntry-cong}
 use Rattle.fitting.proofs.SeenSets.{seen-more}
 
 module _ (sets cycles : List ℕ) (count bounds : ℕ) (seen : List ℕ) (step : Step) where
@@ -131,30 +132,36 @@ module _
     turn-marked next added = seen-more plan s (step .interval) (step .job) filled added (turn-pair .1) (step-cell plan s ∙ rw decoded)
 
 -- Over the open sets and the cycles of the jobs the faults are the definition's.
-module _ (jobs : List Job) (times : List ℕ) (bounds : ℕ) (sets cycles : List ℕ) (opened : SetsHave sets (openBelow jobs (length jobs) times bounds))
-    (held : HoldsCycles jobs cycles) (few-bounds : bounds ≤ maxBounds) (few-jobs : length jobs ≤ maxJobs) where
-  same-pair : (processor : Processor) (step : Step) → isOpenPair (siteIn processor jobs times bounds) step ≡ openPairIn sets (length jobs) bounds step
-  same-pair processor step = go (lt-or-le (step .interval) (bounds - 1)) (lt-or-le (step .job) (length jobs))
+module _ (jobs : List Job) (bs sets cycles : List ℕ)
+    (opened : (i j : ℕ) → i < intervalCount bs → j < length jobs → isMember (setIn sets i) j ≡ isOpen bs (jobOf jobs j) i)
+    (held : HoldsCycles jobs cycles) where
+  same-pair : (step : Step) → isOpenPair jobs bs step ≡ openPairIn sets (length jobs) (length bs) step
+  same-pair step = go (lt-or-le (step .interval) (length bs - 1)) (lt-or-le (step .job) (length jobs))
     where
-      go : (step .interval < bounds - 1) ⊎ (bounds - 1 ≤ step .interval) → (step .job < length jobs) ⊎ (length jobs ≤ step .job)
-          → isOpenPair (siteIn processor jobs times bounds) step ≡ openPairIn sets (length jobs) bounds step
-      go (inr outside) either = rw (intervals-in bounds times, le-ltb (step .interval) (bounds - 1) outside)
-      go (inl interval) (inr outside) =
-          rw (intervals-in bounds times, lt-ltb (step .interval) (bounds - 1) interval, le-ltb (step .job) (length jobs) outside)
+      go : (step .interval < length bs - 1) ⊎ (length bs - 1 ≤ step .interval) → (step .job < length jobs) ⊎ (length jobs ≤ step .job)
+          → isOpenPair jobs bs step ≡ openPairIn sets (length jobs) (length bs) step
+      go (inr outside) either = rw (le-ltb (step .interval) (length bs - 1) outside)
+      go (inl interval) (inr outside) = rw (lt-ltb (step .interval) (length bs - 1) interval, le-ltb (step .job) (length jobs) outside)
       go (inl interval) (inl job) =
           rw (
-            intervals-in bounds times,
-            lt-ltb (step .interval) (bounds - 1) interval,
+            lt-ltb (step .interval) (length bs - 1) interval,
             lt-ltb (step .job) (length jobs) job,
-            open-has jobs times bounds (length jobs) opened (step .interval) (step .job) interval (omega arith) job (omega arith),
+            opened (step .interval) (step .job) interval job,
           )
-          (open-in bounds times _ (step .interval) (omega arith))
 
-  pub same-fault : (processor : Processor) (plan : List ℕ) (s : ℕ) → stepFault (siteIn processor jobs times bounds) plan s ≡ stepFaultIn sets cycles (length jobs) bounds plan s
+  same-fault : (plan : List ℕ) (s : ℕ) → stepFault jobs bs plan s ≡ stepFaultIn sets cycles (length jobs) (length bs) plan s
   unfolding stepFault stepFaultIn
-  same-fault processor plan s = go (true-or-false (openPairIn sets (length jobs) bounds (stepAt plan s)))
+  same-fault plan s = go (true-or-false (openPairIn sets (length jobs) (length bs) (stepAt plan s)))
     where
-      go : (openPairIn sets (length jobs) bounds (stepAt plan s) ≡ true) ⊎ (openPairIn sets (length jobs) bounds (stepAt plan s) ≡ false)
-          → stepFault (siteIn processor jobs times bounds) plan s ≡ stepFaultIn sets cycles (length jobs) bounds plan s
-      go (inr no-pair) = rw (same-pair processor (stepAt plan s), no-pair)
-      go (inl pair) = rw (same-pair processor (stepAt plan s), held .at (stepAt plan s .job) (pair-numbers sets cycles (length jobs) bounds (stepAt plan s) pair .1))
+      go : (openPairIn sets (length jobs) (length bs) (stepAt plan s) ≡ true) ⊎ (openPairIn sets (length jobs) (length bs) (stepAt plan s) ≡ false)
+          → stepFault jobs bs plan s ≡ stepFaultIn sets cycles (length jobs) (length bs) plan s
+      go (inr no-pair) = rw (same-pair (stepAt plan s), no-pair)
+      go (inl pair) = rw (same-pair (stepAt plan s), held .at (stepAt plan s .job) (pair-numbers sets cycles (length jobs) (length bs) (stepAt plan s) pair .1))
+
+  -- and so are the refusals, whatever is next
+  pub stepping-same : {A : Type 0} (plan : List ℕ) (next : Outcome A)
+      → stepping jobs bs plan next ≡ steppingIn sets cycles (length jobs) (length bs) plan next
+  unfolding steppingIn
+  stepping-same plan next =
+      ap (λ (rest : Outcome _). refuseWhen (wrongPlanLength plan) 15 (refuseWhen (not (eqb (planIntervals plan) (intervalCount bs))) 16 rest))
+      (byEntry-cong (stepCount plan) _ _ next (λ s below. same-fault plan s))

@@ -2,10 +2,16 @@
 -- come before whatever is next.
 -- Assumes nothing.
 use mathlib.Core.Path.{_≡_, refl, sym, _∙_}
-use mathlib.Core.Bool.{Bool, true, false}
+use mathlib.Core.Bool.{Bool, true, false, not}
+use mathlib.Core.List.{List}
 use Prim.Native.Nat.{ℕ, zero, suc, _+_, _<_}
 use native.Mathlib.Omega.{arith}
+use lib.Dec.{eqb}
+use Rattle.model.specs.declared.Job.{Job}
 use Rattle.model.specs.Outcome.{Outcome, refused, answer, andThen, refuseWhen, refuseAt, byEntryFrom, byEntry}
+use Rattle.model.specs.Intervals.{intervalCount}
+use Rattle.model.specs.Steps.{planIntervals, wrongPlanLength}
+use Rattle.model.specs.Checking.{stepping}
 use Rattle.model.proofs.Outcome.{byEntry-passes, byEntry-stops}
 use Rattle.fitting.specs.declared.Verdict.{Verdict}
 use Rattle.fitting.specs.declared.Verdict.the-variants.{Passed, Refused}
@@ -67,6 +73,13 @@ module _ {A B : Type 0} {next : Outcome B} where
   pub both-entries : {first : Outcome A} {all : Outcome B} (count : ℕ) (fault : ℕ → ℕ) → Both first next all
       → Both (byEntry count fault first) next (byEntry count fault all)
   both-entries = both-from 0
+
+  pub both-stepping : {first : Outcome A} {all : Outcome B} (jobs : List Job) (bounds plan : List ℕ) → Both first next all
+      → Both (stepping jobs bounds plan first) next (stepping jobs bounds plan all)
+  both-stepping jobs bounds plan both =
+      both-when (wrongPlanLength plan) 15
+      (both-when (not (eqb (planIntervals plan) (intervalCount bounds))) 16
+      (both-entries _ _ both))
 
   -- what the verdict on the first says of both
   pub both-refused : (first : Outcome A) (all : Outcome B) → Both first next all → (number place : ℕ) → verdictOf first ≡ Refused number place

@@ -6,12 +6,13 @@ use mathlib.Core.List.{List}
 use lib.ListN.{length, getD}
 use lib.Dec.{ltb, leb, eqb}
 use Rattle.model.specs.declared.Job.{Job}
+use Rattle.model.specs.Outcome.{Outcome, refuseWhen, byEntry}
 use Rattle.model.specs.Entries.{listOf}
 use Rattle.model.specs.Search.{someBelow}
 use Rattle.model.specs.Processors.{Processor, topOf}
 use Rattle.model.specs.Intervals.{lengthOf}
 use Rattle.model.specs.Sites.{Site}
-use Rattle.model.specs.Steps.{Step, cellAt, stepAt}
+use Rattle.model.specs.Steps.{Step, planIntervals, stepCount, cellAt, stepAt, wrongPlanLength}
 use Rattle.model.specs.Checking.{fitting}
 use Rattle.fitting.specs.declared.Verdict.{Verdict}
 use Rattle.fitting.specs.declared.Verdict.the-variants.{Passed}
@@ -51,6 +52,14 @@ faultOfStep sets cycles count bounds seen step =
 unfoldable pub stepFaultIn : (sets cycles : List ℕ) → (count bounds : ℕ) → (plan : List ℕ) → (step : ℕ) → ℕ
 stepFaultIn sets cycles count bounds plan s =
     faultWhere sets cycles count bounds (someBelow s (λ r. eqb (cellAt plan r) (cellAt plan s))) (stepAt plan s)
+
+-- The steps of a plan, 15 to 18, over the open sets and the cycles of the jobs in arrays.
+unfoldable pub steppingIn : {A : Type 0} → (sets cycles : List ℕ) → (count bounds : ℕ) → (plan : List ℕ) → Outcome A → Outcome A
+steppingIn sets cycles count bounds plan next =
+    refuseWhen (wrongPlanLength plan) 15
+    (refuseWhen (not (eqb (planIntervals plan) (bounds - 1))) 16
+    (byEntry (stepCount plan) (stepFaultIn sets cycles count bounds plan)
+    next))
 
 -- Refusal 20 at an interval, over loads in an array; 0 for none.
 abbrev pub loadFaultIn : (top : ℕ) → (bounds loads : List ℕ) → (interval : ℕ) → ℕ

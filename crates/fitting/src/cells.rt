@@ -1,5 +1,5 @@
-// The steps of a plan one after another, by cell: refusals 17 and 18. The open pairs and the pairs seen so far are kept
-// as one set of jobs for each interval.
+// The steps of a plan, refusals 15 to 18: one after another, by cell. The open pairs and the pairs seen so far are kept as
+// one set of jobs for each interval.
 ghost use mathlib.Core.Path.{_≡_};
 ghost use Prim.Native.Nat.{_+_, _*_, _<_, _≤_};
 ghost use lib.ListN.{length};
@@ -11,18 +11,50 @@ ghost use Rattle.fitting.specs.declared.Verdict.the-variants.{Passed};
 ghost use Rattle.fitting.specs.Verdicts.{verdictOf, passed};
 ghost use Rattle.fitting.specs.SetsHave.{NoJobs};
 ghost use Rattle.fitting.specs.SeenCells.{CellsSeen};
-ghost use Rattle.fitting.specs.FirstHalf.{faultOfStep, stepFaultIn};
+ghost use Rattle.fitting.specs.FirstHalf.{faultOfStep, stepFaultIn, steppingIn};
 use crate::Verdict;
+use intervals::interval_count;
 use job_sets::SET_WORDS;
 use job_sets::add;
 use job_sets::holds;
 use model::MAX_JOBS;
+use tables::number16;
 use walking::Step;
 use walking::decode_step;
 use walking::step_count;
+use walking::wrong_length;
+
+// Checks the steps of a plan, for jobs whose open sets and cycles stand in arrays. Where nothing is wrong it leaves the cells of
+// the steps; what a refused plan leaves there is free.
+pub fn check_steps(
+    sets: &[u64; SET_WORDS],
+    cycles: &[u64; MAX_JOBS],
+    count: usize,
+    bounds: usize,
+    plan: &[u8],
+    cells: &mut [u64; SET_WORDS],
+) -> Verdict
+    requires { ⌜ (count ≤ maxJobs) × (bounds ≤ maxBounds) × NoJobs (now cells) ⌝ }
+    ensures { λ r. ⌜ r ≡ verdictOf (steppingIn (now (sets .entry)) (now (cycles .entry)) count bounds (now (plan .entry)) passed) ⌝ }
+    ensures { λ r. ⌜ (r ≡ Passed → CellsSeen (now (plan .entry)) (now (cells .exit))) ⌝ }
+{
+    if wrong_length(plan) {
+        return Verdict::Refused {
+            number: 15,
+            place: 0,
+        };
+    }
+    if number16(plan, 0) as usize != interval_count(bounds) {
+        return Verdict::Refused {
+            number: 16,
+            place: 0,
+        };
+    }
+    mark_steps(sets, cycles, count, bounds, plan, cells)
+}
 
 // Goes through the steps one after another, and marks the cell of each.
-pub(crate) fn check_steps(
+fn mark_steps(
     sets: &[u64; SET_WORDS],
     cycles: &[u64; MAX_JOBS],
     count: usize,

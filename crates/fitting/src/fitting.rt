@@ -22,13 +22,10 @@ use crate::cells::check_steps;
 use crate::records::job_records;
 use crate::records::lend_jobs;
 use crate::sums::add_plan;
-use intervals::interval_count;
 use job_sets::SET_WORDS;
 use model::MAX_BOUNDS;
 use model::MAX_INTERVALS;
 use model::MAX_JOBS;
-use tables::number16;
-use walking::wrong_length;
 
 // Checks a plan against jobs that stand in three arrays, and their bounds. Fills the open sets of the intervals, the loads
 // that the plan's steps make and, where the plan passes, the cells of its steps; what a refused plan leaves in those is free. The
@@ -85,18 +82,6 @@ fn check_plan(
     ensures { λ r. ⌜ ((processor : Processor) (jobs : List Job) → topOf processor ≡ top → length jobs ≡ count → TestedBelow jobs count (now (times .entry)) bounds (planSums (now (plan .entry))) (now (sets .entry)) summed → HoldsCycles jobs (now (cycles .entry)) → r ≡ verdictOf (fitting (siteIn processor jobs (now (times .entry)) bounds) (now (plan .entry)) passed)) ⌝ }
     ensures { λ r. ⌜ (r ≡ Passed → CellsSeen (now (plan .entry)) (now (cells .exit))) ⌝ }
 {
-    if wrong_length(plan) {
-        return Verdict::Refused {
-            number: 15,
-            place: 0,
-        };
-    }
-    if number16(plan, 0) as usize != interval_count(bounds) {
-        return Verdict::Refused {
-            number: 16,
-            place: 0,
-        };
-    }
     let steps = check_steps(sets, cycles, count, bounds, plan, cells);
     if let Verdict::Refused { number, place } = steps {
         return Verdict::Refused { number, place };

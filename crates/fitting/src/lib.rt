@@ -5,6 +5,7 @@ mod opening;
 mod records;
 mod sums;
 
+pub use cells::check_steps;
 pub use fitting::fit;
 
 // What a half of the check finds: that nothing is wrong, or the refusal's number and place.

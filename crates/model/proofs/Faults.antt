@@ -43,12 +43,12 @@ pub record SoundCycles (jobs : List Job) (plan : List ℕ) (s : ℕ) : Type 0 wh
   pub some : 1 ≤ stepAt plan s .cycles
   pub upto : stepAt plan s .cycles ≤ jobOf jobs (stepAt plan s .job) .cycles
 
-module _ (site : Site) (plan : List ℕ) where
+module _ (jobs : List Job) (bounds plan : List ℕ) where
   -- the tests of 17 and 18 say just that
-  cell-sound : (s : ℕ) → (wrongCell site plan s ≡ false) ↔ SoundCell (site .jobs) (site .bounds) plan s
+  cell-sound : (s : ℕ) → (wrongCell jobs bounds plan s ≡ false) ↔ SoundCell jobs bounds plan s
   cell-sound s = (
     λ e.
-        let (pair, new) = neither (not (isOpenPair site (stepAt plan s))) _ e in
+        let (pair, new) = neither (not (isOpenPair jobs bounds (stepAt plan s))) _ e in
         let (numbers, is-open) = both-true _ _ (not-false _ pair) in
         let (interval, job) = both-true _ _ numbers in
         record {
@@ -66,20 +66,21 @@ module _ (site : Site) (plan : List ℕ) where
         ),
   )
 
-  cycles-sound : (s : ℕ) → (wrongCycles site plan s ≡ false) ↔ SoundCycles (site .jobs) plan s
+  cycles-sound : (s : ℕ) → (wrongCycles jobs bounds plan s ≡ false) ↔ SoundCycles jobs plan s
   cycles-sound s = (
     λ e. let (some, upto) = in-range (stepAt plan s .cycles) _ e in record { some = some; upto = upto },
     λ h. rw (le-leb _ _ (h .some), le-leb _ _ (h .upto)),
   )
 
   -- a step has no fault exactly when its cell and its cycles are sound
-  pub step-sound : (s : ℕ) → (stepFault site plan s ≡ 0) ↔ (SoundCell (site .jobs) (site .bounds) plan s × SoundCycles (site .jobs) plan s)
+  pub step-sound : (s : ℕ) → (stepFault jobs bounds plan s ≡ 0) ↔ (SoundCell jobs bounds plan s × SoundCycles jobs plan s)
   unfolding stepFault
   step-sound s = (
     λ e. let (cell, cycles) = no-fault _ _ 16 17 e in (cell-sound s .0 cell, cycles-sound s .0 cycles),
     λ h. rw (cell-sound s .1 (h .0), cycles-sound s .1 (h .1)),
   )
 
+module _ (site : Site) (plan : List ℕ) where
   -- 19: a job's steps add to its cycles
   pub job-sum-fault : (j : ℕ) → FaultUnless (jobSum plan j ≡ jobOf (site .jobs) j .cycles) (jobSumFault site plan j) 19
   unfolding jobSumFault

@@ -10,6 +10,7 @@ use native.Mathlib.Omega.{arith}
 use lib.ListN.{length}
 use lib.Dec.{eqb}
 use borrow.Author.Tests.{eqb-true, eq-eqb, not-false}
+use Rattle.model.specs.declared.Job.{Job}
 use Rattle.model.specs.Outcome.{Outcome, answer}
 use Rattle.model.specs.Jobs.{jobOf}
 use Rattle.model.specs.Processors.{topOf}
@@ -17,17 +18,17 @@ use Rattle.model.specs.Intervals.{intervalCount}
 use Rattle.model.specs.Sites.{Site}
 use Rattle.model.specs.Plans.{Gives}
 use Rattle.model.specs.Steps.{planIntervals, stepCount, wrongPlanLength, jobSum, sharesOf}
-use Rattle.model.specs.Checking.{stepFault, jobSumFault, loadFault, fitting}
+use Rattle.model.specs.Checking.{stepFault, stepping, jobSumFault, loadFault, fitting}
 use Rattle.model.specs.Accepted.{IsPlan}
 use Rattle.model.proofs.Numbers.{true≢false}
 use Rattle.model.proofs.Outcome.{answered-past, byEntry-answered, byEntry-passes}
 use Rattle.model.proofs.Steps.{share-none, shares-of-job, step-in-job-sum}
 use Rattle.model.proofs.Faults.{SoundCell, SoundCycles, plan-length, step-sound, job-sum-fault, load-fault}
 
-module _ (site : Site) (plan : List ℕ) where
+module _ (jobs : List Job) (bounds plan : List ℕ) where
   -- no fault at any step makes a plan
-  steps-are-plan : length plan ≡ 4 + 6 * stepCount plan → planIntervals plan ≡ intervalCount (site .bounds)
-      → ((s : ℕ) → s < stepCount plan → stepFault site plan s ≡ 0) → IsPlan (site .jobs) (site .bounds) plan
+  steps-are-plan : length plan ≡ 4 + 6 * stepCount plan → planIntervals plan ≡ intervalCount bounds
+      → ((s : ℕ) → s < stepCount plan → stepFault jobs bounds plan s ≡ 0) → IsPlan jobs bounds plan
   steps-are-plan size intervals faultless =
       record {
         size = size;
@@ -39,9 +40,19 @@ module _ (site : Site) (plan : List ℕ) where
         cells-differ = λ r s before below. sound s below .0 .new r before;
       }
     where
-      sound : (s : ℕ) → s < stepCount plan → SoundCell (site .jobs) (site .bounds) plan s × SoundCycles (site .jobs) plan s
-      sound s below = step-sound site plan s .0 (faultless s below)
+      sound : (s : ℕ) → s < stepCount plan → SoundCell jobs bounds plan s × SoundCycles jobs plan s
+      sound s below = step-sound jobs bounds plan s .0 (faultless s below)
 
+  -- an answer says that the steps are those of a plan
+  pub stepping-answered : {A : Type 0} {a : A} (next : Outcome A) → stepping jobs bounds plan next ≡ answer a
+      → IsPlan jobs bounds plan × (next ≡ answer a)
+  stepping-answered next e =
+      let (size, e) = answered-past (wrongPlanLength plan) 15 _ e in
+      let (intervals, e) = answered-past (not (eqb (planIntervals plan) (intervalCount bounds))) 16 _ e in
+      let (steps, e) = byEntry-answered _ _ (stepCount plan) e in
+      (steps-are-plan (plan-length plan .0 size) (eqb-true _ _ (not-false _ intervals)) steps, e)
+
+module _ (site : Site) (plan : List ℕ) where
   module _ (is-plan : IsPlan (site .jobs) (site .bounds) plan) where
     -- no fault at any job and any interval: the plan gives each job its cycles
     sums-give : ((j : ℕ) → j < length (site .jobs) → jobSumFault site plan j ≡ 0)
@@ -60,9 +71,9 @@ module _ (site : Site) (plan : List ℕ) where
       whole-sum j job = sym (shares-of-job plan _ (is-plan .step-interval) j) ∙ gives .whole j job
 
       -- a plan that gives each job its cycles has no fault at any step, any job and any interval
-      steps-faultless : (s : ℕ) → s < stepCount plan → stepFault site plan s ≡ 0
+      steps-faultless : (s : ℕ) → s < stepCount plan → stepFault (site .jobs) (site .bounds) plan s ≡ 0
       steps-faultless s below =
-          step-sound site plan s .1 (
+          step-sound (site .jobs) (site .bounds) plan s .1 (
             record {
               interval = is-plan .step-interval s below;
               job = is-plan .step-job s below;
@@ -95,12 +106,9 @@ module _ (site : Site) (plan : List ℕ) where
       → (IsPlan (site .jobs) (site .bounds) plan × Gives (topOf (site .processor)) (site .jobs) (site .bounds) (sharesOf plan)) × (next ≡ answer a)
   unfolding fitting
   fitting-answered next e =
-      let (size, e) = answered-past (wrongPlanLength plan) 15 _ e in
-      let (intervals, e) = answered-past (not (eqb (planIntervals plan) (intervalCount (site .bounds)))) 16 _ e in
-      let (steps, e) = byEntry-answered _ _ (stepCount plan) e in
+      let (is-plan, e) = stepping-answered (site .jobs) (site .bounds) plan _ e in
       let (sums, e) = byEntry-answered _ _ (length (site .jobs)) e in
       let (loads, e) = byEntry-answered _ _ (intervalCount (site .bounds)) e in
-      let is-plan = steps-are-plan (plan-length plan .0 size) (eqb-true _ _ (not-false _ intervals)) steps in
       ((is-plan, sums-give is-plan sums loads), e)
 
   -- The first half: it passes exactly for a plan that gives each job its cycles.

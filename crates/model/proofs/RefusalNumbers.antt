@@ -12,7 +12,7 @@ use lib.Dec.{ltb, leb, eqb}
 use Rattle.model.specs.declared.Level.{Level}
 use Rattle.model.specs.declared.Job.{Job}
 use Rattle.model.specs.Limits.{maxLevels, maxJobs, maxDeadline}
-use Rattle.model.specs.Outcome.{Outcome, refused, answer, andThen, refuseWhen, refuseAt, refuseUnder, byEntryFrom, From, RefusesBy}
+use Rattle.model.specs.Outcome.{Outcome, refused, answer, andThen, refuseWhen, refuseAt, refuseUnder, byEntryFrom, byEntry, From, RefusesBy}
 use Rattle.model.specs.Entries.{listOf}
 use Rattle.model.specs.Levels.{levelOf, wrongFrequency, wrongVoltage, faultOfLevel, levelFault}
 use Rattle.model.specs.Points.{powerOf}
@@ -33,6 +33,7 @@ use Rattle.model.specs.Checking.{
   wrongCell,
   wrongCycles,
   stepFault,
+  stepping,
   jobSumFault,
   loadFault,
   fitting,
@@ -194,66 +195,79 @@ walk-by plan = by-when (From 15 15) (wrongPlanLength plan) 15 (omega arith) (by-
 abbrev CheckNumbers : ℕ → Type 0
 CheckNumbers n = SiteNumbers n ⊎ From 15 24 n
 
-module _ (site : Site) (plan : List ℕ) where
-  step-fault : (s : ℕ) → FaultBy CheckNumbers (stepFault site plan s)
+-- the steps refuse by 15 to 18, whatever else may follow
+module _ (numbers : ℕ → Type 0) (has : (n : ℕ) → From 15 18 n → numbers n) (jobs : List Job) (bounds plan : List ℕ) where
+  step-fault : (s : ℕ) → FaultBy numbers (stepFault jobs bounds plan s)
   unfolding stepFault
   step-fault s =
-      fault-cond CheckNumbers (wrongCell site plan s) 17 (cond (wrongCycles site plan s) 18 0) (inr (omega arith))
-      (fault-cond CheckNumbers (wrongCycles site plan s) 18 0 (inr (omega arith)) (inl refl))
+      fault-cond numbers (wrongCell jobs bounds plan s) 17 (cond (wrongCycles jobs bounds plan s) 18 0) (has 17 (omega arith, omega arith))
+      (fault-cond numbers (wrongCycles jobs bounds plan s) 18 0 (has 18 (omega arith, omega arith)) (inl refl))
 
-  job-sum-fault : (j : ℕ) → FaultBy CheckNumbers (jobSumFault site plan j)
+  pub stepping-by : {A : Type 0} {next : Outcome A} → RefusesBy numbers next → RefusesBy numbers (stepping jobs bounds plan next)
+  stepping-by rest =
+      by-when numbers (wrongPlanLength plan) 15 (has 15 (omega arith, omega arith))
+      (by-when numbers (not (eqb (planIntervals plan) (intervalCount bounds))) 16 (has 16 (omega arith, omega arith))
+      (by-entries numbers 0 (stepCount plan) (stepFault jobs bounds plan) step-fault
+      rest))
+
+-- What comes after the steps refuses by 19 to 24.
+module _ (site : Site) (plan : List ℕ) where
+  job-sum-fault : (j : ℕ) → FaultBy (From 19 24) (jobSumFault site plan j)
   unfolding jobSumFault
-  job-sum-fault j = fault-unless CheckNumbers (eqb (jobSum plan j) (jobOf (site .jobs) j .cycles)) 19 (inr (omega arith))
+  job-sum-fault j = fault-unless (From 19 24) (eqb (jobSum plan j) (jobOf (site .jobs) j .cycles)) 19 (omega arith)
 
-  load-fault : (i : ℕ) → FaultBy CheckNumbers (loadFault site plan i)
+  load-fault : (i : ℕ) → FaultBy (From 19 24) (loadFault site plan i)
   unfolding loadFault
-  load-fault i = fault-unless CheckNumbers (leb (load (site .jobs) (sharesOf plan) i) (lengthOf (site .bounds) i * topOf (site .processor))) 20 (inr (omega arith))
+  load-fault i = fault-unless (From 19 24) (leb (load (site .jobs) (sharesOf plan) i) (lengthOf (site .bounds) i * topOf (site .processor))) 20 (omega arith)
 
-  fitting-by : {A : Type 0} {next : Outcome A} → RefusesBy CheckNumbers next → RefusesBy CheckNumbers (fitting site plan next)
-  unfolding fitting
-  fitting-by rest =
-      by-when CheckNumbers (wrongPlanLength plan) 15 (inr (omega arith))
-      (by-when CheckNumbers (not (eqb (planIntervals plan) (intervalCount (site .bounds)))) 16 (inr (omega arith))
-      (by-entries CheckNumbers 0 (stepCount plan) (stepFault site plan) step-fault
-      (by-entries CheckNumbers 0 (length (site .jobs)) (jobSumFault site plan) job-sum-fault
-      (by-entries CheckNumbers 0 (intervalCount (site .bounds)) (loadFault site plan) load-fault
-      rest))))
+  sums-by : {A : Type 0} {next : Outcome A} → RefusesBy (From 19 24) next
+      → RefusesBy (From 19 24) (byEntry (length (site .jobs)) (jobSumFault site plan) (byEntry (intervalCount (site .bounds)) (loadFault site plan) next))
+  sums-by rest =
+      by-entries (From 19 24) 0 (length (site .jobs)) (jobSumFault site plan) job-sum-fault
+      (by-entries (From 19 24) 0 (intervalCount (site .bounds)) (loadFault site plan) load-fault
+      rest)
 
 module _ (site : Site) (plan prices : List ℕ) where
-  entry-fault : (i : ℕ) → FaultBy CheckNumbers (entryFault site plan prices i)
+  entry-fault : (i : ℕ) → FaultBy (From 19 24) (entryFault site plan prices i)
   unfolding entryFault
   entry-fault i =
-      fault-unless CheckNumbers (eqb (endAt prices i) (boundAt (site .bounds) (suc i)) && isBandNumber (workingOf (site .processor)) (pricesOf prices i)) 22 (inr (omega arith))
+      fault-unless (From 19 24) (eqb (endAt prices i) (boundAt (site .bounds) (suc i)) && isBandNumber (workingOf (site .processor)) (pricesOf prices i)) 22 (omega arith)
 
-  price-fault : (i : ℕ) → FaultBy CheckNumbers (priceFault site plan prices i)
+  price-fault : (i : ℕ) → FaultBy (From 19 24) (priceFault site plan prices i)
   unfolding priceFault
   price-fault i =
-      fault-unless CheckNumbers (fitsLoad (workingOf (site .processor)) (lengthOf (site .bounds) i) (load (site .jobs) (sharesOf plan) i) (pricesOf prices i)) 23 (inr (omega arith))
+      fault-unless (From 19 24) (fitsLoad (workingOf (site .processor)) (lengthOf (site .bounds) i) (load (site .jobs) (sharesOf plan) i) (pricesOf prices i)) 23 (omega arith)
 
-  cheaper-fault : (s : ℕ) → FaultBy CheckNumbers (cheaperFault site plan prices s)
+  cheaper-fault : (s : ℕ) → FaultBy (From 19 24) (cheaperFault site plan prices s)
   unfolding cheaperFault
   cheaper-fault s =
-      fault-cond CheckNumbers
+      fault-cond (From 19 24)
       (someBelow (intervalCount (site .bounds))
       (λ i. isOpen (site .bounds) (jobOf (site .jobs) (stepAt plan s .job)) i && ltb (pricesOf prices i) (pricesOf prices (stepAt plan s .interval))))
-      24 0 (inr (omega arith)) (inl refl)
+      24 0 (omega arith) (inl refl)
 
-  pricing-by : {A : Type 0} {next : Outcome A} → RefusesBy CheckNumbers next → RefusesBy CheckNumbers (pricing site plan prices next)
+  pricing-by : {A : Type 0} {next : Outcome A} → RefusesBy (From 19 24) next → RefusesBy (From 19 24) (pricing site plan prices next)
   unfolding pricing
   pricing-by rest =
-      by-when CheckNumbers (wrongPriceLength site plan prices) 21 (inr (omega arith))
-      (by-entries CheckNumbers 0 (intervalCount (site .bounds)) (entryFault site plan prices) entry-fault
-      (by-entries CheckNumbers 0 (intervalCount (site .bounds)) (priceFault site plan prices) price-fault
-      (by-entries CheckNumbers 0 (stepCount plan) (cheaperFault site plan prices) cheaper-fault
+      by-when (From 19 24) (wrongPriceLength site plan prices) 21 (omega arith)
+      (by-entries (From 19 24) 0 (intervalCount (site .bounds)) (entryFault site plan prices) entry-fault
+      (by-entries (From 19 24) 0 (intervalCount (site .bounds)) (priceFault site plan prices) price-fault
+      (by-entries (From 19 24) 0 (stepCount plan) (cheaperFault site plan prices) cheaper-fault
       rest)))
 
+  -- the check of a site is its steps, and then something that refuses so
+  pub check-past-steps : (rest : Outcome ℕ) × (checkFor site plan prices ≡ stepping (site .jobs) (site .bounds) plan rest) × RefusesBy (From 19 24) rest
+  unfolding checkFor fitting
+  check-past-steps = (_, refl, sums-by site plan (pricing-by (by-answer (From 19 24) (figureOf site plan))))
+
 pub check-by : (levels jobs plan prices : List ℕ) → RefusesBy CheckNumbers (check levels jobs plan prices)
-unfolding check checkFor
+unfolding check
 check-by levels jobs plan prices =
     by-then CheckNumbers (readSite levels jobs) _ (site-then levels jobs (From 15 24)) λ site.
-    fitting-by site plan
-    (pricing-by site plan prices
-    (by-answer CheckNumbers (figureOf site plan)))
+    let (rest, is, past) = check-past-steps site plan prices in
+    rw is
+    (stepping-by CheckNumbers (λ n from. inr (from .0, omega (arith, from .1))) (site .jobs) (site .bounds) plan
+    (widen (λ n from. inr (omega (arith, from .0), from .1)) past))
 
 -- planning's own form of outcome
 abbrev PlanNumbers : ℕ → Type 0

@@ -4,6 +4,7 @@ use mathlib.Core.Bool.{Bool, not, cond, _||_, _&&_}
 use mathlib.Core.List.{List}
 use lib.ListN.{length}
 use lib.Dec.{ltb, leb, eqb}
+use Rattle.model.specs.declared.Job.{Job}
 use Rattle.model.specs.Outcome.{Outcome, answer, refuseWhen, byEntry, andThen}
 use Rattle.model.specs.Search.{someBelow}
 use Rattle.model.specs.Jobs.{jobOf}
@@ -17,25 +18,35 @@ use Rattle.model.specs.Steps.{Step, planIntervals, stepCount, cellAt, st
 use Rattle.model.specs.PriceBytes.{priceIntervals, endAt, pricesOf}
 
 -- The pair of a job and an interval exists and is open.
-abbrev pub isOpenPair : Site → Step → Bool
-isOpenPair site step =
-    ltb (step .interval) (intervalCount (site .bounds)) && ltb (step .job) (length (site .jobs))
-    && isOpen (site .bounds) (jobOf (site .jobs) (step .job)) (step .interval)
+abbrev pub isOpenPair : List Job → (bounds : List ℕ) → Step → Bool
+isOpenPair jobs bounds step =
+    ltb (step .interval) (intervalCount bounds) && ltb (step .job) (length jobs)
+    && isOpen bounds (jobOf jobs (step .job)) (step .interval)
 
--- The first half, 15 to 20: the plan fits the site.
-module _ (site : Site) (plan : List ℕ) where
+-- The steps, 15 to 18: each stands in an open pair of its own, with cycles that its job has. Levels do not bear on them.
+module _ (jobs : List Job) (bounds plan : List ℕ) where
   -- 17: cell not an open pair, or present earlier.
   abbrev pub wrongCell : (step : ℕ) → Bool
-  wrongCell s = not (isOpenPair site (stepAt plan s)) || someBelow s (λ r. eqb (cellAt plan r) (cellAt plan s))
+  wrongCell s = not (isOpenPair jobs bounds (stepAt plan s)) || someBelow s (λ r. eqb (cellAt plan r) (cellAt plan s))
 
   -- 18: cycles 0 or above the job's.
   abbrev pub wrongCycles : (step : ℕ) → Bool
   wrongCycles s =
-      not (leb 1 (stepAt plan s .cycles) && leb (stepAt plan s .cycles) (jobOf (site .jobs) (stepAt plan s .job) .cycles))
+      not (leb 1 (stepAt plan s .cycles) && leb (stepAt plan s .cycles) (jobOf jobs (stepAt plan s .job) .cycles))
 
   unfoldable pub stepFault : (step : ℕ) → ℕ
   stepFault s = cond (wrongCell s) 17 (cond (wrongCycles s) 18 0)
 
+  -- 15, 16, then by step 17 and 18.
+  abbrev pub stepping : {A : Type 0} → Outcome A → Outcome A
+  stepping next =
+      refuseWhen (wrongPlanLength plan) 15
+      (refuseWhen (not (eqb (planIntervals plan) (intervalCount bounds))) 16
+      (byEntry (stepCount plan) stepFault
+      next))
+
+-- The first half, 15 to 20: the plan fits the site.
+module _ (site : Site) (plan : List ℕ) where
   -- 19: a job whose steps don't add to its cycles.
   unfoldable pub jobSumFault : (job : ℕ) → ℕ
   jobSumFault j = cond (eqb (jobSum plan j) (jobOf (site .jobs) j .cycles)) 0 19
@@ -44,15 +55,13 @@ module _ (site : Site) (plan : List ℕ) where
   unfoldable pub loadFault : (interval : ℕ) → ℕ
   loadFault i = cond (leb (load (site .jobs) (sharesOf plan) i) (lengthOf (site .bounds) i * topOf (site .processor))) 0 20
 
-  -- 15, 16, then by step 17 and 18, then 19 by job and 20 by interval.
+  -- The steps, then 19 by job and 20 by interval.
   unfoldable pub fitting : {A : Type 0} → Outcome A → Outcome A
   fitting next =
-      refuseWhen (wrongPlanLength plan) 15
-      (refuseWhen (not (eqb (planIntervals plan) (intervalCount (site .bounds)))) 16
-      (byEntry (stepCount plan) stepFault
+      stepping (site .jobs) (site .bounds) plan
       (byEntry (length (site .jobs)) jobSumFault
       (byEntry (intervalCount (site .bounds)) loadFault
-      next))))
+      next))
 
 -- The second half, 21 to 24: the prices fit the plan.
 module _ (site : Site) (plan prices : List ℕ) where
