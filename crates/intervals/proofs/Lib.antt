@@ -4,3 +4,4 @@ pub mod Padded
 pub mod Halving
 pub mod SmallBounds
 pub mod OpenSets
+pub mod OpenRanges

@@ -39,7 +39,7 @@ module _ {site : Site} {table : SiteTable} {cycles times first last sets : List 
   ends-held : (i : ℕ) → i < intervalCount (site .bounds)
       → (getD times (suc i) 0 ≡ boundAt (site .bounds) (suc i)) × (getD times (suc i) 0 < 2 ^ 32)
   ends-held i below = (
-    time-at (held .valid) (held .bounds-are) (suc i) (omega arith),
+    time-at held (suc i) (omega arith),
     omega (arith, held-times held .last (suc i) (omega (arith, held .bounds-are .counted))),
   )
 

@@ -1,5 +1,5 @@
--- A site that was read stands in the arrays that planning makes of it: the bound that is a time is found by its number, and the open
--- sets are those of the numbers. With the lengths of its intervals, arrays in which a site stands hold what is to be placed for it.
+-- A site that was read stands in the arrays that planning makes of it. With the lengths of its intervals, arrays in which a site
+-- stands hold what is to be placed for it.
 -- Assumes nothing.
 use mathlib.Core.Path.{_≡_, refl, sym, _∙_, ap, subst}
 use mathlib.Core.Bool.{true}
@@ -9,9 +9,8 @@ use Prim.Native.Nat.{ℕ, zero, suc, _+_, _-_, _<_, _≤_}
 use native.Mathlib.Numerals.{add-one}
 use native.Mathlib.Omega.{arith}
 use lib.ListN.{length, getD, take}
-use borrow.Author.Tests.{le-leb, lt-leb}
 use Rattle.model.specs.declared.Job.{Job}
-use Rattle.model.specs.Limits.{maxJobs, maxBounds, maxIntervals, maxPoints, maxDeadline}
+use Rattle.model.specs.Limits.{maxJobs, maxIntervals, maxPoints, maxDeadline}
 use Rattle.model.specs.Jobs.{jobOf, noJob}
 use Rattle.model.specs.Points.{Point, idlingPoint}
 use Rattle.model.specs.Bands.{frequencyOf, Curve}
@@ -19,8 +18,6 @@ use Rattle.model.specs.Processors.{allPoints, workingOf}
 use Rattle.model.specs.Intervals.{boundAt, intervalCount, lengthOf, OpenRange}
 use Rattle.model.specs.Sites.{Site, ValidSite}
 use Rattle.model.proofs.Numbers.{lt-or-le}
-use Rattle.model.proofs.Search.{firstBelow-is}
-use Rattle.model.proofs.Intervals.{open-range, bounds-rise}
 use Rattle.model.proofs.Working.{working-curve}
 use Rattle.tables.specs.Column.{columnOf}
 use Rattle.tables.proofs.Column.{length-column, column-at, column-past, column-cong}
@@ -30,14 +27,12 @@ use Rattle.job_sets.specs.IntervalSets.{setIn}
 use Rattle.levels.specs.declared.points.PointTable.{PointTable}
 use Rattle.levels.specs.PointTables.{pointsOf, SmallPoints}
 use Rattle.levels.proofs.SmallPoints.{working-small, working-held}
-use Rattle.intervals.specs.Times.{HoldsTimes, SmallBounds, numberOf}
+use Rattle.intervals.specs.Times.{SmallBounds, numberOf}
 use Rattle.intervals.specs.OpenSets.{openSets}
-use Rattle.intervals.proofs.OpenSets.{open-held}
-use Rattle.intervals.proofs.Padded.{take-padded, holds-first}
-use Rattle.intervals.proofs.SmallBounds.{small-bounds}
+use Rattle.intervals.proofs.OpenRanges as ranges
 use Rattle.site.specs.declared.SiteTable.{SiteTable}
 use Rattle.site.specs.SiteTables.{HoldsSite}
-use Rattle.site.proofs.HeldSites.{held-jobs-counted, held-count}
+use Rattle.site.proofs.HeldSites.{held-jobs-counted}
 use Rattle.windows.specs.WindowTests.{TestArrays}
 use Rattle.workloads.specs.Workloads.{Workload}
 use Rattle.workloads.specs.Placement.{SoundProblem}
@@ -72,92 +67,33 @@ pub record SiteWorkload (site : Site) (work : Workload) : Type 0 where
   pub ranges : (j : ℕ) → j < length (site .jobs)
       → OpenRange (site .jobs) (site .bounds) j (numbersIn (work .first) j) (numbersIn (work .last) j)
 
--- the bounds of a valid site, in an array
-module _ {site : Site} {times : List ℕ} {count : ℕ} (valid : ValidSite site) (holds : HoldsTimes times count (site .bounds)) where
-  abbrev bounds : List ℕ
-  bounds = site .bounds
-
-  -- they rise, and none is above the latest deadline allowed
-  pub bounds-small : SmallBounds count times
-  bounds-small =
-      rw (holds .counted, holds .array)
-      (small-bounds (valid .bounds) (valid .jobs) (valid .few-bounds) _ (take-padded bounds (valid .few-bounds)))
-
-  pub bounds-held : take count times ≡ bounds
-  bounds-held = holds-first holds (bounds-small .rising .few)
-
-  pub time-at : (i : ℕ) → i < length bounds → getD times i 0 ≡ boundAt bounds i
-  time-at i below =
-      ap (λ (array : List ℕ). getD array i 0) (holds .array)
-      ∙ column-at maxBounds _ _ i (omega (arith, valid .few-bounds)) below
-
-  -- the bound that is a time is found by its number
-  number-found : (i time : ℕ) → i < length bounds → boundAt bounds i ≡ time → numberOf count times time ≡ i
-  number-found i time below same =
-      firstBelow-is count _ i (omega (arith, holds .counted))
-      (λ k before. lt-leb time (getD times k 0) (omega (arith, time-at k (omega arith), bounds-rise (valid .bounds) k i before below)))
-      (le-leb time (getD times i 0) (omega (arith, time-at i below)))
-
 -- a site that was read, and the numbers of its jobs' bounds
 module _ {site : Site} {table : SiteTable} {releases deadlines cycles times first last : List ℕ}
     (valid : ValidSite site) (holds : HoldsSite site table releases deadlines cycles times)
     (first-are : first ≡ columnOf maxJobs (table .jobs) (λ j. numberOf (table .bounds) times (getD releases j 0)))
     (last-are : last ≡ columnOf maxJobs (table .jobs) (λ j. numberOf (table .bounds) times (getD deadlines j 0))) where
-  abbrev jobs : List Job
-  jobs = site .jobs
-
-  counted : table .jobs ≡ length jobs
-  counted = held-jobs-counted valid holds
-
-  own-job : (j : ℕ) → j < table .jobs → jobOf jobs j ≡ record { release = getD releases j 0; deadline = getD deadlines j 0; cycles = getD cycles j 0 }
-  own-job j below = rw (← holds .jobs-are) (job-in (table .jobs) releases deadlines cycles j below)
-
-  cycles-held : cycles ≡ columnOf maxJobs (table .jobs) (λ j. jobOf jobs j .cycles)
-  cycles-held = holds .zeros-past ∙ column-cong maxJobs (table .jobs) _ _ (λ j below. ap (λ (job : Job). job .cycles) (sym (own-job j below)))
-
-  range-at : (j : ℕ) → j < length jobs → OpenRange jobs (site .bounds) j (getD first j 0) (getD last j 0)
-  range-at j below = go (open-range (valid .bounds) j below (valid .jobs .release-before-deadline j below))
-    where
-      here : j < table .jobs
-      here = omega (arith, counted)
-
-      own : jobOf jobs j ≡ record { release = getD releases j 0; deadline = getD deadlines j 0; cycles = getD cycles j 0 }
-      own = own-job j here
-
-      number-at : (numbers moments : List ℕ) (i : ℕ)
-          → numbers ≡ columnOf maxJobs (table .jobs) (λ j. numberOf (table .bounds) times (getD moments j 0))
-          → i < length (site .bounds) → boundAt (site .bounds) i ≡ getD moments j 0 → getD numbers j 0 ≡ i
-      number-at numbers moments i are inside same =
-          rw are
-          (column-at maxJobs _ (table .jobs) j (omega (arith, held-count valid holds)) here
-          ∙ number-found valid (holds .bounds-are) i (getD moments j 0) inside same)
-
-      go : (lo : ℕ) × (hi : ℕ) × OpenRange jobs (site .bounds) j lo hi → OpenRange jobs (site .bounds) j (getD first j 0) (getD last j 0)
-      go (lo, hi, range) =
-          let some = range .nonempty in
-          let within = range .within in
-          let starts : getD first j 0 ≡ lo =
-          number-at first releases lo first-are (omega arith) (range .starts ∙ ap (λ (job : Job). job .release) own) in
-          let ends : getD last j 0 ≡ hi =
-          number-at last deadlines hi last-are (omega arith) (range .ends ∙ ap (λ (job : Job). job .deadline) own) in
-          rw (starts, ends) range
+  own-cycles : (j : ℕ) → j < table .jobs → getD cycles j 0 ≡ jobOf (site .jobs) j .cycles
+  own-cycles j below = rw (← holds .jobs-are, job-in (table .jobs) releases deadlines cycles j below)
 
   -- no number is past the last interval
   pub numbers-few : (j : ℕ) → j < table .jobs → (getD first j 0 ≤ maxIntervals) × (getD last j 0 ≤ maxIntervals)
-  numbers-few j below =
-      let range = range-at j (omega (arith, counted)) in
-      (omega (arith, range .nonempty, range .within, valid .few-bounds), omega (arith, range .within, valid .few-bounds))
+  numbers-few =
+      ranges.numbers-few (valid .bounds) (valid .jobs) (valid .few-bounds) (holds .bounds-are)
+      (table .jobs) releases deadlines cycles (holds .jobs-are) first-are last-are
 
   -- it stands in the arrays
   pub site-in-arrays : {sets : List ℕ} → sets ≡ openSets (table .jobs) first last → InArrays site table cycles times first last sets
   site-in-arrays open-are = record {
     valid = valid;
     working-are = holds .working-are;
-    jobs-counted = counted;
-    cycles-are = cycles-held;
+    jobs-counted = held-jobs-counted valid holds;
+    cycles-are = holds .zeros-past ∙ column-cong maxJobs (table .jobs) _ _ own-cycles;
     bounds-are = holds .bounds-are;
-    ranges = range-at;
-    open-are = rw (open-are, counted) (open-held first last (valid .jobs .few) (omega (arith, valid .few-bounds)) range-at);
+    ranges = ranges.range-at (valid .bounds) (valid .jobs) (valid .few-bounds) (holds .bounds-are)
+        (table .jobs) releases deadlines cycles (holds .jobs-are) first-are last-are;
+    open-are = rw open-are
+        (ranges.open-in-arrays (valid .bounds) (valid .jobs) (valid .few-bounds) (holds .bounds-are)
+        (table .jobs) releases deadlines cycles (holds .jobs-are) first-are last-are);
   }
 
 -- a site that stands in arrays
@@ -184,10 +120,13 @@ module _ {site : Site} {table : SiteTable} {cycles times first last sets : List 
   points-some = omega (arith, points-counted, curve .some)
 
   pub held-times : SmallBounds (table .bounds) times
-  held-times = bounds-small (held .valid) (held .bounds-are)
+  held-times = ranges.bounds-small (held .valid .bounds) (held .valid .jobs) (held .valid .few-bounds) (held .bounds-are)
 
   pub held-ends : take (table .bounds) times ≡ site .bounds
-  held-ends = bounds-held (held .valid) (held .bounds-are)
+  held-ends = ranges.bounds-held (held .valid .bounds) (held .valid .jobs) (held .valid .few-bounds) (held .bounds-are)
+
+  pub time-at : (i : ℕ) → i < length (site .bounds) → getD times i 0 ≡ boundAt (site .bounds) i
+  time-at = ranges.time-at (held .valid .bounds) (held .valid .jobs) (held .valid .few-bounds) (held .bounds-are)
 
   pub intervals-counted : table .bounds - 1 ≡ intervalCount (site .bounds)
   intervals-counted = ap (λ (n : ℕ). n - 1) (held .bounds-are .counted)
@@ -216,7 +155,7 @@ module _ {site : Site} {table : SiteTable} {cycles times first last sets : List 
     bounds-of = held .valid .bounds;
     few = held .valid .few-bounds;
     counted = are ∙ intervals-counted;
-    times-are = time-at (held .valid) (held .bounds-are);
+    times-are = time-at;
     cycles-are = λ j below. cycles-at j;
     open-are = held .open-are;
   }
@@ -228,9 +167,6 @@ module _ {site : Site} {table : SiteTable} {cycles times first last sets : List 
     work =
         workloadWith cycles (table .jobs) intervals (table .working .count - 1) first last size (table .working .frequencies)
 
-    time-in : (i : ℕ) → i < length (site .bounds) → getD times i 0 ≡ boundAt (site .bounds) i
-    time-in = time-at (held .valid) (held .bounds-are)
-
     counted-all : intervals ≡ intervalCount (site .bounds)
     counted-all = intervals-are ∙ intervals-counted
 
@@ -239,7 +175,7 @@ module _ {site : Site} {table : SiteTable} {cycles times first last sets : List 
     size-at i =
         rw size-are
         (column-is maxIntervals intervals _ (lengthOf (site .bounds)) (omega (arith, intervals-are, held-times .rising .few))
-        (λ i below. rw (time-in (i + 1) (omega (arith, counted-all)), time-in i (omega (arith, counted-all)), add-one i))
+        (λ i below. rw (time-at (i + 1) (omega (arith, counted-all)), time-at i (omega (arith, counted-all)), add-one i))
         (λ i past. rw (getD-past (site .bounds) (suc i) 0 (omega (arith, counted-all))) (omega arith)) i)
 
     frequency-at : (k : ℕ) → numbersIn (table .working .frequencies) k ≡ frequencyOf ws k
@@ -258,7 +194,7 @@ module _ {site : Site} {table : SiteTable} {cycles times first last sets : List 
     unfolding lengthOf
     length-high i below =
         let inside : suc i < length (site .bounds) = omega (arith, counted-all) in
-        omega (arith, held-times .last (suc i) (omega (arith, held .bounds-are .counted)), time-in (suc i) inside)
+        omega (arith, held-times .last (suc i) (omega (arith, held .bounds-are .counted)), time-at (suc i) inside)
 
     workload-sound : SoundWorkload work
     workload-sound =

@@ -5,7 +5,7 @@ use mathlib.Core.List.{List}
 use Prim.Native.Nat.{ℕ, _-_, _<_, _≤_}
 use native.Mathlib.Omega.{arith}
 use lib.ListN.{length, take}
-use Rattle.model.specs.Limits.{maxFrequency, maxJobs, maxBounds}
+use Rattle.model.specs.Limits.{maxFrequency, maxJobs}
 use Rattle.model.specs.Jobs.{ValidJobs}
 use Rattle.model.specs.Bands.{bandCount, frequencyOf, Curve}
 use Rattle.model.specs.Processors.{allPoints, workingOf}
@@ -16,8 +16,7 @@ use Rattle.tables.proofs.Read.{length-jobsIn, jobs-count}
 use Rattle.levels.specs.PointTables.{pointsOf, SmallPoints}
 use Rattle.levels.proofs.SmallPoints.{working-small, working-held}
 use Rattle.intervals.specs.Times.{SmallBounds}
-use Rattle.intervals.proofs.Padded.{take-padded, holds-first}
-use Rattle.intervals.proofs.SmallBounds.{small-bounds}
+use Rattle.intervals.proofs.OpenRanges.{bounds-small, bounds-held}
 use Rattle.site.specs.declared.SiteTable.{SiteTable}
 use Rattle.site.specs.SiteTables.{HoldsSite}
 
@@ -54,13 +53,8 @@ module _ {site : Site} {table : SiteTable} {releases deadlines cycles times : Li
   held-top-point = rw (held-points, holds .top-is) (working-top (site .processor .idlePower) (site .processor .levels) (valid .processor .rising))
 
   -- the bounds
-  pub held-few : table .bounds ≤ maxBounds
-  held-few = rw (holds .bounds-are .counted) (valid .few-bounds)
-
   pub held-bounds : take (table .bounds) times ≡ site .bounds
-  held-bounds = holds-first (holds .bounds-are) held-few
+  held-bounds = bounds-held (valid .bounds) (valid .jobs) (valid .few-bounds) (holds .bounds-are)
 
   pub held-bounds-small : SmallBounds (table .bounds) times
-  held-bounds-small =
-      rw (holds .bounds-are .counted, holds .bounds-are .array)
-      (small-bounds (valid .bounds) (valid .jobs) (valid .few-bounds) _ (take-padded (site .bounds) (valid .few-bounds)))
+  held-bounds-small = bounds-small (valid .bounds) (valid .jobs) (valid .few-bounds) (holds .bounds-are)

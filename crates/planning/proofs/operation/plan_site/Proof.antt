@@ -6,21 +6,21 @@ use denote.Ref.{now}
 use borrow.Author.Needs.{needs}
 use Rattle.model.specs.Sites.{Site, ValidSite}
 use Rattle.site.specs.SiteTables.{HoldsSite}
-use Rattle.site.proofs.HeldSites.{held-count}
+use Rattle.site.proofs.HeldSites.{held-count, held-bounds-small}
 use Rattle.planning.specs.SiteArrays.{InArrays}
-use Rattle.planning.proofs.SiteArrays.{bounds-small, numbers-few, site-in-arrays}
+use Rattle.planning.proofs.SiteArrays.{numbers-few, site-in-arrays}
 use Rattle.planning.proofs.operation.plan_site.Statement.{statement}
 use Rattle.planning.proofs.operation.plan_site.Tie as tie
 
 bound-numbers-requires : tie.Need-bound-numbers-requires
 bound-numbers-requires c κs =
     let (site, valid, holds) = c .before .before .before .before .pre in
-    (held-count valid holds, bounds-small valid (holds .bounds-are) .rising, refl)
+    (held-count valid holds, held-bounds-small valid holds .rising, refl)
 
 bound-numbers-requires-2 : tie.Need-bound-numbers-requires-2
 bound-numbers-requires-2 c κs =
     let (site, valid, holds) = c .before .before .before .before .before .before .pre in
-    (held-count valid holds, bounds-small valid (holds .bounds-are) .rising, refl)
+    (held-count valid holds, held-bounds-small valid holds .rising, refl)
 
 open-sets-requires : tie.Need-open-sets-requires
 open-sets-requires c κs =
