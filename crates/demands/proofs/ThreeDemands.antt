@@ -29,6 +29,11 @@ use Rattle.ordering.specs.Ordering.{order, orderedAfter}
 use Rattle.ordering.specs.declared.operation.OrderAnswer.the-variants.{Refused as NotOrdered}
 use Rattle.ordering.specs.OrderAnswers.{orderAnswer}
 use Rattle.ordering.proofs.Ordering.{order-refuses}
+use Rattle.touching.specs.Spans.{Touched}
+use Rattle.touching.specs.Touching.{Lists, touching, listsAfter}
+use Rattle.touching.specs.declared.operation.TouchingAnswer.the-variants.{Refused as NotListed}
+use Rattle.touching.specs.TouchingAnswers.{touchingAnswer}
+use Rattle.touching.proofs.TouchingRefusals.{touching-refuses}
 use Rattle.demands.specs.ThreeDemands.{
   Call,
   PlanComesOut,
@@ -53,6 +58,12 @@ unordered-keeps : (before after : List ℕ) (outcome : Outcome (List ℕ)) (numb
 unordered-keeps before after (refused n p) number place told left = left
 unordered-keeps before after (answer ordered) number place told left = let z : _≡_ {A = ℕ} 0 1 = cc told in absurd (omega (arith, z))
 
+-- a refused call leaves the lists of what touches a span
+unlisted-keeps : (before after : Lists) (outcome : Outcome Touched) (number place : ℕ) → NotListed number place ≡ touchingAnswer outcome
+    → after ≡ listsAfter outcome before → after ≡ before
+unlisted-keeps before after (refused n p) number place told left = left
+unlisted-keeps before after (answer t) number place told left = let z : _≡_ {A = ℕ} 0 1 = cc told in absurd (omega (arith, z))
+
 pub demand-one : DemandOne
 demand-one =
     record {
@@ -70,6 +81,9 @@ demand-one =
       ordering = order-refuses;
       orders-nothing = λ levels jobs plan prices before after answered contract number place is.
           unordered-keeps before after (order levels jobs plan prices (length before)) number place (sym is ∙ contract .answer-is) (contract .buffer-is);
+      touching = touching-refuses;
+      touches-nothing = λ jobs plan start end before after answered contract number place is.
+          unlisted-keeps before after (touching jobs plan start end before) number place (sym is ∙ contract .answer-is) (contract .lists-are);
     }
 
 -- an accepted plan is such a plan, and its prices fit

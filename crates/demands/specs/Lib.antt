@@ -1,7 +1,8 @@
--- The three demands, for a reader who reads nothing else; rounds that repeat, idling that is not free, one spelling of a plan and the
--- running sum of the window test, over the calls.
+-- The three demands, for a reader who reads nothing else; rounds that repeat, idling that is not free, one spelling of a plan, the
+-- running sum of the window test and what touches a span, over the calls.
 pub mod ThreeDemands
 pub mod RepeatedRounds
 pub mod IdlingIsNotFree
 pub mod OneSpelling
 pub mod RunningSums
+pub mod TouchedSpans

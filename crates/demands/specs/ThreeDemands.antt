@@ -13,6 +13,8 @@
 --     rounds tasks and the buffer        roundsAnswer (rounds tasks room), with the buffer that `RoundsContract` names
 --     order levels jobs plan prices      orderAnswer (order levels jobs plan prices room), with the buffer that `OrderContract`
 --       and the buffer                   names
+--     touching jobs plan start end       touchingAnswer (touching jobs plan start end lists), with the lists that `TouchingContract`
+--       and the lists                    names
 --
 -- An answer's enum has a case for each case of the outcome, with the same numbers. So what is stated here of an outcome
 -- on the right holds of what the caller gets.
@@ -53,6 +55,10 @@ use Rattle.ordering.specs.Ordering.{order}
 use Rattle.ordering.specs.declared.operation.OrderAnswer.{OrderAnswer}
 use Rattle.ordering.specs.declared.operation.OrderAnswer.the-variants.{Refused as NotOrdered}
 use Rattle.ordering.specs.OrderAnswers.{OrderContract}
+use Rattle.touching.specs.Touching.{Lists, touching}
+use Rattle.touching.specs.declared.operation.TouchingAnswer.{TouchingAnswer}
+use Rattle.touching.specs.declared.operation.TouchingAnswer.the-variants.{Refused as NotListed}
+use Rattle.touching.specs.TouchingAnswers.{TouchingContract}
 
 -- One call of planning: what it was lent, what it left there, and its answer, with the contract that holds of every call.
 pub record Call : Type 0 where
@@ -76,8 +82,8 @@ pricesWritten call intervals = take (2 + 5 * intervals) (call .after .prices)
 
 -- Demand 1. "Whoever calls an operation, with bytes of any length and content, gets a result or a numbered refusal from
 -- document 01; nothing is required of the caller first, and a refused call changes nothing lent to it." Planning, laying out a
--- round and ordering alone are lent anything that they may change. Document 02's numbers join those of document 01: `LevelNumbers` are 1
--- to 5, 31 and 32, and `SiteNumbers` 1 to 10, 31 and 32.
+-- round, ordering and listing what touches a span alone are lent anything that they may change. Document 02's numbers join those of
+-- document 01: `LevelNumbers` are 1 to 5, 31 and 32, and `SiteNumbers` 1 to 10, 31 and 32.
 pub record DemandOne : Type 0 where
   pub reading-levels : (bytes : List ℕ) → RefusesBy LevelNumbers (readLevels bytes)
   pub reading-jobs : (bytes : List ℕ) → RefusesBy (From 6 10) (readJobs bytes)
@@ -96,6 +102,11 @@ pub record DemandOne : Type 0 where
   pub orders-nothing : (levels jobs plan prices before after : List ℕ) (answered : OrderAnswer)
       → OrderContract levels jobs plan prices before after answered
       → (number place : ℕ) → answered ≡ NotOrdered number place → after ≡ before
+  pub touching : (jobs plan : List ℕ) (start end : ℕ) (before : Lists)
+      → RefusesBy (λ n. (From 33 33 n ⊎ From 6 10 n) ⊎ (From 15 18 n ⊎ From 14 14 n)) (touching jobs plan start end before)
+  pub touches-nothing : (jobs plan : List ℕ) (start end : ℕ) (before after : Lists) (answered : TouchingAnswer)
+      → TouchingContract jobs plan start end before after answered
+      → (number place : ℕ) → answered ≡ NotListed number place → after ≡ before
 
 -- Demand 2. "A plan gives each job exactly its cycles between release and deadline, one job at a time, by the workload and
 -- processor model of George's 2005 thesis, with the energy figure that document 01 defines."

@@ -1,10 +1,10 @@
--- Laws of lists that are joined: one more list, how long they are together, what holds of every element, of one element, and
+-- Laws of lists that are joined: one more list, two parts, how long they are together, what holds of every element, of one element, and
 -- of any two, the place of each element, and sums over the elements; and of a list of one element or none.
 -- Assumes nothing.
 use mathlib.Core.Path.{_≡_, refl, sym, _∙_, ap}
 use mathlib.Core.Bool.{Bool, true, false, cond}
 use mathlib.Core.Logic.{_⊎_, inl, inr}
-use mathlib.Core.List.{List, [], _∷_, _++_, append-nil, map, map-append}
+use mathlib.Core.List.{List, [], _∷_, _++_, append-nil, append-assoc, map, map-append}
 use Prim.Native.Nat.{ℕ, zero, suc, _+_, _-_, _<_, _≤_}
 use native.Mathlib.Nat.{eq-or-lt-of-le, le-of-suc-le-suc}
 use native.Mathlib.Omega.{arith}
@@ -43,6 +43,14 @@ module _ {A : Type 0} where
       go : (n < k) ⊎ (k ≤ n) → (k ≤ n → joined n f ≡ joined k f) → joined (suc n) f ≡ joined k f
       go (inl all) same = let e : k ≡ suc n = omega arith in rw e
       go (inr low) same = rw (none n low (omega arith), append-nil (joined n f)) (same low)
+
+  -- the lists from n on
+  pub joined-split : (n m : ℕ) (f : ℕ → List A) → joined (n + m) f ≡ joined n f ++ joined m (λ i. f (n + i))
+  unfolding joined
+  joined-split n zero f = let e : n + 0 ≡ n = omega arith in rw (e, append-nil)
+  joined-split n (suc m) f =
+      let e : n + suc m ≡ suc (n + m) = omega arith in
+      rw (e, joined-split n m f, append-assoc (joined n f) (joined m (λ i. f (n + i))) (f (n + m)))
 
   module _ (d : A) where
     -- past the first of two lists

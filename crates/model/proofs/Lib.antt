@@ -10,6 +10,7 @@ pub mod Sum
 pub mod SumMore
 pub mod Joined
 pub mod Search
+pub mod Passing
 pub mod BoundsOf
 pub mod Intervals
 pub mod OpenSets

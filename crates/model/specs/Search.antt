@@ -1,12 +1,18 @@
 -- Searches among the numbers 0, 1, .. , count - 1.
 use Prim.Native.Nat.{ℕ, zero, suc, min}
 use mathlib.Core.Bool.{Bool, true, false, _||_, cond}
+use mathlib.Core.List.{List, [], _∷_}
 use mathlib.Core.Option.{Option, none, some}
+use Rattle.model.specs.Entries.{joined}
 
 -- Some number below count passes the test.
 unfoldable pub someBelow : (count : ℕ) → (ℕ → Bool) → Bool
 someBelow zero test = false
 someBelow (suc count) test = someBelow count test || test count
+
+-- All numbers below count that pass the test, rising.
+abbrev pub passingBelow : (count : ℕ) → (ℕ → Bool) → List ℕ
+passingBelow count test = joined count (λ n. cond (test n) (n ∷ []) [])
 
 -- The first of first, first + 1, .. , as many as count, that passes the test; the number after them where none does.
 unfoldable pub firstFrom : (first count : ℕ) → (ℕ → Bool) → ℕ
