@@ -2,16 +2,16 @@
 ghost use Prim.Native.Nat.{_≤_};
 ghost use lib.ListN.{length};
 use crate::buffers::Lengths;
-use crate::buffers::PLAN_ROOM;
 use crate::buffers::PRICE_ROOM;
-use crate::buffers::SHARE_MARK;
 use crate::buffers::SHARE_ROOM;
 use crate::buffers::within_bytes;
-use crate::buffers::within_numbers;
 use crate::print;
 use crate::written;
 use planning::PlanAnswer;
 use test_support::buffers::MARK;
+use test_support::buffers::NUMBER_MARK;
+use test_support::buffers::PLAN_ROOM;
+use test_support::buffers::within_numbers;
 use test_support::encode::ROOM;
 use test_support::encode::encode;
 use test_support::show;
@@ -53,7 +53,7 @@ fn tables_in(level_bytes: &mut [u8], job_bytes: &mut [u8], line: &[u8], place: u
         &job_bytes[..job_length],
         &mut [MARK; PLAN_ROOM],
         &mut [MARK; PRICE_ROOM],
-        &mut [SHARE_MARK; SHARE_ROOM],
+        &mut [NUMBER_MARK; SHARE_ROOM],
         lent,
         word,
     );

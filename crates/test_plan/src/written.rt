@@ -1,10 +1,10 @@
 // What planning has written: the check of it, the rest of the buffers, and the shares beside the plan's steps.
 use crate::buffers::Lengths;
 use crate::buffers::within_bytes;
-use crate::buffers::within_numbers;
 use crate::print;
 use model::MAX_INTERVALS;
 use model::MAX_JOBS;
+use test_support::buffers::within_numbers;
 use walking::Step;
 use walking::StepAnswer;
 use walking::step_at;

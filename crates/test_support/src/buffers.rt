@@ -1,6 +1,13 @@
 // Buffers that are lent to be written, filled with a mark that shows what was written.
+ghost use Rattle.io.specs.Counts.{Counts};
+
+// Room for the longest plan, and for bytes after it: a site of 64 jobs and 127 intervals has at most 4096 open pairs.
+pub const PLAN_ROOM: usize = 24_600;
 
 pub const MARK: u8 = 165;
+
+// More than any number that an operation writes: a job's cycles, a job number, a cell.
+pub const NUMBER_MARK: u32 = 2_779_096_485;
 
 // Whether all bytes from a place on have the mark.
 pub fn kept(bytes: &[u8], start: usize) -> bool {
@@ -12,4 +19,27 @@ pub fn kept(bytes: &[u8], start: usize) -> bool {
         i += 1;
     }
     true
+}
+
+// Whether all numbers from a place on have the mark.
+pub fn numbers_kept(numbers: &[u32], start: usize) -> bool {
+    let mut i = start;
+    while i < numbers.len() {
+        if numbers[i] != NUMBER_MARK {
+            return false;
+        }
+        i += 1;
+    }
+    true
+}
+
+// A length, or that of the buffer where it is longer.
+pub fn within_numbers(length: usize, buffer: &[u32]) -> usize
+    ensures { λ r. ⌜ Counts r (now (buffer .entry)) ⌝ }
+{
+    if length < buffer.len() {
+        length
+    } else {
+        buffer.len()
+    }
 }

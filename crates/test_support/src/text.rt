@@ -21,7 +21,7 @@ pub fn find(text: &[u8], start: usize, byte: u8) -> usize
 // The place after the word or number at a place and after the space behind it.
 pub fn next(line: &[u8], place: usize) -> usize
     requires { ⌜ place ≤ length (now line) ⌝ }
-    ensures { λ r. ⌜ (r ≤ length (now (line .entry))) × (place < length (now (line .entry)) → place < r) ⌝ }
+    ensures { λ r. ⌜ (place ≤ r) × (r ≤ length (now (line .entry))) × (place < length (now (line .entry)) → place < r) ⌝ }
 {
     let end = find(line, place, b' ');
     if end < line.len() { end + 1 } else { end }

@@ -1,8 +1,8 @@
 -- `buffers::within_numbers` meets its contract, by the test. Assumes nothing.
 use Rattle.io.proofs.Counting.{counts}
 use borrow.Author.Needs.{needs}
-use Rattle.test_plan.proofs.buffers.within_numbers.Statement.{statement}
-use Rattle.test_plan.proofs.buffers.within_numbers.Tie as tie
+use Rattle.test_support.proofs.buffers.within_numbers.Statement.{statement}
+use Rattle.test_support.proofs.buffers.within_numbers.Tie as tie
 
 returns : tie.Need-returns
 returns c = counts _ _ (search needs)

@@ -2,8 +2,8 @@
 use Prim.Native.Nat.{_-_}
 use lib.ListN.{length}
 use borrow.Author.Needs.{needs}
-use Rattle.test_plan.proofs.buffers.numbers_kept.Statement.{statement}
-use Rattle.test_plan.proofs.buffers.numbers_kept.Tie as tie
+use Rattle.test_support.proofs.buffers.numbers_kept.Statement.{statement}
+use Rattle.test_support.proofs.buffers.numbers_kept.Tie as tie
 
 abbrev Inv-loop : tie.InvT-loop
 Inv-loop numbers start i₀ i = Unit

@@ -1,0 +1,59 @@
+// Printing what a call answers and what is in the lists.
+ghost use Prim.Native.Nat.{_≤_};
+ghost use lib.ListN.{length};
+use test_support::buffers::numbers_kept;
+use test_support::buffers::within_numbers;
+use test_support::show;
+use touching::NearestDeadline;
+
+// How long a part of each list is.
+pub struct Lengths {
+    pub open_jobs: usize,
+    pub inside_jobs: usize,
+    pub steps: usize,
+}
+
+// The name of the site, and that of the call at a place.
+pub(crate) fn names(line: &[u8], place: usize)
+    requires { ⌜ place ≤ length (now line) ⌝ }
+{
+    show::words_to(line, 0);
+    show::words(b" ");
+    show::words_to(&line[place..], 0);
+}
+
+// The length of a list that was written, and its members.
+pub(crate) fn list(word: &[u8], numbers: &[u32], length: u32) {
+    show::words(word);
+    show::number(length as u64);
+    let written = within_numbers(length as usize, numbers);
+    members(&numbers[..written]);
+}
+
+fn members(numbers: &[u32]) {
+    let mut i = 0;
+    while i < numbers.len() {
+        member(numbers[i]);
+        i += 1;
+    }
+}
+
+fn member(number: u32) {
+    show::number(number as u64);
+}
+
+pub(crate) fn deadline(nearest: NearestDeadline) {
+    show::words(b" deadline");
+    match nearest {
+        NearestDeadline::At(deadline) => show::number(deadline as u64),
+        NearestDeadline::None => show::words(b" none"),
+    }
+}
+
+// Whether each list past what was written has the mark.
+pub(crate) fn rest(open_jobs: &[u32], inside_jobs: &[u32], steps: &[u32], written: Lengths) {
+    let open_kept = numbers_kept(open_jobs, written.open_jobs);
+    let inside_kept = numbers_kept(inside_jobs, written.inside_jobs);
+    let steps_kept = numbers_kept(steps, written.steps);
+    show::rest(open_kept & inside_kept & steps_kept);
+}
