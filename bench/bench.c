@@ -45,6 +45,9 @@ static struct buffers ours, theirs;
 static struct ramyearly_plan_answer planned, answered;
 /* Our plan with its steps out of order, and what ordering makes of it. */
 static uint8_t mixed[4 + 6 * MAX_PAIRS], ordered[4 + 6 * MAX_PAIRS];
+/* What touches all ticks, by the same plan. */
+static uint32_t open_jobs[MAX_JOBS], inside_jobs[MAX_JOBS], cells[MAX_PAIRS];
+static struct ramyearly_touching_answer touched;
 static struct totals loads_by_band;
 static uint64_t loads[MAX_INTERVALS];
 static volatile uint64_t kept;
@@ -96,6 +99,12 @@ static void order(void)
 {
     kept = ramyearly_order(site.level_bytes, site.level_length, site.job_bytes, site.job_length,
         mixed, 4 + 6 * planned.steps, ours.prices, 2 + 5 * planned.intervals, ordered, sizeof ordered).length;
+}
+
+static void touch(void)
+{
+    touched = ramyearly_touching(site.job_bytes, site.job_length, mixed, 4 + 6 * planned.steps, 0, MAX_DEADLINE,
+        open_jobs, MAX_JOBS, inside_jobs, MAX_JOBS, cells, MAX_PAIRS);
 }
 
 /* The settings of all intervals. */
@@ -253,6 +262,18 @@ static void same_plan(const char *who, void (*call)(void))
         wrong(who, "another plan");
 }
 
+/* Whether all jobs are open in all ticks and inside them, and all steps are listed, in the order of our plan. */
+static void all_touched(void)
+{
+    uint32_t jobs = (uint32_t)site.jobs;
+    touch();
+    if (touched.number || touched.open != jobs || touched.inside != jobs || touched.steps != planned.steps)
+        wrong("touching", "not all jobs and steps");
+    for (uint32_t s = 0; s < planned.steps; s++)
+        if (cells[s] != ours.plan[4 + 2 * s] + 256u * ours.plan[5 + 2 * s])
+            wrong("touching", "another cell");
+}
+
 static void open_site(int family, int jobs, int seed)
 {
     make_site(&site, family, jobs, seed);
@@ -270,6 +291,7 @@ static void open_site(int family, int jobs, int seed)
     order();
     if (kept != 4 + 6 * planned.steps || memcmp(ordered, ours.plan, kept))
         wrong("ordering", "another plan");
+    all_touched();
     same_plan("plain planner", plain);
 #ifdef WITH_BEFORE
     same_plan("planning before", plan_before);
@@ -305,7 +327,8 @@ static const struct named calls[] = {
 #ifdef WITH_BEFORE
     { "plan before", plan_before },
 #endif
-    { "check", check }, { "setting", settings }, { "spare", spare }, { "check mixed", check_mixed }, { "order", order }, { "plain", plain }
+    { "check", check }, { "setting", settings }, { "spare", spare }, { "check mixed", check_mixed }, { "order", order },
+    { "touching", touch }, { "plain", plain }
 };
 enum { CALLS = sizeof calls / sizeof *calls };
 
@@ -384,7 +407,8 @@ static void stacks(void)
 #ifdef WITH_BEFORE
         { "plan before", plan_before },
 #endif
-        { "check", check }, { "order", order }, { "setting", settings }, { "spare", spare }, { "rounds", rounds }, { "plain", plain }
+        { "check", check }, { "order", order }, { "touching", touch }, { "setting", settings }, { "spare", spare }, { "rounds", rounds },
+        { "plain", plain }
     };
     enum { CALLED = sizeof called / sizeof *called };
     long deepest[CALLED] = { 0 };
@@ -416,12 +440,14 @@ static void longest(void)
     order();
     if (kept != sizeof ordered || memcmp(ordered, ours.plan, sizeof ordered))
         wrong("ordering", "another plan");
-    struct timed timed[] = { { .call = check_mixed }, { .call = order } };
-    take_samples(timed, 2);
-    printf("steps,check mixed,order\n%u,%.1f,%.1f\n", planned.steps, median(timed[0].samples), median(timed[1].samples));
+    all_touched();
+    struct timed timed[] = { { .call = check_mixed }, { .call = order }, { .call = touch } };
+    take_samples(timed, 3);
+    printf("steps,check mixed,order,touching\n%u,%.1f,%.1f,%.1f\n", planned.steps, median(timed[0].samples), median(timed[1].samples),
+        median(timed[2].samples));
 }
 
-/* Opening a site calls each planner, checking and ordering once. */
+/* Opening a site calls each planner, checking, ordering and touching once. */
 static int one(char **words)
 {
     int family = 0;

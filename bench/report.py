@@ -90,6 +90,8 @@ def grids(t):
     t.grid("Time of planning / time of checking", lambda f, n: t.ratio(f, n, "plan", "check"))
     t.grid("Ordering a plan whose steps are mixed, microseconds", lambda f, n: t.median(f, n, "order") / 1000)
     t.grid("Time of ordering / time of checking the same plan", lambda f, n: t.ratio(f, n, "order", "check mixed"))
+    t.grid("Listing what touches all ticks, by the same plan, microseconds", lambda f, n: t.median(f, n, "touching") / 1000)
+    t.grid("Time of listing / time of checking the same plan", lambda f, n: t.ratio(f, n, "touching", "check mixed"))
     last = t.sizes[-1]
     table(f"Sites of {last} jobs: sizes, and one call of setting and of spare, nanoseconds",
           ["family", "intervals", "pairs K", "bands", "steps", "setting", "spare"],
@@ -109,13 +111,14 @@ def longest_plans(folder):
             ("the most steps that there can be", read(folder, "longest.csv")[0])]
 
 
-def ordering_share(r):
-    return float(r["order"]) / float(r["check mixed"])
+def share_of_check(r, column):
+    return float(r[column]) / float(r["check mixed"])
 
 
 def instructions(folder):
-    names = {"ramyearly_plan": "plan", "before_plan": BEFORE, "plain_plan": "plain", "ramyearly_check": "check", "ramyearly_order": "order"}
-    ratios = [(BEFORE, "plan"), ("plan", "plain"), ("plan", "check"), ("order", "check")]
+    names = {"ramyearly_plan": "plan", "before_plan": BEFORE, "plain_plan": "plain", "ramyearly_check": "check", "ramyearly_order": "order",
+             "ramyearly_touching": "touching"}
+    ratios = [(BEFORE, "plan"), ("plan", "plain"), ("plan", "check"), ("order", "check"), ("touching", "check")]
     counts = {}
     for r in read(folder, "instructions.csv"):
         counts.setdefault((r["family"], r["jobs"]), {})[names[r["function"]]] = int(r["instructions"])
@@ -127,10 +130,10 @@ def instructions(folder):
 
 
 def others(folder):
-    table("The longest plans, their steps mixed: checking and ordering, microseconds",
-          ["plan", "steps", "checking", "ordering", "ordering / checking"],
-          [[name, r["steps"], short(float(r["check mixed"]) / 1000), short(float(r["order"]) / 1000), short(ordering_share(r))]
-           for name, r in longest_plans(folder)])
+    table("The longest plans, their steps mixed: checking, ordering and listing what touches all ticks, microseconds",
+          ["plan", "steps", "checking", "ordering", "listing", "ordering / checking", "listing / checking"],
+          [[name, r["steps"]] + [short(float(r[c]) / 1000) for c in ("check mixed", "order", "touching")]
+           + [short(share_of_check(r, c)) for c in ("order", "touching")] for name, r in longest_plans(folder)])
     stack = read(folder, "stack.csv")
     table("Deepest stack over all sites, bytes", [r["function"] for r in stack], [[r["bytes"] for r in stack]])
     size = read(folder, "size.csv")
@@ -192,9 +195,8 @@ def earlier_goals(t, folder):
     ratio = lambda c: t.ratio(*c, "plan", "check")
     goal(f"checking at least 10 times faster than planning at {last} jobs", all(ratio(c) >= 10 for c in largest),
          span(largest, ratio))
-    slowest = max((r for name, r in longest_plans(folder)), key=ordering_share)
-    goal("ordering at most twice the time of checking, on the longest plans", ordering_share(slowest) <= 2,
-         f"at most {short(ordering_share(slowest))} ({slowest['steps']} steps)")
+    share, steps = max((share_of_check(r, "order"), r["steps"]) for name, r in longest_plans(folder))
+    goal("ordering at most twice the time of checking, on the longest plans", share <= 2, f"at most {short(share)} ({steps} steps)")
     steep = lambda f: max(t.exponent(f, "plan", "pairs"), t.last_step(f, "plan", "pairs"))
     found = [f"{f} {t.exponent(f, 'plan', 'pairs'):.2f} and {t.last_step(f, 'plan', 'pairs'):.2f}" for f in t.families if steep(f) > 2]
     worst = max(t.families, key=steep)

@@ -9,7 +9,7 @@
 extern "C" {
 #endif
 
-enum { MAX_JOBS = 64, MAX_LEVELS = 8, MAX_INTERVALS = 127, MAX_PAIRS = 4096 };
+enum { MAX_JOBS = 64, MAX_LEVELS = 8, MAX_INTERVALS = 127, MAX_PAIRS = 4096, MAX_DEADLINE = 1000000 };
 
 struct site {
     const char *family;

@@ -1,9 +1,10 @@
 /* Ramyearly: planning and checking clock plans, for the reader's kernel and for the hosts that plan its sites.
  *
  * Every function takes byte tables as a pointer and a length in bytes, of any content and length, and numbers of any
- * value. It returns the answer by value, reads nothing but the bytes it is lent and always returns. Only planning, rounds
- * and ordering write, and only into the buffers they are lent. A pointer must be valid for its length; with length 0 it
- * must still not be null, and it must be aligned for its type. Buffers must not overlap each other or the tables.
+ * value. It returns the answer by value, reads nothing but the bytes it is lent and always returns. Only planning, rounds,
+ * ordering and touching write, and only into the buffers and lists they are lent. A pointer must be valid for its length; with
+ * length 0 it must still not be null, and it must be aligned for its type. Buffers and lists must not overlap each other or
+ * the tables.
  *
  * number is 0 for an answer, and otherwise the number of the refusal, with its place (0 where none is named); README.md
  * lists them. Fields that a case does not fill are 0.
@@ -13,7 +14,8 @@
  * idling draws 0. A plan, and every schedule it is compared with, pays for idling from earliest release to latest deadline.
  *
  * No function uses a heap or writable static data. The deepest stack that was measured, on x86-64, is 12 kB for ordering, 11 kB
- * for checking, 10 kB for planning, 5 kB for the spare and 2 kB for the setting and for rounds (docs/BENCHMARK.md). */
+ * for checking, 10 kB for planning, 5 kB for touching and for the spare, and 2 kB for the setting and for rounds
+ * (docs/BENCHMARK.md). */
 #ifndef RAMYEARLY_H
 #define RAMYEARLY_H
 
@@ -52,6 +54,10 @@ struct ramyearly_rounds_answer {
 
 struct ramyearly_order_answer {
     uint32_t number, place, length;
+};
+
+struct ramyearly_touching_answer {
+    uint32_t number, place, open, inside, steps, deadline;
 };
 
 /* Accepts a plan and its price list exactly when the plan gives each job its cycles between release and deadline and the
@@ -113,6 +119,26 @@ struct ramyearly_order_answer ramyearly_order(
     const uint8_t *plan, size_t plan_length,
     const uint8_t *prices, size_t prices_length,
     uint8_t *ordered, size_t ordered_length);
+
+/* Lists what touches the span of ticks from `start` up to, not including, `end`, by a job table and a plan for it. Lent are the
+ * two, and three lists whose lengths count 32-bit numbers; no levels. Number 0: the first `open`, `inside` and `steps` numbers of
+ * the three lists are written, and the rest stays. What is written rises, has each member once and has nothing else:
+ *   open    the numbers of the jobs open somewhere in the span: released before `end`, with a deadline after `start`
+ *   inside  the numbers of the jobs wholly inside it: released at or after `start`, with a deadline at or before `end`
+ *   steps   the cells of the plan's steps whose interval shares a tick with it; a cell is interval x 64 + job
+ * and `deadline` is the nearest deadline at or after `start`, of all jobs, also of those after the span; 0 where there is none,
+ * since no deadline is 0. A list may be exactly as long as what is written; 64 and 64 numbers, and as many as the plan has steps,
+ * which is at most 64 x its intervals, are always enough. Otherwise, in this order: 33 where `start` is not before `end`, or `end`
+ * is above 1,000,000, before anything is read; the job table's refusals 6 to 10; the plan's 15 to 18, as ramyearly_check
+ * has them; and 14 for the first list that is too short, in the order open, inside, steps, its place the length wanted. All lists
+ * then stay as they were. Without levels and prices 19 to 24 never occur: the plan's steps need not add up to its jobs' cycles. */
+struct ramyearly_touching_answer ramyearly_touching(
+    const uint8_t *jobs, size_t jobs_length,
+    const uint8_t *plan, size_t plan_length,
+    uint32_t start, uint32_t end,
+    uint32_t *open, size_t open_length,
+    uint32_t *inside, size_t inside_length,
+    uint32_t *steps, size_t steps_length);
 
 #ifdef __cplusplus
 }

@@ -169,7 +169,8 @@ int main(void)
     rounds();
     idle();
     order();
+    touching();
     if (!wrong)
-        printf("interface: check, setting, spare, plan, rounds and order answer C as they should\n");
+        printf("interface: check, setting, spare, plan, rounds, order and touching answer C as they should\n");
     return wrong;
 }

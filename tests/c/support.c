@@ -188,3 +188,63 @@ void order_refused(const char *name, struct bytes level_table, struct bytes job_
     order_is(name, level_table, job_table, plan_table, price_list, ordered_length,
         (struct ramyearly_order_answer) { .number = number, .place = place }, (struct bytes) { .length = 0 });
 }
+
+/* The memory that the three lists stand in: longer than any of them, with numbers before the list and after it. */
+enum { BEFORE = 8, MEMORY = 128 };
+
+struct lists {
+    uint32_t open[MEMORY], inside[MEMORY], steps[MEMORY];
+};
+
+static struct lists marked_lists(void)
+{
+    struct lists l;
+    memset(&l, 0xa5, sizeof l);
+    return l;
+}
+
+static void put_list(uint32_t *memory, const struct list *list)
+{
+    memcpy(memory + BEFORE, list->at, list->length * sizeof *list->at);
+}
+
+static struct ramyearly_touching_answer touching_in(struct lists *lists, struct bytes job_table, struct bytes plan_table, uint32_t start,
+    uint32_t end, struct room room)
+{
+    const uint8_t *jobs = job_table.at, *plan = plan_table.at;
+    size_t jobs_length = job_table.length, plan_length = plan_table.length;
+    uint32_t *open = lists->open + BEFORE, *inside = lists->inside + BEFORE, *steps = lists->steps + BEFORE;
+    size_t open_length = room.open, inside_length = room.inside, steps_length = room.steps;
+    return CALL_TOUCHING;
+}
+
+void touching_is(const char *name, struct bytes job_table, struct bytes plan_table, uint32_t start, uint32_t end, struct room room,
+    const struct touched *wanted)
+{
+    struct lists written = marked_lists(), right = written;
+    put_list(right.open, &wanted->open);
+    put_list(right.inside, &wanted->inside);
+    put_list(right.steps, &wanted->steps);
+    struct ramyearly_touching_answer a = touching_in(&written, job_table, plan_table, start, end, room);
+    same(name, a.number, 0);
+    same(name, a.place, 0);
+    same(name, a.open, wanted->open.length);
+    same(name, a.inside, wanted->inside.length);
+    same(name, a.steps, wanted->steps.length);
+    same(name, a.deadline, wanted->deadline);
+    same(name, memcmp(&written, &right, sizeof right), 0);
+}
+
+void touching_refused(const char *name, struct bytes job_table, struct bytes plan_table, uint32_t start, uint32_t end, struct room room,
+    uint32_t number, uint32_t place)
+{
+    struct lists written = marked_lists(), right = written;
+    struct ramyearly_touching_answer a = touching_in(&written, job_table, plan_table, start, end, room);
+    same(name, a.number, number);
+    same(name, a.place, place);
+    same(name, a.open, 0);
+    same(name, a.inside, 0);
+    same(name, a.steps, 0);
+    same(name, a.deadline, 0);
+    same(name, memcmp(&written, &right, sizeof right), 0);
+}

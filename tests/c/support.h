@@ -18,6 +18,23 @@ struct lent {
     uint32_t shares[32];
 };
 
+/* The numbers of a list. */
+struct list {
+    uint32_t at[64];
+    size_t length;
+};
+
+/* What touches a span. */
+struct touched {
+    struct list open, inside, steps;
+    uint32_t deadline;
+};
+
+/* The lengths of the lists that touching is lent. */
+struct room {
+    size_t open, inside, steps;
+};
+
 /* A count of 16 bits, then numbers of one width. */
 struct bytes table(unsigned width, unsigned count, const uint32_t *numbers, size_t n);
 /* Each step is its interval, its job and its cycles. */
@@ -48,11 +65,21 @@ struct bytes order_is(const char *name, struct bytes level_table, struct bytes j
 void order_refused(const char *name, struct bytes level_table, struct bytes job_table, struct bytes plan_table, struct bytes price_list,
     size_t ordered_length, uint32_t number, uint32_t place);
 
+/* Lists what touches a span, into lists of the given lengths. Exactly the wanted numbers must be written, and what stands before
+ * and after them must stay. */
+void touching_is(const char *name, struct bytes job_table, struct bytes plan_table, uint32_t start, uint32_t end, struct room room,
+    const struct touched *wanted);
+/* All three lists must stay. */
+void touching_refused(const char *name, struct bytes job_table, struct bytes plan_table, uint32_t start, uint32_t end, struct room room,
+    uint32_t number, uint32_t place);
+
 /* rounds.c: the cases of laying out tasks. */
 void rounds(void);
 /* idle.c: the cases of an idle entry. */
 void idle(void);
 /* order.c: the cases of writing a plan in cell order. */
 void order(void);
+/* touching.c: the cases of what touches a span. */
+void touching(void);
 
 #endif

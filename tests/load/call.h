@@ -9,10 +9,11 @@ enum { LEVELS, JOBS, PLAN, PRICES, TASKS, TABLES };
 
 /* Maps the room that tables are lent from. */
 void call_start(void);
-/* Map the buffers of planning, of rounds and of ordering. */
+/* Map the buffers of planning, of rounds and of ordering, and the lists of touching. */
 void call_start_plan(void);
 void call_start_rounds(void);
 void call_start_order(void);
+void call_start_touching(void);
 
 void call_begin(void);
 /* Lends a copy of the table, read only, at either end of its room. */

@@ -146,6 +146,15 @@ void change_shares(struct numbers *numbers, const struct paper_site *site, struc
         move_cycles(numbers, site, plan);
 }
 
+void change_sums(struct numbers *numbers, struct plan *plan)
+{
+    for (unsigned s = plan->steps; s-- > 0;)
+        if (one_in(numbers, 4))
+            remove_step(plan, s);
+        else if (one_in(numbers, 3))
+            plan->cycles[s] = (uint32_t)ONE_OF(numbers, 1, plan->cycles[s], between(numbers, 1, plan->cycles[s]));
+}
+
 /* Puts the same step at the end again: once, or as often as a step count can say. */
 static void repeat_step(struct numbers *numbers, struct plan *plan)
 {

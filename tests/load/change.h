@@ -9,6 +9,8 @@
 void change_order(struct numbers *numbers, struct plan *plan);
 /* Cycles moved between intervals where their jobs are open, if only one: each job has as many as before. */
 void change_shares(struct numbers *numbers, const struct paper_site *site, struct plan *plan);
+/* Steps left out, and cycles taken from steps that keep some: each step is still right by itself. */
+void change_sums(struct numbers *numbers, struct plan *plan);
 void change_plan(struct numbers *numbers, const struct paper_site *site, struct plan *plan);
 void change_prices(struct numbers *numbers, const struct paper_site *site, struct prices *prices);
 

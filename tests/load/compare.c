@@ -11,6 +11,7 @@ void compare_start(void)
     call_start_plan();
     call_start_rounds();
     call_start_order();
+    call_start_touching();
 }
 
 void compare_setting(struct numbers *numbers, const struct table *levels, uint32_t length, uint64_t load)

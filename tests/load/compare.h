@@ -5,11 +5,11 @@
 #include "numbers.h"
 #include "table.h"
 
-enum { REFUSALS = 32 };
+enum { REFUSALS = 33 };
 
-/* What was counted. by_number[0] counts the answers. */
+/* What was counted. by_number[0] counts the answers. Lists too short are those of touching, of which each is counted. */
 struct tally {
-    uint64_t calls, plans, accepted, ordered, disagreements, by_number[REFUSALS + 1];
+    uint64_t calls, plans, accepted, ordered, touched, disagreements, by_number[REFUSALS + 1], too_short[PAPER_LISTS];
 };
 
 /* Calls are counted here. */
@@ -45,6 +45,13 @@ bool compare_order(struct numbers *numbers, const struct table *levels, const st
 struct window {
     uint32_t start, end;
 };
+
+/* What touching is lent, in 32-bit numbers. */
+struct list_lengths {
+    size_t open, inside, steps;
+};
+
+void compare_touching(struct numbers *numbers, const struct table *jobs, const struct table *plan, struct window span, struct list_lengths lengths);
 
 /* The interval whose setting is asked for, by its length and load, and the window whose spare is. */
 struct questions {

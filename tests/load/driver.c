@@ -64,17 +64,21 @@ static struct tally total(void)
         all.plans += one->plans;
         all.accepted += one->accepted;
         all.ordered += one->ordered;
+        all.touched += one->touched;
         all.disagreements += one->disagreements;
         for (unsigned i = 0; i <= REFUSALS; i++)
             all.by_number[i] += one->by_number[i];
+        for (unsigned i = 0; i < PAPER_LISTS; i++)
+            all.too_short[i] += one->too_short[i];
     }
     return all;
 }
 
 static void print_line(const char *name, const struct tally *t)
 {
-    printf("%-15s %9" PRIu64 " calls %9" PRIu64 " answered %9" PRIu64 " refused %8" PRIu64 " plans %8" PRIu64 " accepted %8" PRIu64 " ordered\n",
-        name, t->calls, t->by_number[0], t->calls - t->by_number[0], t->plans, t->accepted, t->ordered);
+    printf("%-15s %9" PRIu64 " calls %9" PRIu64 " answered %9" PRIu64 " refused %8" PRIu64 " plans %8" PRIu64 " accepted %8" PRIu64 " ordered %8" PRIu64
+        " touched\n",
+        name, t->calls, t->by_number[0], t->calls - t->by_number[0], t->plans, t->accepted, t->ordered, t->touched);
 }
 
 /* Answers whether each refusal occurred. */
@@ -88,6 +92,14 @@ static bool print_refusals(const struct tally *t)
     return all;
 }
 
+/* 14 is refused for a table of shares and for three lists. Answers whether each of the lists was too short. */
+static bool print_short_lists(const struct tally *t)
+{
+    printf("lists of touching too short: open %" PRIu64 ", inside %" PRIu64 ", steps %" PRIu64 "\n", t->too_short[PAPER_OPEN],
+        t->too_short[PAPER_INSIDE], t->too_short[PAPER_STEPS]);
+    return t->too_short[PAPER_OPEN] > 0 && t->too_short[PAPER_INSIDE] > 0 && t->too_short[PAPER_STEPS] > 0;
+}
+
 static int run(uint64_t calls)
 {
     for (case_number = 0; total().calls < calls; case_number++)
@@ -97,7 +109,9 @@ static int run(uint64_t calls)
         print_line(groups[g].name, &groups[g].tally);
     print_line("all", &all);
     printf("refusals by number:\n");
-    if (!print_refusals(&all)) {
+    bool each = print_refusals(&all);
+    each = print_short_lists(&all) && each;
+    if (!each) {
         printf("load: a refusal never occurred\n");
         return 1;
     }

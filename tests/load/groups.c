@@ -7,7 +7,9 @@
 #include "order_cases.h"
 #include "other.h"
 #include "sites.h"
+#include "spans.h"
 #include "tasks.h"
+#include "touching_cases.h"
 
 /* The tables of the case, and a plan and price list in the making. */
 static struct table levels, idle_levels, jobs, plan, prices, changed_plan, changed_prices, ordered, tasks;
@@ -44,24 +46,6 @@ static void settings(struct numbers *numbers)
     }
 }
 
-/* A release, a deadline, one beside them, a limit, or any number. */
-static uint32_t any_time(struct numbers *numbers, const struct paper_jobs *given)
-{
-    if (given->count == 0 || one_in(numbers, 6))
-        return (uint32_t)ONE_OF(numbers, 0, PAPER_TIME, PAPER_TIME + 1, UINT32_MAX, any_number(numbers));
-    unsigned j = (unsigned)below(numbers, given->count);
-    uint64_t time = one_in(numbers, 2) ? given->release[j] : given->deadline[j];
-    return (uint32_t)ONE_OF(numbers, time, time, time, time - 1, time + 1);
-}
-
-/* Mostly with its start before its end. */
-static struct window any_window(struct numbers *numbers, const struct paper_jobs *given)
-{
-    uint32_t start = any_time(numbers, given), end = any_time(numbers, given);
-    bool turn = start > end && !one_in(numbers, 8);
-    return (struct window) { turn ? end : start, turn ? start : end };
-}
-
 static void ask_spares(struct numbers *numbers, const struct paper_site *site, unsigned times)
 {
     while (times-- > 0) {
@@ -77,11 +61,11 @@ static void spares(struct numbers *numbers)
     ask_spares(numbers, &site, 4);
 }
 
-/* One of the five functions that take levels, with tables as they stand. */
-static void call_any(struct numbers *numbers)
+/* One of the six functions that take levels or jobs, with tables as they stand. The jobs were made for this site. */
+static void call_any(struct numbers *numbers, const struct paper_site *site)
 {
     uint64_t load = below(numbers, 100);
-    switch (below(numbers, 5)) {
+    switch (below(numbers, 6)) {
     case 0:
         compare_setting(numbers, &levels, 10, load);
         break;
@@ -93,6 +77,9 @@ static void call_any(struct numbers *numbers)
         break;
     case 3:
         compare_order(numbers, &levels, &jobs, &plan, &prices, any_buffer(numbers, plan.length), &ordered);
+        break;
+    case 4:
+        touch_any(numbers, &site->jobs, &jobs, &plan);
         break;
     default:
         compare_plan(numbers, &levels, &jobs, (struct buffer_lengths) { 1000, 300, 500 }, &changed_plan, &changed_prices);
@@ -113,7 +100,7 @@ static void damaged(struct numbers *numbers)
             damage_levels(numbers, &levels);
         else
             damage_jobs(numbers, &jobs);
-    call_any(numbers);
+    call_any(numbers, &site);
 }
 
 static void random_bytes(struct numbers *numbers)
@@ -126,7 +113,7 @@ static void random_bytes(struct numbers *numbers)
         any_bytes(numbers, &jobs, 40, 3);
     any_bytes(numbers, &plan, 40, site.intervals.count);
     any_bytes(numbers, &prices, 40, site.intervals.count);
-    call_any(numbers);
+    call_any(numbers, &site);
 }
 
 static void planning(struct numbers *numbers)
@@ -139,7 +126,7 @@ static void planning(struct numbers *numbers)
     }
 }
 
-/* Checks the plan in steps and list with one change, or two. Some are put in order too. */
+/* Checks the plan in steps and list with one change, or two. Some are put in order too, and of some it is asked what touches a span. */
 static void check_changed(struct numbers *numbers, const struct paper_site *site)
 {
     plan_copy(&changed_steps, &steps);
@@ -158,6 +145,8 @@ static void check_changed(struct numbers *numbers, const struct paper_site *site
     compare_check(numbers, &levels, &jobs, &changed_plan, &changed_prices);
     if (one_in(numbers, 4))
         compare_order(numbers, &levels, &jobs, &changed_plan, &changed_prices, any_buffer(numbers, changed_plan.length), &ordered);
+    if (one_in(numbers, 4))
+        touch_any(numbers, &site->jobs, &jobs, &changed_plan);
 }
 
 static void changed_from_planned(struct numbers *numbers, const struct paper_site *site, unsigned times)
@@ -342,19 +331,20 @@ static void damaged_tasks(struct numbers *numbers)
 }
 
 struct group groups[GROUPS] = {
-    { .name = "settings", .run = settings, .weight = 18 },
-    { .name = "spares", .run = spares, .weight = 18 },
-    { .name = "damaged tables", .run = damaged, .weight = 54 },
+    { .name = "settings", .run = settings, .weight = 16 },
+    { .name = "spares", .run = spares, .weight = 16 },
+    { .name = "damaged tables", .run = damaged, .weight = 52 },
     { .name = "random bytes", .run = random_bytes, .weight = 20 },
-    { .name = "planning", .run = planning, .weight = 30 },
+    { .name = "planning", .run = planning, .weight = 28 },
     { .name = "changed plans", .run = changed_plans, .weight = 28 },
     { .name = "other plans", .run = other_plans, .weight = 18 },
     { .name = "tiny sites", .run = tiny_sites, .weight = 12 },
     { .name = "free idling", .run = free_idling, .weight = 8 },
     { .name = "ordered plans", .run = ordered_plans, .weight = 12 },
+    { .name = "touched spans", .run = touched_spans, .weight = 12 },
     { .name = "large sites", .run = large_sites, .weight = 6 },
     { .name = "rounds", .run = rounds, .weight = 12 },
-    { .name = "damaged tasks", .run = damaged_tasks, .weight = 20 },
+    { .name = "damaged tasks", .run = damaged_tasks, .weight = 16 },
 };
 
 void run_case(struct numbers *numbers)

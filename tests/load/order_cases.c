@@ -56,12 +56,6 @@ static void order_other(struct numbers *numbers, const struct paper_site *site)
     call_report("ordering");
 }
 
-/* True once in 16 times, and never after the last byte of a fuzzer's input: large cases take long. */
-static bool is_large(struct numbers *numbers)
-{
-    return below(numbers, 16) == 15;
-}
-
 /* A few jobs in so many ticks that there is room for light ones; or all that there may be, for the longest plans. */
 static struct shape light_shape(struct numbers *numbers)
 {

@@ -85,6 +85,11 @@ struct paper_levels any_levels(struct numbers *numbers)
     return with_idling(numbers, running_levels(numbers));
 }
 
+bool is_large(struct numbers *numbers)
+{
+    return below(numbers, 16) == 15;
+}
+
 struct shape small_shape(struct numbers *numbers)
 {
     struct shape shape = { .jobs = (unsigned)between(numbers, 0, 6) };

@@ -14,6 +14,8 @@ struct shape {
     uint32_t horizon;
 };
 
+/* True once in 16 times, and never after the last byte of a fuzzer's input: large cases take long. */
+bool is_large(struct numbers *numbers);
 struct shape small_shape(struct numbers *numbers);
 struct shape large_shape(struct numbers *numbers);
 

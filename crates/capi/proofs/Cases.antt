@@ -33,7 +33,13 @@ use Rattle.rounds.specs.RoundAnswers.{roundsAnswer, RoundsContract}
 use Rattle.ordering.specs.Ordering.{order}
 use Rattle.ordering.specs.declared.operation.OrderAnswer.the-variants.{Ordered, Refused as OrderRefused}
 use Rattle.ordering.specs.OrderAnswers.{orderAnswer, OrderContract}
+use Rattle.touching.specs.Spans.{Touched}
+use Rattle.touching.specs.Touching.{Lists, touching}
+use Rattle.touching.specs.declared.jobs.NearestDeadline.{NearestDeadline}
+use Rattle.touching.specs.declared.operation.TouchingAnswer.the-variants.{Touching, Refused as TouchingRefused}
+use Rattle.touching.specs.TouchingAnswers.{nearestAnswer, touchingAnswer, TouchingContract}
 use Rattle.capi.specs.Results.{checkResult, settingResult, spareResult, roundsResult, RoundsCall, orderResult, OrderCall}
+use Rattle.capi.specs.Results.{deadlineNumber, touchingResult, TouchingCall}
 
 accepted-result : (outcome : Outcome ℕ) (energy : ℕ) → Accepted energy ≡ checkAnswer outcome
     → record { number = 0; place = 0; energy = energy } ≡ checkResult outcome
@@ -109,6 +115,39 @@ no-order-result (refused n p) number place e =
     λ k. record { number = same-number k; place = same-place k; length = 0 }
 no-order-result (answer ordered) number place e = cc e
 
+touched-result : (outcome : Outcome Touched) (opened inside steps : ℕ) (nearest : NearestDeadline)
+    → Touching opened inside steps nearest ≡ touchingAnswer outcome
+    → record {
+      number = 0;
+      place = 0;
+      «open_jobs» = opened;
+      «inside_jobs» = inside;
+      steps = steps;
+      deadline = deadlineNumber nearest;
+    } ≡ touchingResult outcome
+touched-result (refused number place) opened inside steps nearest e = cc e
+touched-result (answer t) opened inside steps nearest e =
+    let same-open : opened ≡ length (t .openJobs) = cc e in
+    let same-inside : inside ≡ length (t .insideJobs) = cc e in
+    let same-steps : steps ≡ length (t .steps) = cc e in
+    let same-nearest : nearest ≡ nearestAnswer (t .deadline) = cc e in
+    λ k. record {
+      number = 0;
+      place = 0;
+      «open_jobs» = same-open k;
+      «inside_jobs» = same-inside k;
+      steps = same-steps k;
+      deadline = deadlineNumber (same-nearest k);
+    }
+
+untouched-result : (outcome : Outcome Touched) (number place : ℕ) → TouchingRefused number place ≡ touchingAnswer outcome
+    → record { number = number; place = place; «open_jobs» = 0; «inside_jobs» = 0; steps = 0; deadline = 0 } ≡ touchingResult outcome
+untouched-result (refused n p) number place e =
+    let same-number : number ≡ n = cc e in
+    let same-place : place ≡ p = cc e in
+    λ k. record { number = same-number k; place = same-place k; «open_jobs» = 0; «inside_jobs» = 0; steps = 0; deadline = 0 }
+untouched-result (answer t) number place e = cc e
+
 -- the outcome is that of an operation on bytes
 module _ (levelBytes jobBytes plan prices : List ℕ) where
   pub check-accepted : (energy : ℕ) → Accepted energy ≡ checkAnswer (check levelBytes jobBytes plan prices)
@@ -163,6 +202,38 @@ module _ (levelBytes jobBytes plan prices before after : List ℕ) where
       record {
         result-is = no-order-result (order levelBytes jobBytes plan prices (length before)) number place (h .answer-is);
         buffer-is = h .buffer-is;
+      }
+
+module _ (jobBytes plan : List ℕ) (start end : ℕ) (before after : Lists) where
+  pub touching-touched : (opened inside steps deadline : ℕ) (nearest : NearestDeadline) → deadline ≡ deadlineNumber nearest
+      → TouchingContract jobBytes plan start end before after (Touching opened inside steps nearest)
+      → TouchingCall jobBytes plan start end before after (record {
+        number = 0;
+        place = 0;
+        «open_jobs» = opened;
+        «inside_jobs» = inside;
+        steps = steps;
+        deadline = deadline;
+      })
+  touching-touched opened inside steps deadline nearest same h =
+      record {
+        result-is = rw same (touched-result (touching jobBytes plan start end before) opened inside steps nearest (h .answer-is));
+        lists-are = h .lists-are;
+      }
+
+  pub touching-refused : (number place : ℕ) → TouchingContract jobBytes plan start end before after (TouchingRefused number place)
+      → TouchingCall jobBytes plan start end before after (record {
+        number = number;
+        place = place;
+        «open_jobs» = 0;
+        «inside_jobs» = 0;
+        steps = 0;
+        deadline = 0;
+      })
+  touching-refused number place h =
+      record {
+        result-is = untouched-result (touching jobBytes plan start end before) number place (h .answer-is);
+        lists-are = h .lists-are;
       }
 
 -- no working level is above the highest frequency

@@ -3,6 +3,7 @@
 use Prim.Native.Nat.{ℕ}
 use mathlib.Core.Path.{_≡_}
 use mathlib.Core.List.{List}
+use mathlib.Core.Option.{none}
 use lib.ListN.{length}
 use lib.IntN.{ℤ, pos}
 use Rattle.model.specs.Outcome.{Outcome, refused, answer}
@@ -12,6 +13,11 @@ use Rattle.planning.specs.declared.operation.PlanAnswer.the-variants.{Plan, Ove
 use Rattle.planning.specs.MadePlans.{Buffers}
 use Rattle.planning.specs.PlanAnswers.{PlanContract}
 use Rattle.ordering.specs.Ordering.{order, orderedAfter}
+use Rattle.touching.specs.Spans.{Touched}
+use Rattle.touching.specs.Touching.{Lists, touching, listsAfter}
+use Rattle.touching.specs.declared.jobs.NearestDeadline.{NearestDeadline}
+use Rattle.touching.specs.declared.jobs.NearestDeadline.the-variants.{At, None}
+use Rattle.touching.specs.TouchingAnswers.{nearestAnswer}
 use Rattle.tasks.specs.Rounds.{Round, tableLength, rounds, bufferAfter}
 use Rattle.capi.specs.declared.CheckResult.{CheckResult}
 use Rattle.capi.specs.declared.SettingResult.{SettingResult}
@@ -19,6 +25,7 @@ use Rattle.capi.specs.declared.SpareResult.{SpareResult}
 use Rattle.capi.specs.declared.PlanResult.{PlanResult}
 use Rattle.capi.specs.declared.RoundsResult.{RoundsResult}
 use Rattle.capi.specs.declared.OrderResult.{OrderResult}
+use Rattle.capi.specs.declared.TouchingResult.{TouchingResult}
 
 abbrev pub checkResult : Outcome ℕ → CheckResult
 checkResult (refused number place) = record { number = number; place = place; energy = 0 }
@@ -64,3 +71,31 @@ orderResult (answer ordered) = record { number = 0; place = 0; length = length o
 pub record OrderCall (levelBytes jobBytes plan prices before after : List ℕ) (result : OrderResult) : Type 0 where
   pub result-is : result ≡ orderResult (order levelBytes jobBytes plan prices (length before))
   pub buffer-is : after ≡ orderedAfter (order levelBytes jobBytes plan prices (length before)) before
+
+-- The nearest deadline as one number. 0 stands for none alone: no deadline is 0 (`ZeroIsNone`).
+abbrev pub deadlineNumber : NearestDeadline → ℕ
+deadlineNumber (At deadline) = deadline
+deadlineNumber None = 0
+
+abbrev pub touchingResult : Outcome Touched → TouchingResult
+touchingResult (refused number place) =
+    record { number = number; place = place; «open_jobs» = 0; «inside_jobs» = 0; steps = 0; deadline = 0 }
+touchingResult (answer t) = record {
+  number = 0;
+  place = 0;
+  «open_jobs» = length (t .openJobs);
+  «inside_jobs» = length (t .insideJobs);
+  steps = length (t .steps);
+  deadline = deadlineNumber (nearestAnswer (t .deadline));
+}
+
+-- A call that lists what touches a span from C: what it returns, and what the lists hold afterwards.
+pub record TouchingCall (jobBytes plan : List ℕ) (start end : ℕ) (before after : Lists) (result : TouchingResult) : Type 0 where
+  pub result-is : result ≡ touchingResult (touching jobBytes plan start end before)
+  pub lists-are : after ≡ listsAfter (touching jobBytes plan start end before) before
+
+-- In an answer a deadline of 0 says that there is none. Proved in proofs/NoDeadline.antt.
+abbrev pub ZeroIsNone : Type 0
+ZeroIsNone =
+    (jobBytes plan : List ℕ) (start end : ℕ) (before : Lists) (t : Touched) → touching jobBytes plan start end before ≡ answer t
+    → deadlineNumber (nearestAnswer (t .deadline)) ≡ 0 → t .deadline ≡ none

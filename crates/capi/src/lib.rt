@@ -4,12 +4,14 @@ ghost use mathlib.Core.Path.{_≡_};
 ghost use Rattle.model.specs.Checking.{check};
 ghost use Rattle.model.specs.Setting.{setting};
 ghost use Rattle.model.specs.Windows.{spare};
-ghost use Rattle.capi.specs.Results.{checkResult, settingResult, spareResult, PlanCall, RoundsCall, OrderCall};
+ghost use Rattle.capi.specs.Results.{checkResult, settingResult, spareResult, PlanCall, RoundsCall, OrderCall, deadlineNumber, TouchingCall};
 use audit::CheckAnswer;
 use levels::SettingAnswer;
 use ordering::OrderAnswer;
 use planning::PlanAnswer;
 use rounds::RoundsAnswer;
+use touching::NearestDeadline;
+use touching::TouchingAnswer;
 use windows::SpareAnswer;
 
 // The check of a plan and its price list. Number 0: accepted; otherwise the refusal's number and place, and 0.
@@ -68,6 +70,18 @@ pub struct OrderResult {
     pub number: u32,
     pub place: u32,
     pub length: u32,
+}
+
+// What touches a span. Number 0: the lists were written, with their lengths and the nearest deadline, 0 where there is none;
+// otherwise the refusal's number and place, and zeros.
+#[repr(C)]
+pub struct TouchingResult {
+    pub number: u32,
+    pub place: u32,
+    pub open_jobs: u32,
+    pub inside_jobs: u32,
+    pub steps: u32,
+    pub deadline: u32,
 }
 
 #[no_mangle]
@@ -229,6 +243,56 @@ pub extern "C" fn ramyearly_order(
             number,
             place,
             length: 0,
+        },
+    }
+}
+
+// The nearest deadline as one number, 0 for none.
+fn deadline_number(nearest: NearestDeadline) -> u32
+    ensures { λ r. ⌜ r ≡ deadlineNumber nearest ⌝ }
+{
+    match nearest {
+        NearestDeadline::At(deadline) => deadline,
+        NearestDeadline::None => 0,
+    }
+}
+
+#[no_mangle]
+pub extern "C" fn ramyearly_touching(
+    jobs: &[u8],
+    plan: &[u8],
+    start: u32,
+    end: u32,
+    open_jobs: &mut [u32],
+    inside_jobs: &mut [u32],
+    steps: &mut [u32],
+) -> TouchingResult
+    ensures { λ r. ⌜ TouchingCall (now (jobs .entry)) (now (plan .entry)) start end
+        (record { openJobs = now («open_jobs» .entry); insideJobs = now («inside_jobs» .entry); steps = now (steps .entry) })
+        (record { openJobs = now («open_jobs» .exit); insideJobs = now («inside_jobs» .exit); steps = now (steps .exit) }) r ⌝ }
+{
+    let answer = touching::touching(jobs, plan, start, end, open_jobs, inside_jobs, steps);
+    match answer {
+        TouchingAnswer::Touching {
+            open_jobs,
+            inside_jobs,
+            steps,
+            deadline,
+        } => TouchingResult {
+            number: 0,
+            place: 0,
+            open_jobs,
+            inside_jobs,
+            steps,
+            deadline: deadline_number(deadline),
+        },
+        TouchingAnswer::Refused { number, place } => TouchingResult {
+            number,
+            place,
+            open_jobs: 0,
+            inside_jobs: 0,
+            steps: 0,
+            deadline: 0,
         },
     }
 }

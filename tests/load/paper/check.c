@@ -27,19 +27,32 @@ static struct step step_at(const struct plan *plan, unsigned s)
 }
 
 /* 17 and 18, by step. */
-static struct paper_refusal steps_refusal(const struct paper_site *site, const struct plan *plan)
+static struct paper_refusal each_step_refusal(const struct paper_jobs *jobs, const struct paper_intervals *intervals, const struct plan *plan)
 {
     bool seen[PAPER_INTERVALS][PAPER_JOBS];
     memset(seen, 0, sizeof seen);
     for (unsigned s = 0; s < plan->steps; s++) {
         struct step step = step_at(plan, s);
-        if (!paper_open(&site->intervals, step.interval, step.job) || seen[step.interval][step.job])
+        if (!paper_open(intervals, step.interval, step.job) || seen[step.interval][step.job])
             return paper_refuse(17, s);
-        if (step.cycles == 0 || step.cycles > site->jobs.cycles[step.job])
+        if (step.cycles == 0 || step.cycles > jobs->cycles[step.job])
             return paper_refuse(18, s);
         seen[step.interval][step.job] = true;
     }
     return paper_refuse(0, 0);
+}
+
+/* 15 to 18: no levels are needed. */
+struct paper_refusal paper_steps_refusal(const struct paper_jobs *jobs, const struct paper_intervals *intervals, struct paper_bytes bytes)
+{
+    if (bytes.length < 4)
+        return paper_refuse(15, 0);
+    struct plan plan = plan_in(bytes);
+    if (bytes.length != 4 + 6 * (size_t)plan.steps)
+        return paper_refuse(15, 0);
+    if (plan.intervals != intervals->count)
+        return paper_refuse(16, 0);
+    return each_step_refusal(jobs, intervals, &plan);
 }
 
 /* 19: the first job whose steps don't add to its cycles. */
@@ -76,16 +89,11 @@ static struct paper_refusal loads_refusal(const struct paper_site *site, const s
 /* 15 to 20. */
 static struct paper_refusal plan_refusal(const struct paper_site *site, struct paper_bytes bytes)
 {
-    if (bytes.length < 4)
-        return paper_refuse(15, 0);
+    struct paper_refusal refusal = paper_steps_refusal(&site->jobs, &site->intervals, bytes);
+    if (refusal.number)
+        return refusal;
     struct plan plan = plan_in(bytes);
-    if (bytes.length != 4 + 6 * (size_t)plan.steps)
-        return paper_refuse(15, 0);
-    if (plan.intervals != site->intervals.count)
-        return paper_refuse(16, 0);
-    struct paper_refusal refusal = steps_refusal(site, &plan);
-    if (!refusal.number)
-        refusal = sums_refusal(site, &plan);
+    refusal = sums_refusal(site, &plan);
     if (refusal.number)
         return refusal;
     struct paper_loads loads = paper_loads(bytes);

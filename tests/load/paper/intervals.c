@@ -3,10 +3,16 @@
 
 #include "paper.h"
 
-static int by_time(const void *a, const void *b)
+static int by_size(const void *a, const void *b)
 {
     uint32_t x = *(const uint32_t *)a, y = *(const uint32_t *)b;
     return (x > y) - (x < y);
+}
+
+void paper_sort(uint32_t *numbers, unsigned count)
+{
+    if (count > 0)
+        qsort(numbers, count, sizeof *numbers, by_size);
 }
 
 /* All releases and deadlines, sorted, without repeats. Answers their number. */
@@ -18,8 +24,7 @@ static unsigned bounds(const struct paper_jobs *jobs, uint32_t bound[PAPER_BOUND
         times[count++] = jobs->release[j];
         times[count++] = jobs->deadline[j];
     }
-    if (count > 0)
-        qsort(times, count, sizeof *times, by_time);
+    paper_sort(times, count);
     for (unsigned i = 0; i < count; i++)
         if (i == 0 || times[i] != times[i - 1])
             bound[kept++] = times[i];

@@ -1,5 +1,6 @@
-/* Document 01 and Changes 1 to 3 of document 02 in plain C, written from the pages alone, to be held against the archive.
- * It reads tables, lays out tasks, judges plans, puts them in order and says when planning must refuse. It does not plan.
+/* Document 01 and Changes 1 to 3 and 5 of document 02 in plain C, written from the pages alone, to be held against the archive.
+ * It reads tables, lays out tasks, judges plans, puts them in order, lists what touches a span and says when planning must
+ * refuse. It does not plan.
  * Nothing here is meant to be fast: each function follows the words of the pages. */
 #ifndef PAPER_H
 #define PAPER_H
@@ -77,6 +78,15 @@ struct paper_site {
     struct paper_intervals intervals;
 };
 
+/* The lists that are lent for what touches a span, in their order. */
+enum paper_list { PAPER_OPEN, PAPER_INSIDE, PAPER_STEPS, PAPER_LISTS };
+
+/* What touches a span: the numbers of each list, as many as the answer says; for refusal 14 the list that is too short. */
+struct paper_touched {
+    uint32_t open[PAPER_JOBS], inside[PAPER_JOBS], steps[PAPER_INTERVALS * PAPER_JOBS];
+    enum paper_list too_short;
+};
+
 /* The cycles of each interval. */
 struct paper_loads {
     uint64_t at[PAPER_INTERVALS];
@@ -97,6 +107,7 @@ unsigned paper_band(const struct paper_points *points, uint64_t length, uint64_t
 struct ramyearly_setting_answer paper_setting(struct paper_bytes levels, uint32_t length, uint64_t load);
 
 /* intervals.c */
+void paper_sort(uint32_t *numbers, unsigned count);
 struct paper_intervals paper_intervals(const struct paper_jobs *jobs);
 bool paper_open(const struct paper_intervals *intervals, unsigned interval, unsigned job);
 uint64_t paper_length(const struct paper_intervals *intervals, unsigned interval);
@@ -114,6 +125,7 @@ uint64_t paper_exact(const struct paper_site *site, const struct paper_loads *lo
 uint64_t paper_carried_out(const struct paper_site *site, const struct paper_loads *loads);
 
 /* check.c */
+struct paper_refusal paper_steps_refusal(const struct paper_jobs *jobs, const struct paper_intervals *intervals, struct paper_bytes plan);
 struct paper_loads paper_loads(struct paper_bytes plan);
 struct ramyearly_check_answer paper_check(struct paper_bytes levels, struct paper_bytes jobs, struct paper_bytes plan, struct paper_bytes prices);
 
@@ -131,6 +143,10 @@ struct ramyearly_rounds_answer paper_rounds(struct paper_bytes tasks, size_t job
 struct ramyearly_order_answer paper_order(struct paper_bytes levels, struct paper_bytes jobs, struct paper_bytes plan, struct paper_bytes prices,
     size_t ordered_length, uint8_t ordered[PAPER_PLAN]);
 bool paper_same_shares(struct paper_bytes plan, struct paper_bytes other);
+
+/* touching.c */
+struct ramyearly_touching_answer paper_touching(struct paper_bytes jobs, struct paper_bytes plan, uint32_t start, uint32_t end,
+    size_t open_length, size_t inside_length, size_t steps_length, struct paper_touched *touched);
 
 /* search.c */
 bool paper_search(const struct paper_site *site, uint64_t *least);

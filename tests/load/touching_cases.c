@@ -1,0 +1,80 @@
+#include "touching_cases.h"
+
+#include "buffers.h"
+#include "change.h"
+#include "damage.h"
+#include "other.h"
+#include "sites.h"
+#include "spans.h"
+
+static struct table levels, jobs, plan, prices;
+static struct plan steps;
+
+/* Around the lengths wanted; or any where the call is refused whatever they are. */
+static struct list_lengths any_lists(struct numbers *numbers, const struct table *job_table, const struct table *plan_of_jobs, struct window span)
+{
+    static struct paper_touched ignored;
+    struct ramyearly_touching_answer wanted = paper_touching(bytes_of(job_table), bytes_of(plan_of_jobs), span.start, span.end,
+        SIZE_MAX, SIZE_MAX, SIZE_MAX, &ignored);
+    struct list_lengths lengths;
+    lengths.open = any_buffer(numbers, wanted.open);
+    lengths.inside = any_buffer(numbers, wanted.inside);
+    lengths.steps = any_buffer(numbers, wanted.steps);
+    return lengths;
+}
+
+void touch_any(struct numbers *numbers, const struct paper_jobs *near, const struct table *job_table, const struct table *plan_of_jobs)
+{
+    struct window span = any_span(numbers, near);
+    compare_touching(numbers, job_table, plan_of_jobs, span, any_lists(numbers, job_table, plan_of_jobs, span));
+}
+
+/* The plan that planning writes, where one comes out; or one that nobody made least. */
+static void make_steps(struct numbers *numbers, const struct paper_site *site)
+{
+    switch (below(numbers, 4)) {
+    case 0:
+        levels_table(&levels, &site->levels);
+        if (compare_plan(numbers, &levels, &jobs, enough(site), &plan, &prices)) {
+            plan_of_table(&steps, &plan);
+            return;
+        }
+        any_plan(numbers, site, &steps);
+        return;
+    case 1:
+        first_plan(site, &steps);
+        return;
+    case 2:
+        full_plan(numbers, site, &steps);
+        return;
+    default:
+        any_plan(numbers, site, &steps);
+    }
+}
+
+/* Half of the plans have sums that do not add up, though each step is right by itself; some have a change or damaged bytes. */
+static void make_plan(struct numbers *numbers, const struct paper_site *site)
+{
+    make_steps(numbers, site);
+    if (one_in(numbers, 2))
+        change_sums(numbers, &steps);
+    if (!one_in(numbers, 4))
+        change_order(numbers, &steps);
+    if (one_in(numbers, 6))
+        change_plan(numbers, site, &steps);
+    plan_table(&plan, &steps);
+    if (one_in(numbers, 24))
+        damage_bytes(numbers, &plan);
+}
+
+void touched_spans(struct numbers *numbers)
+{
+    struct shape shape = is_large(numbers) ? large_shape(numbers) : small_shape(numbers);
+    struct paper_site site = one_in(numbers, 4) ? light_site(numbers, shape) : any_site(numbers, shape);
+    jobs_table(&jobs, &site.jobs);
+    make_plan(numbers, &site);
+    if (one_in(numbers, 24))
+        damage_jobs(numbers, &jobs);
+    for (unsigned i = 0; i < 6; i++)
+        touch_any(numbers, &site.jobs, &jobs, &plan);
+}
