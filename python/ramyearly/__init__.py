@@ -4,13 +4,13 @@
     >>> ramyearly.plan(levels=[(2, 10), (4, 20)], jobs=[(0, 4, 6), (2, 3, 4)]).energy
     2200
 
-plan, check, order, setting, spare and rounds take plain values and answer plain values; refusals are exceptions with
-number, place and words. Levels that begin with (0, 5) are those of a board that draws 5,000 while it idles. Every answer
-is the archive's: the package decides nothing.
+plan, check, order, touching, setting, spare and rounds take plain values and answer plain values; refusals are exceptions
+with number, place and words. Levels that begin with (0, 5) are those of a board that draws 5,000 while it idles. Every
+answer is the archive's: the package decides nothing.
 """
 
 from .errors import Trouble
-from .operations import Ordered, Planned, Rounds, Setting, check, order, plan, rounds, setting, spare
+from .operations import Ordered, Planned, Rounds, Setting, Touched, check, order, plan, rounds, setting, spare, touching
 from .refusals import Overfull, Refused
 
 __all__ = [
@@ -20,6 +20,7 @@ __all__ = [
     "Refused",
     "Rounds",
     "Setting",
+    "Touched",
     "Trouble",
     "check",
     "order",
@@ -27,5 +28,6 @@ __all__ = [
     "rounds",
     "setting",
     "spare",
+    "touching",
 ]
 __version__ = "1.0.0"

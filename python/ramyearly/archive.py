@@ -59,6 +59,17 @@ class OrderAnswer(ctypes.Structure):
     _fields_ = [("number", ctypes.c_uint32), ("place", ctypes.c_uint32), ("length", ctypes.c_uint32)]
 
 
+class TouchingAnswer(ctypes.Structure):
+    _fields_ = [
+        ("number", ctypes.c_uint32),
+        ("place", ctypes.c_uint32),
+        ("open", ctypes.c_uint32),
+        ("inside", ctypes.c_uint32),
+        ("steps", ctypes.c_uint32),
+        ("deadline", ctypes.c_uint32),
+    ]
+
+
 TABLE = (ctypes.c_char_p, ctypes.c_size_t)
 BUFFER = (ctypes.c_void_p, ctypes.c_size_t)
 
@@ -70,6 +81,7 @@ FUNCTIONS = {
     "ramyearly_plan": (PlanAnswer, TABLE * 2 + BUFFER * 3),
     "ramyearly_rounds": (RoundsAnswer, TABLE + BUFFER),
     "ramyearly_order": (OrderAnswer, TABLE * 4 + BUFFER),
+    "ramyearly_touching": (TouchingAnswer, TABLE * 2 + (ctypes.c_uint32, ctypes.c_uint32) + BUFFER * 3),
 }
 
 
@@ -118,29 +130,37 @@ def spare(levels, jobs, start, end):
     return library().ramyearly_spare(*tables(levels, jobs), start, end)
 
 
-# For each function that writes, the elements of its buffers in their order, each by the refusal that says that the buffer
-# is too short. The place of that refusal is the length wanted.
-PLAN_BUFFERS = {12: ctypes.c_uint8, 13: ctypes.c_uint8, 14: ctypes.c_uint32}
-ROUNDS_BUFFERS = {12: ctypes.c_uint8}
-ORDER_BUFFERS = {12: ctypes.c_uint8}
+# For each function that writes, its buffers in their order: the refusal that says that one is too short, and its elements.
+# The place of that refusal is the length wanted.
+PLAN_BUFFERS = ((12, ctypes.c_uint8), (13, ctypes.c_uint8), (14, ctypes.c_uint32))
+ROUNDS_BUFFERS = ((12, ctypes.c_uint8),)
+ORDER_BUFFERS = ((12, ctypes.c_uint8),)
+TOUCHING_BUFFERS = ((14, ctypes.c_uint32),) * 3
 
 
 def call_into(function, lent, kinds, lengths):
     """Calls with buffers of these lengths: the answer, and the buffers."""
     # A buffer of no elements has an address of its own only where it is made with one.
-    buffers = [(kind * max(lengths[number], 1))() for number, kind in kinds.items()]
-    words = [word for buffer, number in zip(buffers, kinds) for word in (ctypes.addressof(buffer), lengths[number])]
+    buffers = [(kind * max(length, 1))() for (_, kind), length in zip(kinds, lengths)]
+    words = [word for buffer, length in zip(buffers, lengths) for word in (ctypes.addressof(buffer), length)]
     return function(*lent, *words), buffers
 
 
 def call(function, lent, kinds):
     """Calls with buffers as long as the archive wants them: the answer, and the buffers as written."""
-    lengths = dict.fromkeys(kinds, 0)
+    lengths = [0] * len(kinds)
     answer, buffers = call_into(function, lent, kinds, lengths)
-    while answer.number in kinds and lengths[answer.number] < answer.place:
-        lengths[answer.number] = answer.place
+    while short := shorter_than_wanted(answer, kinds, lengths):
+        # Several buffers may have one refusal. It is about the first that is too short, so that at worst one before it,
+        # which was long enough, gets longer.
+        lengths[short[0]] = answer.place
         answer, buffers = call_into(function, lent, kinds, lengths)
     return answer, *buffers
+
+
+def shorter_than_wanted(answer, kinds, lengths):
+    """The numbers of the buffers that an answer may have found too short; none where it is not such a refusal."""
+    return [which for which, (number, _) in enumerate(kinds) if number == answer.number and lengths[which] < answer.place]
 
 
 def plan(levels, jobs):
@@ -156,3 +176,8 @@ def rounds(tasks):
 def order(levels, jobs, plan, prices):
     """Orders a plan's steps: the answer, and the buffer of the ordered plan."""
     return call(library().ramyearly_order, tables(levels, jobs, plan, prices), ORDER_BUFFERS)
+
+
+def touching(jobs, plan, start, end):
+    """Lists what touches a span: the answer, and the lists of open jobs, of jobs inside and of the steps' cells."""
+    return call(library().ramyearly_touching, [*tables(jobs, plan), start, end], TOUCHING_BUFFERS)

@@ -7,13 +7,14 @@ from . import __version__
 from .errors import Trouble
 from .files import Stopped, stop_in_order
 from .terminal import NAME, accept_any_name, put, say
-from .verbs import check, decode, encode, listing, order, plan, report, rounds
+from .verbs import check, decode, encode, listing, order, plan, report, rounds, span
 from .verbs.folders import DONE, FAILED, STATUSES
 
 VERBS = {
     "plan": plan,
     "check": check,
     "order": order,
+    "span": span,
     "report": report,
     "encode": encode,
     "decode": decode,

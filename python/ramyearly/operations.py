@@ -1,15 +1,15 @@
 """The operations on plain values.
 
 A level is (frequency, voltage), a job (release, deadline, cycles), a task (phase, period, deadline, cycles), a step
-(interval, job, cycles) and a price (end, price). Levels may begin with the idle entry (0, draw): idling then draws 1,000 x
-draw in each tick, and without it nothing. A refusal is raised as Refused, or as Overfull where no schedule meets all
-deadlines. A number that has no room in the tables is a ValueError.
+(interval, job, cycles) and a price (end, price). Jobs and intervals are numbered from 0. Levels may begin with the idle
+entry (0, draw): idling then draws 1,000 x draw in each tick, and without it nothing. A refusal is raised as Refused, or as
+Overfull where no schedule meets all deadlines. A number that has no room in the tables is a ValueError.
 """
 
 from typing import NamedTuple
 
 from . import archive, tables
-from .refusals import Call, entries_of, overfull, refused
+from .refusals import Call, entries_of, interval_spans, overfull, refused
 from .tables import check_room
 
 
@@ -31,6 +31,16 @@ class Ordered(NamedTuple):
 
     steps: list  # (interval, job, cycles), interval by interval and within it by job
     plan_bytes: bytes  # the same plan as the kernel loads it
+
+
+class Touched(NamedTuple):
+    """What touches a span of ticks, which goes from its start up to, not including, its end."""
+
+    open_jobs: list  # the numbers of the jobs open somewhere in it, rising
+    inside_jobs: list  # the numbers of the jobs wholly inside it, rising
+    steps: list  # (interval, job, cycles), in cell order; of such a step the interval shares a tick with the span
+    spans: list  # for each interval of the plan (from, to); a step runs its cycles between them
+    deadline: int  # of all jobs' deadlines at or after its start the nearest, or None
 
 
 class Setting(NamedTuple):
@@ -56,6 +66,10 @@ def level_table(levels):
 
 def job_table(jobs):
     return tables.to_bytes(jobs, tables.JOBS)
+
+
+def plan_table(intervals, steps):
+    return tables.to_bytes(tables.join_cells(steps), tables.PLAN, sizes=(intervals,))
 
 
 def plan(levels, jobs):
@@ -96,8 +110,7 @@ def check(levels, jobs, steps, prices):
 
 def plan_and_prices(steps, prices):
     """The bytes of a plan and of its price list."""
-    plan_bytes = tables.to_bytes(tables.join_cells(steps), tables.PLAN, sizes=(len(prices),))
-    return plan_bytes, tables.to_bytes(prices, tables.PRICES)
+    return plan_table(len(prices), steps), tables.to_bytes(prices, tables.PRICES)
 
 
 def check_tables(levels, jobs, plan_bytes, price_bytes):
@@ -121,6 +134,35 @@ def order_tables(levels, jobs, plan_bytes, price_bytes):
         raise refused(answer.number, answer.place, Call(levels, jobs, plan_bytes, price_bytes))
     ordered_bytes = bytes(buffer)[: answer.length]
     return Ordered(tables.split_cells(entries_of(ordered_bytes, tables.PLAN)), ordered_bytes)
+
+
+def touching(jobs, plan, start, end):
+    """What touches the span of ticks from start up to, not including, end. A plan is (intervals, steps): how many intervals
+    it has, and its steps, in any order. What its steps add to is no matter here."""
+    span = check_room(start, "start", 32), check_room(end, "end", 32)
+    return touching_tables(job_table(jobs), plan_table(*plan), *span)
+
+
+def touching_tables(jobs, plan_bytes, start, end):
+    """What touches a span, of jobs and a plan that are bytes."""
+    answer, open_jobs, inside_jobs, cells = archive.touching(jobs, plan_bytes, start, end)
+    if answer.number:
+        raise refused(answer.number, answer.place, Call(jobs=jobs, plan=plan_bytes, start=start, end=end))
+    cycles = dict(entries_of(plan_bytes, tables.PLAN))
+    return Touched(
+        open_jobs=open_jobs[: answer.open],
+        inside_jobs=inside_jobs[: answer.inside],
+        steps=tables.split_cells([(cell, cycles[cell]) for cell in cells[: answer.steps]]),
+        spans=interval_spans(jobs),
+        deadline=answer.deadline or None,  # no deadline is 0
+    )
+
+
+def check_span(start, end):
+    """Refuses a wrong span. The archive does so before it reads a table, and so without one."""
+    answer, *_ = archive.touching(b"", b"", start, end)
+    if answer.number == 33:
+        raise refused(answer.number, answer.place, Call(start=start, end=end))
 
 
 def setting(levels, length, load):

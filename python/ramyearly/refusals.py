@@ -104,6 +104,16 @@ def entries_of(data, table):
     return tables.from_bytes(data, table, table.name)[1]
 
 
+def interval_spans(jobs):
+    """From and to of each interval that jobs make. The archive says where intervals end: jobs of one cycle each always have
+    a plan on this level, and its price list has the ends."""
+    entries = [(release, deadline, 1) for release, deadline, _ in entries_of(jobs, tables.JOBS)]
+    level = tables.to_bytes([(1000, 1)], tables.LEVELS)
+    answer, _, prices, _ = archive.plan(level, tables.to_bytes(entries, tables.JOBS))
+    written = bytes(prices)[: tables.PRICES.length(answer.intervals)]
+    return tables.spans(entries, entries_of(written, tables.PRICES))
+
+
 # Levels and jobs.
 
 
@@ -173,6 +183,10 @@ def too_short(call, place):
     return "a buffer is too short"
 
 
+def list_too_short(call, place):
+    return "a shares table or a list is too short"
+
+
 # Plans.
 
 
@@ -181,7 +195,8 @@ def steps_of(call):
 
 
 def number_of_intervals(call, place):
-    return f"{tables.sizes_of(call.plan, tables.PLAN)[0]} intervals, but the jobs make another number"
+    count = tables.sizes_of(call.plan, tables.PLAN)[0]
+    return f"{count} interval{'' if count == 1 else 's'}, but the jobs make {len(interval_spans(call.jobs))}"
 
 
 def cell(call, place):
@@ -213,8 +228,7 @@ def load_of(call, place):
     return sum(value for interval, _, value in steps_of(call) if interval == place)
 
 
-# Price lists. The plan fits where one of these holds, so that its number of intervals is right and a plan of the site
-# comes out, whose price list has the true ends.
+# Price lists.
 
 
 def price_list(call, place):
@@ -225,22 +239,16 @@ def price_list(call, place):
     return f"{tables.sizes_of(call.prices, tables.PRICES)[0]} intervals, but the plan has {wanted}"
 
 
-def true_spans(call):
-    answer, _, prices, _ = archive.plan(call.levels, call.jobs)
-    written = bytes(prices)[: tables.PRICES.length(answer.intervals)]
-    return tables.spans(entries_of(call.jobs, tables.JOBS), entries_of(written, tables.PRICES))
-
-
 def end_or_price(call, place):
     end, price = entries_of(call.prices, tables.PRICES)[place]
-    _, true_end = true_spans(call)[place]
+    _, true_end = interval_spans(call.jobs)[place]
     if end != true_end:
         return f"interval {place} ends at {true_end}, not at {end}"
     return f"price {price} of interval {place} is not the number of a band"
 
 
 def price_and_load(call, place):
-    start, end = true_spans(call)[place]
+    start, end = interval_spans(call.jobs)[place]
     load = load_of(call, place)
     price = entries_of(call.prices, tables.PRICES)[place][1]
     band = archive.setting(call.levels, end - start, load).band
@@ -296,7 +304,7 @@ def count_of_rounds(call, place):
     return f"with this task there are more than 64 jobs; {before}"
 
 
-# Setting and spare.
+# Setting, spare and what touches a span.
 
 
 def length(call, place):
@@ -357,7 +365,7 @@ REASONS = {
     10: (tables.JOBS, cycles, at_place),
     12: (None, too_short, no_entry),
     13: (None, too_short, no_entry),
-    14: (None, too_short, no_entry),
+    14: (None, list_too_short, no_entry),
     15: (tables.PLAN, length_of(tables.PLAN), no_entry),
     16: (tables.PLAN, number_of_intervals, no_entry),
     17: (tables.PLAN, cell, at_place),
@@ -376,4 +384,5 @@ REASONS = {
     30: (tables.TASKS, count_of_rounds, task_that_gives(30)),
     31: (tables.LEVELS, idle_entry_alone, at_place),
     32: (tables.LEVELS, idle_draw, at_place),
+    33: (None, span, no_entry),
 }

@@ -10,6 +10,7 @@ from typing import NamedTuple
 from . import operations, tables
 from .errors import SiteError, TableError
 from .refusals import Overfull, Refused, listed, ticks
+from .terminal import NAME
 
 
 class Source(NamedTuple):
@@ -47,9 +48,24 @@ class Site(NamedTuple):
 def read_site(folder):
     """The two tables of a site. Text that is no table is an error; bytes of any content are not."""
     sources = {table: read_source(folder, table) for table in (tables.LEVELS, tables.work_table(folder))}
-    if all(source.trouble and not os.path.lexists(source.path) for source in sources.values()):
+    if all(map(is_missing, sources.values())):
         names = "jobs.txt or tasks.txt, levels.txt"
         raise SiteError(f"{folder}: no job list, no task list and no level list ({names}; --help says more)")
+    return Site(folder, sources)
+
+
+def is_missing(source):
+    return source.trouble and not os.path.lexists(source.path)
+
+
+def read_planned(folder):
+    """The jobs or the tasks of a site, and its plan, without levels. A site that has no plan is to be planned first."""
+    work = tables.work_table(folder)
+    sources = {work: read_source(folder, work), tables.PLAN: read_bytes(folder, tables.PLAN)}
+    if is_missing(sources[work]):
+        raise SiteError(f"{folder}: no job list and no task list (jobs.txt or tasks.txt; --help says more)")
+    if is_missing(sources[tables.PLAN]):
+        raise SiteError(f"{sources[tables.PLAN].path}: there is no plan; plan first ({NAME} plan {folder})")
     return Site(folder, sources)
 
 

@@ -85,6 +85,7 @@ class Verbs(InFolder):
         self.assertEqual(self.run_command("plan", site).returncode, 0)
         self.expect(["check", site], 0, f"{site}: accepted, energy 2200\n")
         self.assertEqual(self.run_command("order", site).returncode, 0)
+        self.assertTrue(self.run_command("span", "0", "4", site).stdout.startswith(f"{site}: from tick 0 "))
         self.assertEqual(self.run_command("report", site).returncode, 0)
 
     def test_names_that_are_no_text(self):
@@ -93,6 +94,9 @@ class Verbs(InFolder):
             ended = self.run_command(verb, site, text=False)
             self.assertEqual((ended.returncode, ended.stderr), (0, b""))
             self.assertIn(b"caf\xe9: jobs 2", ended.stdout)
+        ended = self.run_command("span", "0", "4", site, text=False)
+        self.assertEqual((ended.returncode, ended.stderr), (0, b""))
+        self.assertIn(b"caf\xe9: from tick 0", ended.stdout)
         self.assertEqual(self.run_command("report", site, text=False).returncode, 0)
 
     def test_folders_with_the_name_of_a_verb(self):
@@ -121,8 +125,9 @@ class Verbs(InFolder):
 
     def test_wrong_usage(self):
         good = self.good()
-        for words in ([], ["plan"], ["check"], ["order"], ["report"], ["--nonsense"], ["plan", "--nonsense", good],
-                      ["order", "--nonsense", good], ["report", good, good], ["plan", good, good, "-o", self.folder],
+        for words in ([], ["plan"], ["check"], ["order"], ["span"], ["report"], ["--nonsense"], ["plan", "--nonsense", good],
+                      ["order", "--nonsense", good], ["span", "0", "4"], ["span", good], ["span", "0", "x", good],
+                      ["span", "0", "4", "--nonsense", good], ["report", good, good], ["plan", good, good, "-o", self.folder],
                       ["order", good, good, "-o", self.folder], [self.folder + "/none"], [good + "/jobs.txt"]):  # fmt: skip
             ended = self.run_command(*words)
             self.assertEqual((ended.returncode, ended.stdout), (2, ""), words)
@@ -140,14 +145,19 @@ class Verbs(InFolder):
     def test_help(self):
         ended = self.run_command("--help")
         self.assertEqual((ended.returncode, ended.stderr), (0, ""))
-        for verb in command.VERBS:
-            self.assertIn(f"ramyearly {verb} DIR", ended.stdout)
+        for verb, module in command.VERBS.items():
+            self.assertTrue(module.USAGE[0].startswith(f"{verb} "))
+            self.assertIn(f"ramyearly {module.USAGE[0]}", ended.stdout)
             of_verb = self.run_command(verb, "--help")
             self.assertEqual((of_verb.returncode, of_verb.stderr), (0, ""))
             self.assertIn(f"usage: ramyearly {verb}", of_verb.stdout)
             self.assertIn("exit status", of_verb.stdout)
             self.assert_tasks_are_named(of_verb.stdout)
-            self.assert_idling_is_named(of_verb.stdout)
+            if verb == "span":
+                # It reads no levels, and says nothing of them but that.
+                self.assertNotIn("idle entry", of_verb.stdout)
+            else:
+                self.assert_idling_is_named(of_verb.stdout)
         for words in (["--help"], [".", "--help"]):
             shown = self.run_command(*words).stdout
             self.assert_tasks_are_named(shown)

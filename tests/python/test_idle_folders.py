@@ -32,6 +32,8 @@ class Folders(InFolder):
             self.expect(["check", site], f"{site}: accepted, energy 295000\n")
             ordered = f"jobs 3, intervals 5, steps 4, in order already; wrote {site}/ordered.tbl"
             self.expect(["order", site], f"{site}: {ordered}\n")
+            touched = self.run_command("span", "9", "30", site).stdout
+            self.assertTrue(touched.endswith("\nThe nearest deadline at or after tick 9 is tick 10, of job 0.\n"))
             self.expect(["report", site], f"{site}: wrote {site}/report.html\n")
             self.assertIn(b"295,000", read(os.path.join(site, "report.html")))
 

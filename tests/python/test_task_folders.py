@@ -46,6 +46,9 @@ class Verbs(TaskFolders):
         self.expect(["check", site], 0, f"{site}: accepted, energy 2200, repeats every 4 ticks\n")
         ordered = "jobs 2, intervals 3, steps 3, in order already, repeats every 4 ticks"
         self.expect(["order", site], 0, f"{site}: {ordered}; wrote {site}/ordered.tbl\n")
+        ended = self.run_command("span", "0", "1", site)
+        self.assertEqual((ended.returncode, ended.stderr), (0, ""))
+        self.assertIn("is of one round, which repeats every 4 ticks; later rounds are not listed.\n\n1 job is open", ended.stdout)
         # The plan is that of the same jobs.
         self.assertEqual(self.run_command("plan", other).returncode, 0)
         for name in ("plan.tbl", "prices.tbl"):
@@ -122,7 +125,7 @@ class Errors(TaskFolders):
                 said = f"{site}/{tasks.replace('_', '.')}: {jobs} {there}"
                 self.expect(["plan", site], 1, "", f"ramyearly: {said}\n")
         # The last one has both in bytes.
-        for words in ([], ["check"], ["order"], ["encode"], ["decode"], ["rounds"]):
+        for words in ([], ["check"], ["order"], ["span", "0", "4"], ["encode"], ["decode"], ["rounds"]):
             self.expect([*words, site], 1, "", f"ramyearly: {said}\n")
         self.assertEqual(sorted(os.listdir(site)), ["jobs.tbl", "levels.txt", "tasks.tbl"])
         self.expect(["report", site], 1, f"{site}: wrote {site}/report.html\n", f"ramyearly: {said}\n")
@@ -202,6 +205,9 @@ class Errors(TaskFolders):
         said = "tasks.txt line 2: the plan gives job 0 6 cycles, but it has 7 (refusal 19, job 0)"
         for verb in ("check", "order"):
             self.expect([verb, site], 1, "", f"ramyearly: {site}/{said}\n")
+        write(os.path.join(site, "tasks.txt"), TASKS.replace("4 4 6", "4 4 3"))
+        said = "plan.tbl: 4 cycles of job 0 in interval 0, but the job has 3 (refusal 18, step 0)"
+        self.expect(["span", "0", "1", site], 1, "", f"ramyearly: {site}/{said}\n")
 
 
 if __name__ == "__main__":

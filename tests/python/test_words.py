@@ -107,26 +107,31 @@ class Reading(InFolder):
 
 
 class Checking(InFolder):
-    """Refusals of plans and price lists, by the check and by ordering."""
+    """Refusals of plans and price lists, by the check and by ordering, and those of steps by what touches a span too."""
 
-    def expect(self, said, **files):
+    def expect(self, said, verbs=(["check"], ["order"]), **files):
         site = self.site(**{"levels_txt": T, "jobs_txt": JOBS, "plan_tbl": PLAN, "prices_tbl": PRICES, **files})
-        for verb in ("check", "order"):
-            ended = self.run_command(verb, site)
+        for words in verbs:
+            ended = self.run_command(*words, site)
             self.assertEqual((ended.returncode, ended.stdout, ended.stderr), (1, "", f"ramyearly: {site}/{said}\n"))
         self.assertEqual(sorted(os.listdir(site)), ["jobs.txt", "levels.txt", "plan.tbl", "prices.tbl"])
 
-    def test_plans(self):
+    def test_steps(self):
         sound = [(0, 0, 4), (1, 1, 4), (2, 0, 2)]
         for content, said in (
             (b"\3\0\3", "plan.tbl: 3 bytes, but the sizes alone take 4 (refusal 15)"),
             (PLAN + b"\0", "plan.tbl: 23 bytes, but steps number 3, which takes 22 (refusal 15)"),
-            (plan(4, sound), "plan.tbl: 4 intervals, but the jobs make another number (refusal 16)"),
+            (plan(4, sound), "plan.tbl: 4 intervals, but the jobs make 3 (refusal 16)"),
             (plan(3, [(0, 1, 4), *sound]), "plan.tbl: job 1 is not open in interval 0 (refusal 17, step 0)"),
             (plan(3, [*sound, (1, 1, 1)]), "plan.tbl: job 1 in interval 1 stands in step 1 already (refusal 17, step 3)"),
             (plan(3, [*sound, (1, 0, 0)]), "plan.tbl: 0 cycles of job 0 in interval 1 (refusal 18, step 3)"),
             (plan(3, [(1, 1, 5)]), "plan.tbl: 5 cycles of job 1 in interval 1, but the job has 4 (refusal 18, step 0)"),
-            (plan(3, sound[:2]), "jobs.txt line 2: the plan gives job 0 4 cycles, but it has 6 (refusal 19, job 0)"),
+        ):
+            self.expect(said, (["check"], ["order"], ["span", "0", "4"]), plan_tbl=content)
+
+    def test_sums(self):
+        for content, said in (
+            (plan(3, [(0, 0, 4), (1, 1, 4)]), "jobs.txt line 2: the plan gives job 0 4 cycles, but it has 6 (refusal 19, job 0)"),
             (
                 plan(3, [(1, 0, 1), (1, 1, 4), (0, 0, 5)]),
                 "plan.tbl: interval 1 has 5 cycles, more than the top frequency gives in it (refusal 20, interval 1)",
@@ -175,13 +180,15 @@ class Checking(InFolder):
 class Numbers(unittest.TestCase):
     """Refusals of what is no table."""
 
-    def test_settings_and_windows(self):
+    def test_settings_windows_and_spans(self):
         pair = [(2, 10), (4, 20)]
         for function, values, said in (
             (ramyearly.setting, (pair, 0, 0), "length 0 is not in range (1 to 1,000,000) (refusal 25)"),
             (ramyearly.setting, (pair, 3, 13), "load 13 is more than the top frequency gives in 3 ticks (refusal 26)"),
             (ramyearly.spare, (pair, [], 3, 3), "start 3 is not before end 3 (refusal 27)"),
             (ramyearly.spare, (pair, [], 0, 1_000_001), "end 1000001 is above 1,000,000 (refusal 27)"),
+            (ramyearly.touching, ([], (0, []), 3, 3), "start 3 is not before end 3 (refusal 33)"),
+            (ramyearly.touching, ([], (0, []), 0, 1_000_001), "end 1000001 is above 1,000,000 (refusal 33)"),
         ):
             with self.assertRaises(ramyearly.Refused) as caught:
                 function(*values)
@@ -189,12 +196,12 @@ class Numbers(unittest.TestCase):
 
     def test_buffers(self):
         """The package asks for the lengths wanted, so that these are never seen."""
-        for number in (12, 13, 14):
+        for number, what in ((12, "a buffer"), (13, "a buffer"), (14, "a shares table or a list")):
             refusal = refusals.refused(number, 22, refusals.Call())
-            self.assertEqual(str(refusal), f"a buffer is too short (refusal {number}, length wanted 22)")
+            self.assertEqual(str(refusal), f"{what} is too short (refusal {number}, length wanted 22)")
 
     def test_every_refusal_has_words(self):
-        self.assertEqual(sorted([*refusals.REASONS, 11]), list(range(1, 33)))
+        self.assertEqual(sorted([*refusals.REASONS, 11]), list(range(1, 34)))
 
 
 if __name__ == "__main__":

@@ -5,34 +5,47 @@ import errno
 import os
 
 from ..errors import SiteError
+from ..tables import read_number
 from ..terminal import NAME, Progress, put, say
 
 # Exit statuses. With several folders the worst one is the command's.
 DONE, REFUSED, FAILED = 0, 1, 2
 
-# Each verb on a site says so.
-LISTS = """
-
-The level list may begin with an idle entry, frequency 0 and in the place of the voltage what idling
-draws in thousands of power units. With a first line '0 5' idling draws 5,000, without one nothing.
+# Each verb on a site says which lists may stand there; a verb that reads no levels, of the tasks alone.
+TASK_LIST = """
 
 A task list, tasks.txt, tasks.csv or tasks.tbl, may stand in place of the job list: phase, period,
 deadline (counted from the release) and cycles, a task to a line. Its jobs are laid out over the
 least common multiple of the periods, and these are the site's jobs."""
 
+LISTS = """
+
+The level list may begin with an idle entry, frequency 0 and in the place of the voltage what idling
+draws in thousands of power units. With a first line '0 5' idling draws 5,000, without one nothing.""" + TASK_LIST
+
 STATUSES = """\
-exit status: 0 done; 1 a site is overfull or refused, or its text is no table; 2 wrong usage, or a
-file could not be written. With several folders the worst one.
+exit status: 0 done; 1 a site is overfull or refused, or its text is no table, or a span is refused;
+2 wrong usage, or a file could not be written. With several folders the worst one.
 """
 
 
-def parser_of(verb, description, several=False):
-    """The parser of a verb, with its folders."""
+def tick(word):
+    """The number of a tick that stands among the arguments."""
+    try:
+        return read_number(word, "tick", 32)
+    except ValueError as error:
+        raise argparse.ArgumentTypeError(error) from None
+
+
+def parser_of(verb, description, several=False, ticks=()):
+    """The parser of a verb, with its folders. Before them stand ticks, given as (name, help)."""
     prog = f"{NAME} {verb}" if verb else NAME
     parser = argparse.ArgumentParser(
         prog=prog, description=description, epilog=STATUSES, allow_abbrev=False,
         formatter_class=argparse.RawDescriptionHelpFormatter,
     )  # fmt: skip
+    for name, said in ticks:
+        parser.add_argument(name.lower(), metavar=name, type=tick, help=said)
     if several:
         parser.add_argument("folders", metavar="DIR", nargs="+", help="the folder of a site")
     else:
