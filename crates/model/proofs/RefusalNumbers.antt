@@ -1,7 +1,7 @@
 -- Laws of the numbers that a definition refuses by, one for each form of refusal, and the numbers of each operation.
 -- Assumes nothing.
 use mathlib.Core.Path.{_≡_, refl}
-use mathlib.Core.Bool.{Bool, true, false, cond, not, _&&_, _||_}
+use mathlib.Core.Bool.{Bool, true, false, cond, not, _&&_}
 use mathlib.Core.Logic.{_⊎_, inl, inr}
 use mathlib.Core.List.{List}
 use mathlib.Core.Option.{Option, none, some}
@@ -24,7 +24,7 @@ use Rattle.model.specs.Setting.{settingOf, setting}
 use Rattle.model.specs.Search.{someBelow}
 use Rattle.model.specs.Intervals.{intervalCount, boundAt, lengthOf, isOpen}
 use Rattle.model.specs.Sites.{Site, siteOf, readSite, SiteNumbers}
-use Rattle.model.specs.Windows.{Window, spareOf, earliestOverfull, spare}
+use Rattle.model.specs.Windows.{Window, spareOf, earliestOverfull, wrongSpan, spare}
 use Rattle.model.specs.Plans.{load}
 use Rattle.model.specs.Prices.{isBandNumber, fitsLoad}
 use Rattle.model.specs.Steps.{planIntervals, stepCount, stepAt, wrongPlanLength, walk, jobSum, sharesOf}
@@ -185,7 +185,7 @@ unfolding spare
 spare-by levels jobs start end =
     let numbers : ℕ → Type 0 = λ n. SiteNumbers n ⊎ From 27 27 n in
     by-then numbers (readSite levels jobs) _ (site-then levels jobs (From 27 27)) λ site.
-    by-when numbers (leb end start || ltb maxDeadline end) 27 (inr (omega arith))
+    by-when numbers (wrongSpan start end) 27 (inr (omega arith))
     (by-answer numbers (spareOf (topOf (site .processor)) (site .jobs) start end))
 
 pub walk-by : (plan : List ℕ) → RefusesBy (From 15 15) (walk plan)

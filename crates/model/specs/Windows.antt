@@ -63,10 +63,13 @@ windowFrom ends (some start) = windowTo start (ends start)
 unfoldable pub earliestOverfull : (top : ℕ) → List Job → Option Window
 earliestOverfull top jobs = windowFrom (earliestEnd top jobs) (earliestStart top jobs)
 
--- 27: start not before end, or end above 1,000,000.
+-- 27, and 33 of document 02: start not before end, or end above 1,000,000.
+abbrev pub wrongSpan : (start end : ℕ) → Bool
+wrongSpan start end = leb end start || ltb maxDeadline end
+
 abbrev pub spareFor : Site → (start end : ℕ) → Outcome ℤ
 spareFor site start end =
-    refuseWhen (leb end start || ltb maxDeadline end) 27
+    refuseWhen (wrongSpan start end) 27
     (answer (spareOf (topOf (site .processor)) (site .jobs) start end))
 
 -- Spare of a window. Levels, jobs, then 27.

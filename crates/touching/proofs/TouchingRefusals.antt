@@ -9,8 +9,9 @@ use Rattle.model.specs.Limits.{maxDeadline}
 use Rattle.model.specs.Outcome.{andThen, From, RefusesBy}
 use Rattle.model.specs.Jobs.{readJobs}
 use Rattle.model.specs.Intervals.{boundsOf}
+use Rattle.model.specs.Windows.{wrongSpan}
 use Rattle.model.proofs.RefusalNumbers.{by-when, by-then, by-under, by-answer, jobs-by, stepping-by, widen}
-use Rattle.touching.specs.Spans.{Touched, wrongSpan, touched}
+use Rattle.touching.specs.Spans.{Touched, touched}
 use Rattle.touching.specs.Touching.{Lists, whereRoom, touchingFor, touching, TouchingNumbers, TouchingRefuses}
 use Rattle.touching.proofs.TouchingOutcomes.{span-right}
 

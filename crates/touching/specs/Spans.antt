@@ -1,12 +1,12 @@
 -- What touches a span of ticks (document 02, Change 5). The span goes from its start up to, not including, its end.
 use Prim.Native.Nat.{ℕ, suc, _*_, _/_}
-use mathlib.Core.Bool.{Bool, _&&_, _||_}
+use mathlib.Core.Bool.{Bool, _&&_}
 use mathlib.Core.List.{List}
 use mathlib.Core.Option.{Option}
 use lib.ListN.{length}
 use lib.Dec.{ltb, leb, eqb}
 use Rattle.model.specs.declared.Job.{Job}
-use Rattle.model.specs.Limits.{maxJobs, maxDeadline}
+use Rattle.model.specs.Limits.{maxJobs}
 use Rattle.model.specs.Search.{someBelow, passingBelow, leastBelow}
 use Rattle.model.specs.Jobs.{jobOf}
 use Rattle.model.specs.Intervals.{intervalCount, boundAt}
@@ -21,10 +21,6 @@ pub record Touched : Type 0 where
   pub deadline : Option ℕ
 
 module _ (start end : ℕ) where
-  -- 33: "start not before end, or end above 1,000,000"
-  abbrev pub wrongSpan : Bool
-  wrongSpan = leb end start || ltb maxDeadline end
-
   -- "open somewhere in it": released before its end, with a deadline after its start
   abbrev pub opensWithin : Job → Bool
   opensWithin job = ltb (job .release) end && ltb start (job .deadline)

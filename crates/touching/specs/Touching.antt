@@ -7,8 +7,9 @@ use Rattle.model.specs.declared.Job.{Job}
 use Rattle.model.specs.Outcome.{Outcome, refused, answer, andThen, refuseWhen, refuseUnder, From, RefusesBy}
 use Rattle.model.specs.Jobs.{readJobs}
 use Rattle.model.specs.Intervals.{boundsOf}
+use Rattle.model.specs.Windows.{wrongSpan}
 use Rattle.model.specs.Checking.{stepping}
-use Rattle.touching.specs.Spans.{Touched, wrongSpan, touched}
+use Rattle.touching.specs.Spans.{Touched, touched}
 
 -- The three lists that are lent, in this order.
 pub record Lists : Type 0 where
@@ -30,7 +31,7 @@ touchingFor jobs bounds plan start end before =
     stepping jobs bounds plan
     (whereRoom before (touched jobs bounds plan start end))
 
--- "33 .., before the job table and then the plan are read".
+-- "33 start not before end, or end above 1,000,000, before the job table and then the plan are read".
 unfoldable pub touching : (jobBytes plan : List ℕ) → (start end : ℕ) → (before : Lists) → Outcome Touched
 touching jobBytes plan start end before =
     refuseWhen (wrongSpan start end) 33
