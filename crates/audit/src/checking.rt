@@ -26,12 +26,18 @@ pub enum CheckAnswer {
     Refused { number: u32, place: u32 },
 }
 
-// Checks a plan and its price list against a level table and a job table. Any bytes are answered.
-pub fn check(levels: &[u8], jobs: &[u8], plan: &[u8], prices: &[u8]) -> CheckAnswer
-    ensures { λ r. ⌜ r ≡ checkAnswer (checkOf (now (levels .entry)) (now (jobs .entry)) (now (plan .entry)) (now (prices .entry))) ⌝ }
+// Checks a plan and its price list against a level table, a job table and handover marks. Any bytes are answered.
+pub fn check(
+    levels: &[u8],
+    jobs: &[u8],
+    marks: &[u8],
+    plan: &[u8],
+    prices: &[u8],
+) -> CheckAnswer
+    ensures { λ r. ⌜ r ≡ checkAnswer (checkOf (now (levels .entry)) (now (jobs .entry)) (now (marks .entry)) (now (plan .entry)) (now (prices .entry))) ⌝ }
 {
     let mut cells = [0u64; SET_WORDS];
-    check_cells(levels, jobs, plan, prices, &mut cells)
+    check_cells(levels, jobs, marks, plan, prices, &mut cells)
 }
 
 // The check, which also leaves the cells of an accepted plan's steps, as one set of jobs for each interval. What a refused plan
@@ -39,12 +45,13 @@ pub fn check(levels: &[u8], jobs: &[u8], plan: &[u8], prices: &[u8]) -> CheckAns
 pub fn check_cells(
     levels: &[u8],
     jobs: &[u8],
+    marks: &[u8],
     plan: &[u8],
     prices: &[u8],
     cells: &mut [u64; SET_WORDS],
 ) -> CheckAnswer
     requires { ⌜ NoJobs (now cells) ⌝ }
-    ensures { λ r. ⌜ r ≡ checkAnswer (checkOf (now (levels .entry)) (now (jobs .entry)) (now (plan .entry)) (now (prices .entry))) ⌝ }
+    ensures { λ r. ⌜ r ≡ checkAnswer (checkOf (now (levels .entry)) (now (jobs .entry)) (now (marks .entry)) (now (plan .entry)) (now (prices .entry))) ⌝ }
     ensures { λ r. ⌜ ((energy : ℕ) → r ≡ Accepted energy → CellsSeen (now (plan .entry)) (now (cells .exit))) ⌝ }
 {
     let mut releases = [0u64; MAX_JOBS];
@@ -54,6 +61,7 @@ pub fn check_cells(
     let site = read_site(
         levels,
         jobs,
+        marks,
         &mut releases,
         &mut deadlines,
         &mut cycles,

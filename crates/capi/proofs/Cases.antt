@@ -149,14 +149,14 @@ untouched-result (refused n p) number place e =
 untouched-result (answer t) number place e = cc e
 
 -- the outcome is that of an operation on bytes
-module _ (levelBytes jobBytes plan prices : List ℕ) where
-  pub check-accepted : (energy : ℕ) → Accepted energy ≡ checkAnswer (check levelBytes jobBytes plan prices)
-      → record { number = 0; place = 0; energy = energy } ≡ checkResult (check levelBytes jobBytes plan prices)
-  check-accepted = accepted-result (check levelBytes jobBytes plan prices)
+module _ (levelBytes jobBytes markBytes plan prices : List ℕ) where
+  pub check-accepted : (energy : ℕ) → Accepted energy ≡ checkAnswer (check levelBytes jobBytes markBytes plan prices)
+      → record { number = 0; place = 0; energy = energy } ≡ checkResult (check levelBytes jobBytes markBytes plan prices)
+  check-accepted = accepted-result (check levelBytes jobBytes markBytes plan prices)
 
-  pub check-refused : (number place : ℕ) → CheckRefused number place ≡ checkAnswer (check levelBytes jobBytes plan prices)
-      → record { number = number; place = place; energy = 0 } ≡ checkResult (check levelBytes jobBytes plan prices)
-  check-refused = unaccepted-result (check levelBytes jobBytes plan prices)
+  pub check-refused : (number place : ℕ) → CheckRefused number place ≡ checkAnswer (check levelBytes jobBytes markBytes plan prices)
+      → record { number = number; place = place; energy = 0 } ≡ checkResult (check levelBytes jobBytes markBytes plan prices)
+  check-refused = unaccepted-result (check levelBytes jobBytes markBytes plan prices)
 
 module _ (bytes : List ℕ) (length load : ℕ) where
   pub setting-set : (band extra gap : ℕ) → Set band extra gap ≡ settingAnswer (setting bytes length load)
@@ -187,27 +187,27 @@ module _ (taskBytes before after : List ℕ) where
   rounds-refused number place h =
       record { result-is = no-round-result (rounds taskBytes (length before)) number place (h .answer-is); buffer-is = h .buffer-is }
 
-module _ (levelBytes jobBytes plan prices before after : List ℕ) where
-  pub order-ordered : (size : ℕ) → OrderContract levelBytes jobBytes plan prices before after (Ordered size)
-      → OrderCall levelBytes jobBytes plan prices before after (record { number = 0; place = 0; length = size })
+module _ (levelBytes jobBytes markBytes plan prices before after : List ℕ) where
+  pub order-ordered : (size : ℕ) → OrderContract levelBytes jobBytes markBytes plan prices before after (Ordered size)
+      → OrderCall levelBytes jobBytes markBytes plan prices before after (record { number = 0; place = 0; length = size })
   order-ordered size h =
       record {
-        result-is = ordered-result (order levelBytes jobBytes plan prices (length before)) size (h .answer-is);
+        result-is = ordered-result (order levelBytes jobBytes markBytes plan prices (length before)) size (h .answer-is);
         buffer-is = h .buffer-is;
       }
 
-  pub order-refused : (number place : ℕ) → OrderContract levelBytes jobBytes plan prices before after (OrderRefused number place)
-      → OrderCall levelBytes jobBytes plan prices before after (record { number = number; place = place; length = 0 })
+  pub order-refused : (number place : ℕ) → OrderContract levelBytes jobBytes markBytes plan prices before after (OrderRefused number place)
+      → OrderCall levelBytes jobBytes markBytes plan prices before after (record { number = number; place = place; length = 0 })
   order-refused number place h =
       record {
-        result-is = no-order-result (order levelBytes jobBytes plan prices (length before)) number place (h .answer-is);
+        result-is = no-order-result (order levelBytes jobBytes markBytes plan prices (length before)) number place (h .answer-is);
         buffer-is = h .buffer-is;
       }
 
-module _ (jobBytes plan : List ℕ) (start end : ℕ) (before after : Lists) where
+module _ (jobBytes markBytes plan : List ℕ) (start end : ℕ) (before after : Lists) where
   pub touching-touched : (opened inside steps deadline : ℕ) (nearest : NearestDeadline) → deadline ≡ deadlineNumber nearest
-      → TouchingContract jobBytes plan start end before after (Touching opened inside steps nearest)
-      → TouchingCall jobBytes plan start end before after (record {
+      → TouchingContract jobBytes markBytes plan start end before after (Touching opened inside steps nearest)
+      → TouchingCall jobBytes markBytes plan start end before after (record {
         number = 0;
         place = 0;
         «open_jobs» = opened;
@@ -217,12 +217,12 @@ module _ (jobBytes plan : List ℕ) (start end : ℕ) (before after : Lists) whe
       })
   touching-touched opened inside steps deadline nearest same h =
       record {
-        result-is = rw same (touched-result (touching jobBytes plan start end before) opened inside steps nearest (h .answer-is));
+        result-is = rw same (touched-result (touching jobBytes markBytes plan start end before) opened inside steps nearest (h .answer-is));
         lists-are = h .lists-are;
       }
 
-  pub touching-refused : (number place : ℕ) → TouchingContract jobBytes plan start end before after (TouchingRefused number place)
-      → TouchingCall jobBytes plan start end before after (record {
+  pub touching-refused : (number place : ℕ) → TouchingContract jobBytes markBytes plan start end before after (TouchingRefused number place)
+      → TouchingCall jobBytes markBytes plan start end before after (record {
         number = number;
         place = place;
         «open_jobs» = 0;
@@ -232,7 +232,7 @@ module _ (jobBytes plan : List ℕ) (start end : ℕ) (before after : Lists) whe
       })
   touching-refused number place h =
       record {
-        result-is = untouched-result (touching jobBytes plan start end before) number place (h .answer-is);
+        result-is = untouched-result (touching jobBytes markBytes plan start end before) number place (h .answer-is);
         lists-are = h .lists-are;
       }
 

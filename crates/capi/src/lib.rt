@@ -88,12 +88,13 @@ pub struct TouchingResult {
 pub extern "C" fn ramyearly_check(
     levels: &[u8],
     jobs: &[u8],
+    marks: &[u8],
     plan: &[u8],
     prices: &[u8],
 ) -> CheckResult
-    ensures { λ r. ⌜ r ≡ checkResult (check (now (levels .entry)) (now (jobs .entry)) (now (plan .entry)) (now (prices .entry))) ⌝ }
+    ensures { λ r. ⌜ r ≡ checkResult (check (now (levels .entry)) (now (jobs .entry)) (now (marks .entry)) (now (plan .entry)) (now (prices .entry))) ⌝ }
 {
-    let answer = audit::check(levels, jobs, plan, prices);
+    let answer = audit::check(levels, jobs, marks, plan, prices);
     match answer {
         CheckAnswer::Accepted { energy } => CheckResult {
             number: 0,
@@ -154,15 +155,16 @@ pub extern "C" fn ramyearly_spare(levels: &[u8], jobs: &[u8], start: u32, end: u
 pub extern "C" fn ramyearly_plan(
     levels: &[u8],
     jobs: &[u8],
+    marks: &[u8],
     plan: &mut [u8],
     prices: &mut [u8],
     shares: &mut [u32],
 ) -> PlanResult
-    ensures { λ r. ⌜ PlanCall (now (levels .entry)) (now (jobs .entry))
+    ensures { λ r. ⌜ PlanCall (now (levels .entry)) (now (jobs .entry)) (now (marks .entry))
         (record { plan = now (plan .entry); prices = now (prices .entry); shares = now (shares .entry) })
         (record { plan = now (plan .exit); prices = now (prices .exit); shares = now (shares .exit) }) r ⌝ }
 {
-    let answer = planning::plan(levels, jobs, plan, prices, shares);
+    let answer = planning::plan(levels, jobs, marks, plan, prices, shares);
     match answer {
         PlanAnswer::Plan {
             intervals,
@@ -226,13 +228,14 @@ pub extern "C" fn ramyearly_rounds(tasks: &[u8], jobs: &mut [u8]) -> RoundsResul
 pub extern "C" fn ramyearly_order(
     levels: &[u8],
     jobs: &[u8],
+    marks: &[u8],
     plan: &[u8],
     prices: &[u8],
     ordered: &mut [u8],
 ) -> OrderResult
-    ensures { λ r. ⌜ OrderCall (now (levels .entry)) (now (jobs .entry)) (now (plan .entry)) (now (prices .entry)) (now (ordered .entry)) (now (ordered .exit)) r ⌝ }
+    ensures { λ r. ⌜ OrderCall (now (levels .entry)) (now (jobs .entry)) (now (marks .entry)) (now (plan .entry)) (now (prices .entry)) (now (ordered .entry)) (now (ordered .exit)) r ⌝ }
 {
-    let answer = ordering::order(levels, jobs, plan, prices, ordered);
+    let answer = ordering::order(levels, jobs, marks, plan, prices, ordered);
     match answer {
         OrderAnswer::Ordered { length } => OrderResult {
             number: 0,
@@ -260,6 +263,7 @@ fn deadline_number(nearest: NearestDeadline) -> u32
 #[no_mangle]
 pub extern "C" fn ramyearly_touching(
     jobs: &[u8],
+    marks: &[u8],
     plan: &[u8],
     start: u32,
     end: u32,
@@ -267,11 +271,20 @@ pub extern "C" fn ramyearly_touching(
     inside_jobs: &mut [u32],
     steps: &mut [u32],
 ) -> TouchingResult
-    ensures { λ r. ⌜ TouchingCall (now (jobs .entry)) (now (plan .entry)) start end
+    ensures { λ r. ⌜ TouchingCall (now (jobs .entry)) (now (marks .entry)) (now (plan .entry)) start end
         (record { openJobs = now («open_jobs» .entry); insideJobs = now («inside_jobs» .entry); steps = now (steps .entry) })
         (record { openJobs = now («open_jobs» .exit); insideJobs = now («inside_jobs» .exit); steps = now (steps .exit) }) r ⌝ }
 {
-    let answer = touching::touching(jobs, plan, start, end, open_jobs, inside_jobs, steps);
+    let answer = touching::touching(
+        jobs,
+        marks,
+        plan,
+        start,
+        end,
+        open_jobs,
+        inside_jobs,
+        steps,
+    );
     match answer {
         TouchingAnswer::Touching {
             open_jobs,

@@ -1,6 +1,7 @@
 -- Laws for the proofs of the functions.
 pub mod Inserted
 pub mod Padded
+pub mod MarkedTimes
 pub mod Halving
 pub mod SmallBounds
 pub mod OpenSets

@@ -31,9 +31,9 @@ use Rattle.model.proofs.Joined.{joined-cong}
 use Rattle.listing_text.specs.PlanText.{spanLines, planText, textOfPlan}
 use Rattle.listing_text.specs.ShownPlans.{boundsIn, pricesIn, ShownPlan, ListedPlan}
 
-module _ {levelBytes jobBytes : List ℕ} {intervals steps energy : ℕ} {prices shares : List ℕ}
-    (listed : ListedPlan levelBytes jobBytes intervals steps energy prices shares)
-    (site : Site) (site-read : readSite levelBytes jobBytes ≡ answer site) where
+module _ {levelBytes jobBytes markBytes : List ℕ} {intervals steps energy : ℕ} {prices shares : List ℕ}
+    (listed : ListedPlan levelBytes jobBytes markBytes intervals steps energy prices shares)
+    (site : Site) (site-read : readSite levelBytes jobBytes markBytes ≡ answer site) where
   abbrev plan : List ℕ
   plan = listed .plan
 
@@ -47,7 +47,7 @@ module _ {levelBytes jobBytes : List ℕ} {intervals steps energy : ℕ} {prices
   planned = let same : listed .site ≡ site = answer-injective (sym (listed .site-read) ∙ site-read) in rw same at (listed .planned)
 
   valid : ValidSite site
-  valid = sites-are-valid levelBytes jobBytes site site-read
+  valid = sites-are-valid levelBytes jobBytes markBytes site site-read
 
   accepted : Accepted site plan priceList
   accepted = check-accepts site plan priceList energy .0 (planned .accepted) .0

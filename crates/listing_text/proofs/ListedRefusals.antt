@@ -24,16 +24,16 @@ length-zeros : (n : ℕ) → length (zeros n) ≡ n
 unfolding zeros
 length-zeros n = length-replicate {A = ℕ} n 0
 
-module _ (levelBytes jobBytes : List ℕ) (number place : ℕ) where
-  refused-in : refusal number place ≡ planning levelBytes jobBytes planRoom priceRoom shareRoom
-      → (outcome : Outcome Site) → readSite levelBytes jobBytes ≡ outcome → outcome ≡ refused number place
+module _ (levelBytes jobBytes markBytes : List ℕ) (number place : ℕ) where
+  refused-in : refusal number place ≡ planning levelBytes jobBytes markBytes planRoom priceRoom shareRoom
+      → (outcome : Outcome Site) → readSite levelBytes jobBytes markBytes ≡ outcome → outcome ≡ refused number place
   unfolding planning
   refused-in e (refused own own-place) is = cc (rw is at e)
   refused-in e (answer site) is =
       absurd (long-enough-decides site planRoom priceRoom shareRoom
-      (long-enough site (sites-are-valid levelBytes jobBytes site is)) .no-refusal number place (sym (rw is at e)))
+      (long-enough site (sites-are-valid levelBytes jobBytes markBytes site is)) .no-refusal number place (sym (rw is at e)))
 
-  pub reading-refused : refusal number place ≡ planning levelBytes jobBytes (length (zeros planRoom)) (length (zeros priceRoom)) (length (zeros shareRoom))
-      → readSite levelBytes jobBytes ≡ refused number place
+  pub reading-refused : refusal number place ≡ planning levelBytes jobBytes markBytes (length (zeros planRoom)) (length (zeros priceRoom)) (length (zeros shareRoom))
+      → readSite levelBytes jobBytes markBytes ≡ refused number place
   reading-refused e =
-      refused-in (rw (length-zeros planRoom, length-zeros priceRoom, length-zeros shareRoom) at e) (readSite levelBytes jobBytes) refl
+      refused-in (rw (length-zeros planRoom, length-zeros priceRoom, length-zeros shareRoom) at e) (readSite levelBytes jobBytes markBytes) refl

@@ -13,6 +13,8 @@ use Rattle.model.specs.Points.{points, drops, dropped, selectFrom, working}
 use Rattle.model.specs.Bands.{gap}
 use Rattle.model.specs.Setting.{bandOf, settingOf}
 use Rattle.model.specs.Intervals.{insertTime, boundsOf}
+use Rattle.model.specs.Marks.{insertMarks, boundsWith}
+use Rattle.model.specs.Processors.{processorOf}
 use Rattle.model.specs.Sites.{siteOf}
 use Rattle.model.specs.Prices.{PriceList}
 use Rattle.model.specs.SiteLines.{T, job, listedShares}
@@ -49,14 +51,14 @@ eightLines =
     ∷ 101 ∷ 110 ∷ 101 ∷ 114 ∷ 103 ∷ 121 ∷ 32 ∷ 50 ∷ 50 ∷ 48 ∷ 48 ∷ 10
     ∷ []
 
-pub listing-of-document : textOfPlan (siteOf T listedJobs) prices listedShares 3 2_200 ≡ eightLines
-unfolding encodeEach firstFrom someBelow sum points drops dropped selectFrom working gap bandOf settingOf insertTime boundsOf joined stepOf stepsOf placesOf decimal line spanLine stepLine spanLines stepLines planText
+pub listing-of-document : textOfPlan (siteOf (record { processor = processorOf T; jobs = listedJobs }) []) prices listedShares 3 2_200 ≡ eightLines
+unfolding encodeEach firstFrom someBelow sum points drops dropped selectFrom working gap bandOf settingOf insertTime boundsOf insertMarks boundsWith joined stepOf stepsOf placesOf decimal line spanLine stepLine spanLines stepLines planText
 listing-of-document = refl
 
 -- no jobs: sizes 0 0 0, energy 0
-pub listing-without-jobs : textOfPlan (siteOf T []) prices listedShares 0 0
+pub listing-without-jobs : textOfPlan (siteOf (record { processor = processorOf T; jobs = [] }) []) prices listedShares 0 0
     ≡ 115 ∷ 105 ∷ 122 ∷ 101 ∷ 115 ∷ 32 ∷ 48 ∷ 32 ∷ 48 ∷ 32 ∷ 48 ∷ 10 ∷ 101 ∷ 110 ∷ 101 ∷ 114 ∷ 103 ∷ 121 ∷ 32 ∷ 48 ∷ 10 ∷ []
-unfolding encodeEach firstFrom sum boundsOf joined stepsOf placesOf decimal line spanLines stepLines planText
+unfolding encodeEach firstFrom sum boundsOf insertMarks boundsWith joined stepsOf placesOf decimal line spanLines stepLines planText
 listing-without-jobs = refl
 
 -- T, one job 0 1 with 5 cycles: overfull 0 1 -1

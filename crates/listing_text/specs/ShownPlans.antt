@@ -36,8 +36,8 @@ pub record ShownPlan (working : PointTable) (jobs intervals : ℕ) (times prices
   pub fits : (i : ℕ) → i < intervals → Fits (pointsOf working) (boundsIn times (suc i) - boundsIn times i) (sum jobs (sharesIn jobs shares i))
 
 -- A plan for the site that was read stands at the start of the prices and the shares.
-pub record ListedPlan (levelBytes jobBytes : List ℕ) (intervals steps energy : ℕ) (prices shares : List ℕ) : Type 0 where
+pub record ListedPlan (levelBytes jobBytes markBytes : List ℕ) (intervals steps energy : ℕ) (prices shares : List ℕ) : Type 0 where
   pub site : Site
-  pub site-read : readSite levelBytes jobBytes ≡ answer site
+  pub site-read : readSite levelBytes jobBytes markBytes ≡ answer site
   pub plan : List ℕ
   pub planned : Planned site intervals steps energy plan (take (2 + 5 * intervals) prices) (take (length (site .jobs) * intervals) shares)

@@ -1,6 +1,6 @@
-// The listing of two tables.
+// The listing of a site, from its tables.
 ghost use mathlib.Core.Path.{_≡_};
-ghost use Rattle.listing_text.specs.Listings.{zeros, planRoom, priceRoom, shareRoom, ListingContract};
+ghost use Rattle.listing_text.specs.Listings.{zeros, planRoom, priceRoom, shareRoom, marksOfFile, ListingContract};
 use crate::lines::put_overfull;
 use crate::lines::put_refused;
 use crate::plan::put_plan;
@@ -18,13 +18,25 @@ const SHARE_ROOM: usize = MAX_JOBS * MAX_INTERVALS;
 
 // Writes the listing of a site into a buffer, as far as it has room, and answers the length of the text. Any bytes and any
 // buffer are answered.
-pub fn write_listing(levels: &[u8], jobs: &[u8], text: &mut [u8]) -> usize
-    ensures { λ r. ⌜ ListingContract (now (levels .entry)) (now (jobs .entry)) (now (text .entry)) (now (text .exit)) r ⌝ }
+// An empty file of marks means none.
+pub fn write_listing(levels: &[u8], jobs: &[u8], marks: &[u8], text: &mut [u8]) -> usize
+    ensures { λ r. ⌜ ListingContract (now (levels .entry)) (now (jobs .entry)) (marksOfFile (now (marks .entry))) (now (text .entry)) (now (text .exit)) r ⌝ }
+{
+    if marks.len() == 0 {
+        let none = [0u8; 2];
+        return list_site(levels, jobs, &none, text);
+    }
+    list_site(levels, jobs, marks, text)
+}
+
+// The listing where the bytes of the marks are those of a mark table.
+fn list_site(levels: &[u8], jobs: &[u8], marks: &[u8], text: &mut [u8]) -> usize
+    ensures { λ r. ⌜ ListingContract (now (levels .entry)) (now (jobs .entry)) (now (marks .entry)) (now (text .entry)) (now (text .exit)) r ⌝ }
 {
     let mut bytes = plan_buffer();
     let mut prices = price_buffer();
     let mut shares = share_buffer();
-    let answer = plan(levels, jobs, &mut bytes, &mut prices, &mut shares);
+    let answer = plan(levels, jobs, marks, &mut bytes, &mut prices, &mut shares);
     match answer {
         PlanAnswer::Plan {
             intervals,
@@ -33,6 +45,7 @@ pub fn write_listing(levels: &[u8], jobs: &[u8], text: &mut [u8]) -> usize
         } => put_plan(
             levels,
             jobs,
+            marks,
             intervals as usize,
             steps,
             energy,

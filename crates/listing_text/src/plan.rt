@@ -23,10 +23,11 @@ use model::MAX_BOUNDS;
 use model::MAX_JOBS;
 use site::read_site;
 
-// Puts the text of a plan for the site that two tables are read as.
+// Puts the text of a plan for the site that the tables are read as.
 pub(crate) fn put_plan(
     levels: &[u8],
     jobs: &[u8],
+    marks: &[u8],
     intervals: usize,
     steps: u32,
     energy: u64,
@@ -34,8 +35,8 @@ pub(crate) fn put_plan(
     shares: &[u32],
     text: &mut [u8],
 ) -> usize
-    requires { ⌜ ListedPlan (now levels) (now jobs) intervals steps energy (now prices) (now shares) ⌝ }
-    ensures { λ r. ⌜ ((s : Site) → readSite (now (levels .entry)) (now (jobs .entry)) ≡ answer s → Appended (now (text .entry)) 0
+    requires { ⌜ ListedPlan (now levels) (now jobs) (now marks) intervals steps energy (now prices) (now shares) ⌝ }
+    ensures { λ r. ⌜ ((s : Site) → readSite (now (levels .entry)) (now (jobs .entry)) (now (marks .entry)) ≡ answer s → Appended (now (text .entry)) 0
         (textOfPlan s (pricesOf (take (2 + 5 * intervals) (now (prices .entry)))) (sharesIn (length (s .jobs)) (now (shares .entry))) steps energy) textRoom (now (text .exit)) r) ⌝ }
 {
     let mut releases = [0u64; MAX_JOBS];
@@ -45,6 +46,7 @@ pub(crate) fn put_plan(
     let site = read_site(
         levels,
         jobs,
+        marks,
         &mut releases,
         &mut deadlines,
         &mut cycles,

@@ -40,16 +40,16 @@ check-accepts site plan prices figure =
     )
 
 -- once the tables were read, their site is checked
-pub check-read : (levelBytes jobBytes plan prices : List ℕ) (site : Site) → readSite levelBytes jobBytes ≡ answer site
-    → check levelBytes jobBytes plan prices ≡ checkFor site plan prices
+pub check-read : (levelBytes jobBytes markBytes plan prices : List ℕ) (site : Site) → readSite levelBytes jobBytes markBytes ≡ answer site
+    → check levelBytes jobBytes markBytes plan prices ≡ checkFor site plan prices
 unfolding check
-check-read levelBytes jobBytes plan prices site read = rw read
+check-read levelBytes jobBytes markBytes plan prices site read = rw read
 
 -- the check accepts only tables that are read
-pub check-reads : (levelBytes jobBytes plan prices : List ℕ) (figure : ℕ) → check levelBytes jobBytes plan prices ≡ answer figure
-    → (site : Site) × (readSite levelBytes jobBytes ≡ answer site) × (checkFor site plan prices ≡ answer figure)
+pub check-reads : (levelBytes jobBytes markBytes plan prices : List ℕ) (figure : ℕ) → check levelBytes jobBytes markBytes plan prices ≡ answer figure
+    → (site : Site) × (readSite levelBytes jobBytes markBytes ≡ answer site) × (checkFor site plan prices ≡ answer figure)
 unfolding check
-check-reads levelBytes jobBytes plan prices figure e = andThen-answered (readSite levelBytes jobBytes) _ e
+check-reads levelBytes jobBytes markBytes plan prices figure e = andThen-answered (readSite levelBytes jobBytes markBytes) _ e
 
 -- An accepted plan has least energy, and the figure lies less than m below it.
 pub accepted-is-least : AcceptedIsLeast

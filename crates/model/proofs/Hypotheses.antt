@@ -6,12 +6,13 @@ use Prim.Native.Nat.{ℕ, zero, suc, _<_}
 use native.Mathlib.Omega.{arith}
 use lib.ListN.{length}
 use Rattle.model.specs.Points.{points, pointAt}
-use Rattle.model.specs.Sites.{readSite}
+use Rattle.model.specs.Sites.{readTables, readSite}
 use Rattle.model.specs.Schedules.{Slot, idles, runs, IsGiven}
 use Rattle.model.specs.Hypotheses.{
   EveryLevels,
   EveryLevelTable,
   EveryJobTable,
+  EveryMarkTable,
   EveryTableRead,
   EverySite,
   EveryValidSite,
@@ -25,7 +26,8 @@ use Rattle.model.specs.Hypotheses.{
 use Rattle.model.proofs.Sites.{valid-tables, sites-are-valid}
 use Rattle.model.proofs.LevelTables.{levels-valid, plain-table, idle-table}
 use Rattle.model.proofs.Jobs.{jobs-valid}
-use Rattle.model.proofs.BoundsOf.{bounds-of}
+use Rattle.model.proofs.Marks.{marks-valid}
+use Rattle.model.proofs.MarkedBounds.{bounds-with}
 use Rattle.model.proofs.Points.{points-length, points-level, points-rise}
 use Rattle.model.proofs.LeastEnergy.{valid-site}
 
@@ -55,8 +57,11 @@ every-job-table jobs few windows cycles =
       cycles-high = λ j below. cycles j below .1;
     }
 
+pub every-mark-table : EveryMarkTable
+every-mark-table marks few rises = record { few = few; rises = rises }
+
 pub every-table-read : EveryTableRead
-every-table-read = (levels-valid, jobs-valid)
+every-table-read = (levels-valid, jobs-valid, marks-valid)
 
 -- idling is the point before the first level
 pub every-site : EverySite
@@ -95,7 +100,7 @@ every-bounds jobs bounds rises releases deadlines first last =
     record { rises = rises; release-found = releases; deadline-found = deadlines; first = first; last = last }
 
 pub every-table-has-bounds : EveryTableHasBounds
-every-table-has-bounds jobs sound = bounds-of jobs (sound .release-before-deadline)
+every-table-has-bounds jobs sound marks = bounds-with marks jobs (sound .release-before-deadline)
 
 pub every-schedule : EverySchedule
 every-schedule levels jobs q low slot named = (record { q = q; q-low = low; slot = slot; given = λ s below. given (slot s) (named s below) }, refl, refl)
@@ -109,8 +114,8 @@ pub every-site-read : EverySiteRead
 every-site-read = (sites-are-valid, valid-tables)
 
 pub every-valid-table : EveryValidTable
-unfolding readSite
-every-valid-table levelBytes jobBytes entries jobs levels-read jobs-read = rw (levels-read, jobs-read)
+unfolding readSite readTables
+every-valid-table levelBytes jobBytes markBytes entries jobs marks levels-read jobs-read marks-read = rw (levels-read, jobs-read, marks-read)
 
 pub every-buffer : EveryBuffer
 every-buffer site planRoom priceRoom shareRoom plan-room price-room share-room =

@@ -59,23 +59,23 @@ fitting-is-between ws curve length load long fits k = (
   λ h. between-fits curve length load long k (record { band = h .0; low = h .1; high = h .2 }),
 )
 
--- a plan with fitting prices needs at most the energy of another plan, which is a schedule too
+-- a plan with fitting prices needs at most the energy of another plan, which is a schedule too, whatever its bounds
 no-plan-needs-less : (idlePower : ℕ) (levels : List Level) (jobs : List Job) → SoundSite idlePower levels jobs
-    → (bounds : List ℕ) → Bounds jobs bounds
-    → (one two : Shares) → Gives (topFrequency levels) jobs bounds one → Gives (topFrequency levels) jobs bounds two
+    → (bounds others : List ℕ) → Bounds jobs bounds → Bounds jobs others
+    → (one two : Shares) → Gives (topFrequency levels) jobs bounds one → Gives (topFrequency levels) jobs others two
     → (prices : PriceList) → FittingPrices (working (points idlePower levels)) jobs bounds one prices
-    → exactEnergy (working (points idlePower levels)) jobs bounds one ≤ exactEnergy (working (points idlePower levels)) jobs bounds two
-no-plan-needs-less idlePower levels jobs site bounds B one two first second prices fitting =
-    let other = plans-are-schedules idlePower levels jobs site bounds B two second in
+    → exactEnergy (working (points idlePower levels)) jobs bounds one ≤ exactEnergy (working (points idlePower levels)) jobs others two
+no-plan-needs-less idlePower levels jobs site bounds others B O one two first second prices fitting =
+    let other = plans-are-schedules idlePower levels jobs site others O two second in
     let least = certificate idlePower levels jobs site bounds B one first prices fitting (other .schedule) (other .serves) in
     le-of-mul-le-mul-left {k = other .schedule .q} (rw (other .energy) at least) (other .schedule .q-low)
 
 pub least-energy-is-one : LeastEnergyIsOne
-least-energy-is-one idlePower levels jobs site bounds B one two first second prices fitting others fitting-too =
+least-energy-is-one idlePower levels jobs site bounds others B O one two first second prices fitting otherPrices fitting-too =
     omega (
       arith,
-      no-plan-needs-less idlePower levels jobs site bounds B one two first second prices fitting,
-      no-plan-needs-less idlePower levels jobs site bounds B two one second first others fitting-too,
+      no-plan-needs-less idlePower levels jobs site bounds others B O one two first second prices fitting,
+      no-plan-needs-less idlePower levels jobs site others bounds O B two one second first otherPrices fitting-too,
     )
 
 -- valid tables make a site, idling without power

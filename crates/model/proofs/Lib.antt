@@ -12,6 +12,8 @@ pub mod Joined
 pub mod Search
 pub mod Passing
 pub mod BoundsOf
+pub mod Marks
+pub mod MarkedBounds
 pub mod Intervals
 pub mod OpenSets
 pub mod Windows

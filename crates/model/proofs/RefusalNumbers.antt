@@ -11,7 +11,7 @@ use lib.ListN.{length}
 use lib.Dec.{ltb, leb, eqb}
 use Rattle.model.specs.declared.Level.{Level}
 use Rattle.model.specs.declared.Job.{Job}
-use Rattle.model.specs.Limits.{maxLevels, maxJobs, maxDeadline}
+use Rattle.model.specs.Limits.{maxLevels, maxJobs, maxMarks, maxDeadline}
 use Rattle.model.specs.Outcome.{Outcome, refused, answer, andThen, refuseWhen, refuseAt, refuseUnder, byEntryFrom, byEntry, From, RefusesBy}
 use Rattle.model.specs.Entries.{listOf}
 use Rattle.model.specs.Levels.{levelOf, wrongFrequency, wrongVoltage, faultOfLevel, levelFault}
@@ -23,7 +23,8 @@ use Rattle.model.specs.Processors.{workingOf, topOf, processorOf, readPr
 use Rattle.model.specs.Setting.{settingOf, setting}
 use Rattle.model.specs.Search.{someBelow}
 use Rattle.model.specs.Intervals.{intervalCount, boundAt, lengthOf, isOpen}
-use Rattle.model.specs.Sites.{Site, siteOf, readSite, SiteNumbers}
+use Rattle.model.specs.Marks.{markCount, markEntries, notRising, readMarks}
+use Rattle.model.specs.Sites.{Site, siteOf, readTables, readSite, TableNumbers, SiteNumbers}
 use Rattle.model.specs.Windows.{Window, spareOf, earliestOverfull, wrongSpan, spare}
 use Rattle.model.specs.Plans.{load}
 use Rattle.model.specs.Prices.{isBandNumber, fitsLoad}
@@ -164,29 +165,46 @@ setting-by levels size load =
     (by-when numbers (ltb (size * topOf processor) load) 26 (inr (omega arith))
     (by-answer numbers (settingOf (workingOf processor) size load)))
 
+pub marks-by : (bytes : List ℕ) → RefusesBy (From 34 34) (readMarks bytes)
+unfolding readMarks
+marks-by bytes =
+    by-when (From 34 34) (ltb (length bytes) 2) 34 (omega arith)
+    (by-when (From 34 34) (ltb maxMarks (markCount bytes)) 34 (omega arith)
+    (by-when (From 34 34) (not (eqb (length bytes) (2 + 4 * markCount bytes))) 34 (omega arith)
+    (by-when (From 34 34) (notRising (markEntries bytes)) 34 (omega arith)
+    (by-answer (From 34 34) (markEntries bytes)))))
+
 -- the numbers of both tables
-level-numbers : (n : ℕ) → LevelNumbers n → SiteNumbers n
+level-numbers : (n : ℕ) → LevelNumbers n → TableNumbers n
 level-numbers n (inl low) = inl (omega (arith, low))
 level-numbers n (inr new) = inr new
 
-pub site-by : (levels jobs : List ℕ) → RefusesBy SiteNumbers (readSite levels jobs)
+pub tables-by : (levels jobs : List ℕ) → RefusesBy TableNumbers (readTables levels jobs)
+unfolding readTables
+tables-by levels jobs =
+    by-then TableNumbers (readLevels levels) _ (widen level-numbers (levels-by levels)) λ read.
+    by-then TableNumbers (readJobs jobs) _ (widen (λ n low. inl (omega (arith, low))) (jobs-by jobs)) λ own.
+    by-answer TableNumbers (record { processor = processorOf read; jobs = own })
+
+-- and those of a site
+pub site-by : (levels jobs marks : List ℕ) → RefusesBy SiteNumbers (readSite levels jobs marks)
 unfolding readSite
-site-by levels jobs =
-    by-then SiteNumbers (readLevels levels) _ (widen level-numbers (levels-by levels)) λ read.
-    by-then SiteNumbers (readJobs jobs) _ (widen (λ n low. inl (omega (arith, low))) (jobs-by jobs)) λ own.
-    by-answer SiteNumbers (siteOf read own)
+site-by levels jobs marks =
+    by-then SiteNumbers (readTables levels jobs) _ (widen (λ n low. inl low) (tables-by levels jobs)) λ read.
+    by-then SiteNumbers (readMarks marks) _ (widen (λ n new. inr new) (marks-by marks)) λ ticks.
+    by-answer SiteNumbers (siteOf read ticks)
 
 -- an operation that reads a site refuses as reading does, or by its own numbers
-site-then : (levels jobs : List ℕ) (past : ℕ → Type 0) → RefusesBy (λ n. SiteNumbers n ⊎ past n) (readSite levels jobs)
-site-then levels jobs past = widen (λ n low. inl low) (site-by levels jobs)
+site-then : (levels jobs marks : List ℕ) (past : ℕ → Type 0) → RefusesBy (λ n. SiteNumbers n ⊎ past n) (readSite levels jobs marks)
+site-then levels jobs marks past = widen (λ n low. inl low) (site-by levels jobs marks)
 
-pub spare-by : (levels jobs : List ℕ) (start end : ℕ) → RefusesBy (λ n. SiteNumbers n ⊎ From 27 27 n) (spare levels jobs start end)
+pub spare-by : (levels jobs : List ℕ) (start end : ℕ) → RefusesBy (λ n. TableNumbers n ⊎ From 27 27 n) (spare levels jobs start end)
 unfolding spare
 spare-by levels jobs start end =
-    let numbers : ℕ → Type 0 = λ n. SiteNumbers n ⊎ From 27 27 n in
-    by-then numbers (readSite levels jobs) _ (site-then levels jobs (From 27 27)) λ site.
+    let numbers : ℕ → Type 0 = λ n. TableNumbers n ⊎ From 27 27 n in
+    by-then numbers (readTables levels jobs) _ (widen (λ n low. inl low) (tables-by levels jobs)) λ tables.
     by-when numbers (wrongSpan start end) 27 (inr (omega arith))
-    (by-answer numbers (spareOf (topOf (site .processor)) (site .jobs) start end))
+    (by-answer numbers (spareOf (topOf (tables .processor)) (tables .jobs) start end))
 
 pub walk-by : (plan : List ℕ) → RefusesBy (From 15 15) (walk plan)
 unfolding walk
@@ -260,10 +278,10 @@ module _ (site : Site) (plan prices : List ℕ) where
   unfolding checkFor fitting
   check-past-steps = (_, refl, sums-by site plan (pricing-by (by-answer (From 19 24) (figureOf site plan))))
 
-pub check-by : (levels jobs plan prices : List ℕ) → RefusesBy CheckNumbers (check levels jobs plan prices)
+pub check-by : (levels jobs marks plan prices : List ℕ) → RefusesBy CheckNumbers (check levels jobs marks plan prices)
 unfolding check
-check-by levels jobs plan prices =
-    by-then CheckNumbers (readSite levels jobs) _ (site-then levels jobs (From 15 24)) λ site.
+check-by levels jobs marks plan prices =
+    by-then CheckNumbers (readSite levels jobs marks) _ (site-then levels jobs marks (From 15 24)) λ site.
     let (rest, is, past) = check-past-steps site plan prices in
     rw is
     (stepping-by CheckNumbers (λ n from. inr (from .0, omega (arith, from .1))) (site .jobs) (site .bounds) plan
@@ -293,10 +311,10 @@ wanted own length room {next} by rest = go (ltb room length)
     go true = λ number place e. let same : own ≡ number = cc e in rw same at by
     go false = rest
 
-pub planning-by : (levels jobs : List ℕ) (planRoom priceRoom shareRoom : ℕ) → PlanRefusesBy (planning levels jobs planRoom priceRoom shareRoom)
+pub planning-by : (levels jobs marks : List ℕ) (planRoom priceRoom shareRoom : ℕ) → PlanRefusesBy (planning levels jobs marks planRoom priceRoom shareRoom)
 unfolding planning planFor
-planning-by levels jobs planRoom priceRoom shareRoom =
-    after-reading (readSite levels jobs) _ (site-then levels jobs (From 12 14)) λ site.
+planning-by levels jobs marks planRoom priceRoom shareRoom =
+    after-reading (readSite levels jobs marks) _ (site-then levels jobs marks (From 12 14)) λ site.
     unless-overfull site (earliestOverfull (topOf (site .processor)) (site .jobs))
     (wanted 12 (planLength site) planRoom (inr (omega arith))
     (wanted 13 (priceLength site) priceRoom (inr (omega arith))

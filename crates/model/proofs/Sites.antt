@@ -10,13 +10,15 @@ use Rattle.model.specs.Outcome.{answer}
 use Rattle.model.specs.LevelTables.{readLevels, ValidLevelTable}
 use Rattle.model.specs.Jobs.{ValidJobs, readJobs}
 use Rattle.model.specs.Processors.{Processor, ValidProcessor, processorOf, readProcessor}
-use Rattle.model.specs.Sites.{Site, siteOf, readSite, ValidSite, SitesAreValid}
+use Rattle.model.specs.Marks.{readMarks, ValidMarks}
+use Rattle.model.specs.Sites.{Tables, readTables, Site, siteOf, readSite, ValidSite, SitesAreValid}
 use Rattle.model.specs.LeastEnergy.{SoundSite}
 use Rattle.model.proofs.Outcome.{answer-injective, andThen-answered}
 use Rattle.model.proofs.LevelTables.{levels-valid}
 use Rattle.model.proofs.Jobs.{jobs-valid}
 use Rattle.model.proofs.Points.{points-rise}
-use Rattle.model.proofs.BoundsOf.{bounds-of, length-boundsOf}
+use Rattle.model.proofs.Marks.{marks-valid}
+use Rattle.model.proofs.MarkedBounds.{bounds-with, length-boundsWith}
 
 -- a valid level table makes a valid processor
 pub valid-processor : (entries : List Level) → ValidLevelTable entries → ValidProcessor (processorOf entries)
@@ -27,22 +29,38 @@ processors-are-valid levelBytes processor e =
     let (entries, read, e) = andThen-answered (readLevels levelBytes) _ e in
     rw (sym (answer-injective e)) (valid-processor entries (levels-valid levelBytes entries read))
 
--- valid tables make a valid site
-pub valid-tables : (entries : List Level) (jobs : List Job) → ValidLevelTable entries → ValidJobs jobs → ValidSite (siteOf entries jobs)
-valid-tables entries jobs valid sound =
+-- a valid processor, valid jobs and valid marks make a valid site
+pub valid-site-of : (tables : Tables) (marks : List ℕ) → ValidProcessor (tables .processor) → ValidJobs (tables .jobs) → ValidMarks marks
+    → ValidSite (siteOf tables marks)
+valid-site-of tables marks valid sound rising =
     record {
-      processor = valid-processor entries valid;
+      processor = valid;
       jobs = sound;
-      bounds = bounds-of jobs (sound .release-before-deadline);
-      few-bounds = omega (arith, length-boundsOf jobs, sound .few);
+      bounds = bounds-with marks (tables .jobs) (sound .release-before-deadline);
+      few-bounds = omega (arith, length-boundsWith marks (tables .jobs), sound .few, rising .few);
     }
+
+-- valid tables make a valid site
+pub valid-tables : (entries : List Level) (jobs : List Job) (marks : List ℕ) → ValidLevelTable entries → ValidJobs jobs → ValidMarks marks
+    → ValidSite (siteOf (record { processor = processorOf entries; jobs = jobs }) marks)
+valid-tables entries jobs marks valid sound rising = valid-site-of _ marks (valid-processor entries valid) sound rising
+
+-- a level table and a job table that are read are valid
+pub tables-are-valid : (levelBytes jobBytes : List ℕ) (tables : Tables) → readTables levelBytes jobBytes ≡ answer tables
+    → ValidProcessor (tables .processor) × ValidJobs (tables .jobs)
+unfolding readTables
+tables-are-valid levelBytes jobBytes tables e =
+    let (entries, levels-read, e) = andThen-answered (readLevels levelBytes) _ e in
+    let (jobs, jobs-read, e) = andThen-answered (readJobs jobBytes) _ e in
+    rw (sym (answer-injective e)) (valid-processor entries (levels-valid levelBytes entries levels-read), jobs-valid jobBytes jobs jobs-read)
 
 pub sites-are-valid : SitesAreValid
 unfolding readSite
-sites-are-valid levelBytes jobBytes site e =
-    let (entries, levels-read, e) = andThen-answered (readLevels levelBytes) _ e in
-    let (jobs, jobs-read, e) = andThen-answered (readJobs jobBytes) _ e in
-    rw (sym (answer-injective e)) (valid-tables entries jobs (levels-valid levelBytes entries levels-read) (jobs-valid jobBytes jobs jobs-read))
+sites-are-valid levelBytes jobBytes markBytes site e =
+    let (tables, tables-read, e) = andThen-answered (readTables levelBytes jobBytes) _ e in
+    let (marks, marks-read, e) = andThen-answered (readMarks markBytes) _ e in
+    let (processor, jobs) = tables-are-valid levelBytes jobBytes tables tables-read in
+    rw (sym (answer-injective e)) (valid-site-of tables marks processor jobs (marks-valid markBytes marks marks-read))
 
 -- a valid site is one that the theory asks for
 pub sound-site : {site : Site} → ValidSite site → SoundSite (site .processor .idlePower) (site .processor .levels) (site .jobs)

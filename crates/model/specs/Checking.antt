@@ -107,8 +107,8 @@ checkFor site plan prices =
     (pricing site plan prices
     (answer (figureOf site plan)))
 
--- Checking. Levels, jobs, then both halves.
-unfoldable pub check : (levelBytes jobBytes plan prices : List ℕ) → Outcome ℕ
-check levelBytes jobBytes plan prices =
-    andThen (readSite levelBytes jobBytes) λ site.
+-- Checking. Levels, jobs, marks, then both halves.
+unfoldable pub check : (levelBytes jobBytes markBytes plan prices : List ℕ) → Outcome ℕ
+check levelBytes jobBytes markBytes plan prices =
+    andThen (readSite levelBytes jobBytes markBytes) λ site.
     checkFor site plan prices

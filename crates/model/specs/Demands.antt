@@ -22,8 +22,8 @@ use Rattle.model.specs.Accepted.{Accepted, ScheduleFor, LeastPlan}
 use Rattle.model.specs.Planning.{PlanOutcome, refusal, overfull, comesOut, planLength, priceLength, shareCount, planFor, Planned}
 
 -- "valid tables": none of planning's refusals before 11 holds, so that a site is read.
-abbrev pub ValidTables : (levelBytes jobBytes : List ℕ) → Site → Type 0
-ValidTables levelBytes jobBytes site = readSite levelBytes jobBytes ≡ answer site
+abbrev pub ValidTables : (levelBytes jobBytes markBytes : List ℕ) → Site → Type 0
+ValidTables levelBytes jobBytes markBytes site = readSite levelBytes jobBytes markBytes ≡ answer site
 
 -- "long enough buffers": none of 12 to 14 holds.
 pub record LongEnough (site : Site) (planRoom priceRoom shareRoom : ℕ) : Type 0 where

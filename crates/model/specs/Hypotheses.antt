@@ -13,7 +13,9 @@ use Rattle.model.specs.Levels.{levelOf, ValidLevels}
 use Rattle.model.specs.Jobs.{jobOf, readJobs, ValidJobs}
 use Rattle.model.specs.Points.{powerOf}
 use Rattle.model.specs.LevelTables.{idleEntry, readLevels, ValidLevelTable, DrawFits}
-use Rattle.model.specs.Intervals.{boundsOf, intervalCount, boundAt, earliestRelease, latestDeadline, openPairs, Bounds}
+use Rattle.model.specs.Processors.{processorOf}
+use Rattle.model.specs.Intervals.{intervalCount, boundAt, earliestRelease, latestDeadline, openPairs, Bounds}
+use Rattle.model.specs.Marks.{markOf, readMarks, ValidMarks, boundsWith}
 use Rattle.model.specs.Sites.{Site, siteOf, ValidSite, SitesAreValid}
 use Rattle.model.specs.Schedules.{Slot, idles, runs, horizon, Schedule}
 use Rattle.model.specs.LeastEnergy.{SoundSite}
@@ -46,11 +48,17 @@ EveryJobTable =
     → ((j : ℕ) → j < length jobs → (1 ≤ jobOf jobs j .cycles) × (jobOf jobs j .cycles ≤ 1_000_000_000))
     → ValidJobs jobs
 
+-- "Up to 8 strictly rising ticks": all such marks are valid.
+abbrev pub EveryMarkTable : Type 0
+EveryMarkTable =
+    (marks : List ℕ) → length marks ≤ 8 → ((i : ℕ) → suc i < length marks → markOf marks i < markOf marks (suc i)) → ValidMarks marks
+
 -- Every table that is read is valid.
 abbrev pub EveryTableRead : Type 0
 EveryTableRead =
     ((bytes : List ℕ) (entries : List Level) → readLevels bytes ≡ answer entries → ValidLevelTable entries)
     × ((bytes : List ℕ) (jobs : List Job) → readJobs bytes ≡ answer jobs → ValidJobs jobs)
+    × ((bytes marks : List ℕ) → readMarks bytes ≡ answer marks → ValidMarks marks)
 
 -- Levels, at least one and of any number, whose frequencies rise from above 0 and whose powers rise from above idling's, and
 -- jobs of any number, each released before its deadline, are a site of the theory.
@@ -81,9 +89,9 @@ EveryBounds =
     → boundAt bounds 0 ≡ earliestRelease jobs → boundAt bounds (intervalCount bounds) ≡ latestDeadline jobs
     → Bounds jobs bounds
 
--- The releases and deadlines of every valid job table, sorted and without repeats, are.
+-- The releases and deadlines of every valid job table, with any marks, sorted and without repeats, are.
 abbrev pub EveryTableHasBounds : Type 0
-EveryTableHasBounds = (jobs : List Job) → ValidJobs jobs → Bounds jobs (boundsOf jobs)
+EveryTableHasBounds = (jobs : List Job) → ValidJobs jobs → (marks : List ℕ) → Bounds jobs (boundsWith marks jobs)
 
 -- "A schedule has a whole q ≥ 1 and cuts each tick, from earliest release to latest deadline, into q slots. A slot idles or
 -- has one given level (dropped or not) and one job." Every such q with every such slots is a schedule of the theory.
@@ -97,13 +105,16 @@ EverySchedule =
 -- Every site that is read is valid, and valid tables make one.
 abbrev pub EverySiteRead : Type 0
 EverySiteRead =
-    SitesAreValid × ((entries : List Level) (jobs : List Job) → ValidLevelTable entries → ValidJobs jobs → ValidSite (siteOf entries jobs))
+    SitesAreValid
+    × ((entries : List Level) (jobs : List Job) (marks : List ℕ) → ValidLevelTable entries → ValidJobs jobs → ValidMarks marks
+    → ValidSite (siteOf (record { processor = processorOf entries; jobs = jobs }) marks))
 
--- "valid tables": wherever levels and jobs are read, their bytes are valid tables of the site that they make.
+-- "valid tables": wherever levels, jobs and marks are read, their bytes are valid tables of the site that they make.
 abbrev pub EveryValidTable : Type 0
 EveryValidTable =
-    (levelBytes jobBytes : List ℕ) (entries : List Level) (jobs : List Job) → readLevels levelBytes ≡ answer entries
-    → readJobs jobBytes ≡ answer jobs → ValidTables levelBytes jobBytes (siteOf entries jobs)
+    (levelBytes jobBytes markBytes : List ℕ) (entries : List Level) (jobs : List Job) (marks : List ℕ)
+    → readLevels levelBytes ≡ answer entries → readJobs jobBytes ≡ answer jobs → readMarks markBytes ≡ answer marks
+    → ValidTables levelBytes jobBytes markBytes (siteOf (record { processor = processorOf entries; jobs = jobs }) marks)
 
 -- "Buffers [are] long enough when none of 12 to 14" holds: 4 + 6K bytes, 2 + 5N bytes and n × N shares are enough.
 abbrev pub EveryBuffer : Type 0

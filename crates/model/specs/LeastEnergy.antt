@@ -75,12 +75,13 @@ FittingIsBetween =
     → ((isBandNumber ws (suc k) && fitsLoad ws length load (suc k)) ≡ true)
     ↔ ((k < bandCount ws) × (length * frequencyOf ws k ≤ load) × (load ≤ length * frequencyOf ws (suc k)))
 
--- Two plans for one set of tables that both have fitting prices have equal exact energy.
+-- Two plans for one set of tables that both have fitting prices have equal exact energy, whatever bounds each of them is cut by:
+-- the least exact energy is one, with any marks and with none.
 abbrev pub LeastEnergyIsOne : Type 0
 LeastEnergyIsOne =
     (idlePower : ℕ) (levels : List Level) (jobs : List Job) → SoundSite idlePower levels jobs
-    → (bounds : List ℕ) → Bounds jobs bounds
-    → (one two : Shares) → Gives (topFrequency levels) jobs bounds one → Gives (topFrequency levels) jobs bounds two
+    → (bounds others : List ℕ) → Bounds jobs bounds → Bounds jobs others
+    → (one two : Shares) → Gives (topFrequency levels) jobs bounds one → Gives (topFrequency levels) jobs others two
     → (prices : PriceList) → FittingPrices (working (points idlePower levels)) jobs bounds one prices
-    → (others : PriceList) → FittingPrices (working (points idlePower levels)) jobs bounds two others
-    → exactEnergy (working (points idlePower levels)) jobs bounds one ≡ exactEnergy (working (points idlePower levels)) jobs bounds two
+    → (otherPrices : PriceList) → FittingPrices (working (points idlePower levels)) jobs others two otherPrices
+    → exactEnergy (working (points idlePower levels)) jobs bounds one ≡ exactEnergy (working (points idlePower levels)) jobs others two

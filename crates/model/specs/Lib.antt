@@ -14,6 +14,7 @@ pub mod Bands
 pub mod Processors
 pub mod Setting
 pub mod Intervals
+pub mod Marks
 pub mod Sites
 pub mod Windows
 pub mod Plans

@@ -29,12 +29,17 @@ maxDeadline = 1_000_000
 abbrev pub maxCycles : ℕ
 maxCycles = 1_000_000_000
 
--- Each job has a release and a deadline, and neighbouring bounds have an interval between them.
+-- "Up to 8 .. ticks come beside the job table" (document 02, Change 6).
+abbrev pub maxMarks : ℕ
+maxMarks = 8
+
+-- Each job has a release and a deadline, each mark may be a bound too, and neighbouring bounds have an interval between
+-- them: "Intervals may now number 135."
 abbrev pub maxBounds : ℕ
-maxBounds = 128
+maxBounds = 136
 
 abbrev pub maxIntervals : ℕ
-maxIntervals = 127
+maxIntervals = 135
 
 -- Idling and the levels.
 abbrev pub maxPoints : ℕ

@@ -56,10 +56,10 @@ planFor site planRoom priceRoom shareRoom =
     (wants 14 (shareCount site) shareRoom
     comesOut)))
 
--- Planning. Levels, then jobs, then 11 to 14.
-unfoldable pub planning : (levelBytes jobBytes : List ℕ) → (planRoom priceRoom shareRoom : ℕ) → PlanOutcome
-planning levelBytes jobBytes planRoom priceRoom shareRoom =
-    afterReading (readSite levelBytes jobBytes) λ site.
+-- Planning. Levels, then jobs, then marks, then 11 to 14.
+unfoldable pub planning : (levelBytes jobBytes markBytes : List ℕ) → (planRoom priceRoom shareRoom : ℕ) → PlanOutcome
+planning levelBytes jobBytes markBytes planRoom priceRoom shareRoom =
+    afterReading (readSite levelBytes jobBytes markBytes) λ site.
     planFor site planRoom priceRoom shareRoom
 
 -- What comes out for a site: N, S and the energy figure, the first 4 + 6S bytes of the plan, 2 + 5N bytes of the prices and

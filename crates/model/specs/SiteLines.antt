@@ -1,4 +1,4 @@
--- The lines of document 01's "Sites to try" that are marked P, as one table, and lines of document 02's Change 2. That every
+-- The lines of document 01's "Sites to try" that are marked P, as one table, and lines of document 02's Changes 2 and 6. That every
 -- line holds is one statement, proved in proofs/SiteLines.antt by computing the definitions.
 use Prim.Native.Nat.{ℕ, zero, suc, _+_, _*_}
 use mathlib.Core.Bool.{Bool, true, false, _&&_}
@@ -15,6 +15,7 @@ use Rattle.model.specs.Points.{Point}
 use Rattle.model.specs.Processors.{workingOf, processorOf}
 use Rattle.model.specs.Setting.{Setting, setting}
 use Rattle.model.specs.Intervals.{boundsOf, intervalCount}
+use Rattle.model.specs.Marks.{readMarks, encodeMarks, noMarks, boundsWith}
 use Rattle.model.specs.Windows.{spare}
 use Rattle.model.specs.Bands.{scale}
 use Rattle.model.specs.Plans.{Shares}
@@ -54,6 +55,16 @@ pub data SiteLine : Type 0 where
   costs : List Level → (length load : ℕ) → (energy : ℕ) → SiteLine
   -- the energy figure of a plan, and its exact energy: `over` parts of `parts` above the figure
   needs : List Level → List Job → Shares → (figure over parts : ℕ) → SiteLine
+  -- these bytes are read as marks, or are refused by 34
+  readsMarks : (bytes marks : List ℕ) → SiteLine
+  refusesMarks : (bytes : List ℕ) → SiteLine
+  -- the bounds of jobs with marks
+  cutsAt : List Job → (marks bounds : List ℕ) → SiteLine
+  -- with marks: buffers of these lengths are enough, or are refused; and the check accepts a plan, or refuses it
+  plansMarked : List Level → List Job → (marks : List ℕ) → (planRoom priceRoom shareRoom : ℕ) → SiteLine
+  wantsMarked : List Level → List Job → (marks : List ℕ) → (planRoom priceRoom shareRoom : ℕ) → (number place : ℕ) → SiteLine
+  acceptsMarked : List Level → List Job → (marks plan prices : List ℕ) → (figure : ℕ) → SiteLine
+  refusesMarked : List Level → List Job → (marks plan prices : List ℕ) → (number place : ℕ) → SiteLine
 
 unfoldable pub pLines : List SiteLine
 pLines =
@@ -164,6 +175,47 @@ drawLines =
     ∷ needs (idleEntry 100 ∷ firstBuiltIn) (job 0 2 401 ∷ []) (λ i j. 401) 3_314_433 1 3
     ∷ []
 
+-- Job 0 2 of 4 cycles with a mark at 1: 2 cycles before it and 2 after it, in bytes, with the prices of both intervals.
+abbrev pub halvesPlan : List ℕ
+halvesPlan = 2 ∷ 0 ∷ 2 ∷ 0 ∷ 0 ∷ 0 ∷ 64 ∷ 0 ∷ 2 ∷ 0 ∷ 0 ∷ 0 ∷ 2 ∷ 0 ∷ 0 ∷ 0 ∷ []
+
+abbrev pub halvesPrices : List ℕ
+halvesPrices = 2 ∷ 0 ∷ 1 ∷ 0 ∷ 0 ∷ 0 ∷ 2 ∷ 0 ∷ 0 ∷ 0 ∷ 1 ∷ 1 ∷ []
+
+-- Lines of document 02, Change 6.
+unfoldable pub markLines : List SiteLine
+markLines =
+    -- no marks; 8 marks, one at 0 and one at the highest tick of 32 bits
+    readsMarks noMarks []
+    ∷ readsMarks (encodeMarks (0 ∷ 1 ∷ 2 ∷ 3 ∷ 4 ∷ 5 ∷ 6 ∷ 4_294_967_295 ∷ [])) (0 ∷ 1 ∷ 2 ∷ 3 ∷ 4 ∷ 5 ∷ 6 ∷ 4_294_967_295 ∷ [])
+    -- more than 8 marks; not rising; a wrong length
+    ∷ refusesMarks (encodeMarks (0 ∷ 1 ∷ 2 ∷ 3 ∷ 4 ∷ 5 ∷ 6 ∷ 7 ∷ 8 ∷ []))
+    ∷ refusesMarks (encodeMarks (2 ∷ 1 ∷ []))
+    ∷ refusesMarks (encodeMarks (1 ∷ 2 ∷ 2 ∷ []))
+    ∷ refusesMarks []
+    ∷ refusesMarks (0 ∷ [])
+    ∷ refusesMarks (0 ∷ 0 ∷ 0 ∷ [])
+    ∷ refusesMarks (1 ∷ 0 ∷ 7 ∷ 0 ∷ 0 ∷ [])
+    -- from release 2 to deadline 6 the ticks 3 and 5 cut; 2, 6 and those outside do not, and 4 is a bound already
+    ∷ cutsAt (job 2 4 1 ∷ job 4 6 1 ∷ []) (3 ∷ 5 ∷ []) (2 ∷ 3 ∷ 4 ∷ 5 ∷ 6 ∷ [])
+    ∷ cutsAt (job 2 4 1 ∷ job 4 6 1 ∷ []) (0 ∷ 1 ∷ 2 ∷ 4 ∷ 6 ∷ 7 ∷ 1_000_001 ∷ []) (2 ∷ 4 ∷ 6 ∷ [])
+    -- a mark in a stretch where no job is open; no jobs, no bounds
+    ∷ cutsAt (job 0 1 1 ∷ job 5 6 1 ∷ []) (3 ∷ []) (0 ∷ 1 ∷ 3 ∷ 5 ∷ 6 ∷ [])
+    ∷ cutsAt [] (3 ∷ []) []
+    -- T, one job 0 2 of 4 cycles, a mark at 1: two intervals, and the same figure, 400, as with one
+    ∷ plansMarked T (job 0 2 4 ∷ []) (1 ∷ []) 16 12 2
+    ∷ wantsMarked T (job 0 2 4 ∷ []) (1 ∷ []) 15 12 2 12 16
+    ∷ wantsMarked T (job 0 2 4 ∷ []) (1 ∷ []) 16 11 2 13 12
+    ∷ wantsMarked T (job 0 2 4 ∷ []) (1 ∷ []) 16 12 1 14 2
+    ∷ acceptsMarked T (job 0 2 4 ∷ []) (1 ∷ []) halvesPlan halvesPrices 400
+    ∷ accepts T (job 0 2 4 ∷ []) (1 ∷ 0 ∷ 1 ∷ 0 ∷ 0 ∷ 0 ∷ 4 ∷ 0 ∷ 0 ∷ 0 ∷ []) (1 ∷ 0 ∷ 2 ∷ 0 ∷ 0 ∷ 0 ∷ 1 ∷ []) 400
+    -- a plan for other marks has a wrong number of intervals
+    ∷ refusesMarked T (job 0 2 4 ∷ []) (2 ∷ []) halvesPlan halvesPrices 16 0
+    -- marks that fall are refused before the plan is looked at, and after the jobs were
+    ∷ refusesMarked T (job 0 2 4 ∷ []) (1 ∷ 1 ∷ []) [] [] 34 0
+    ∷ refusesMarked T (job 0 2 0 ∷ []) (1 ∷ 1 ∷ []) [] [] 10 0
+    ∷ []
+
 sameSetting : Outcome Setting → (band extra gap : ℕ) → Bool
 sameSetting (refused number place) band extra gap = false
 sameSetting (answer setting) band extra gap = eqb (setting .band) band && eqb (setting .extra) extra && eqb (setting .gap) gap
@@ -210,6 +262,15 @@ sameOverfull (refusal number place) start end z = false
 sameOverfull (overfull first last spare) start end z = eqb first start && eqb last end && sameInteger spare z
 sameOverfull comesOut start end z = false
 
+sameTicks : Outcome (List ℕ) → List ℕ → Bool
+sameTicks (refused number place) wanted = false
+sameTicks (answer marks) wanted = sameNumbers marks wanted
+
+refusalIs : PlanOutcome → (number place : ℕ) → Bool
+refusalIs (refusal number place) wanted at = eqb number wanted && eqb place at
+refusalIs (overfull start end spare) wanted at = false
+refusalIs comesOut wanted at = false
+
 isPlan : PlanOutcome → Bool
 isPlan (refusal number place) = false
 isPlan (overfull start end spare) = false
@@ -217,26 +278,37 @@ isPlan comesOut = true
 
 -- The line holds, as the definitions compute.
 unfoldable pub holds : SiteLine → Bool
-unfolding sameSetting sameNumber sameNumbers sameLevels sameEntries refusedAt sameInteger sameSpare sameWorking sameOverfull isPlan
+unfolding sameSetting sameNumber sameNumbers sameLevels sameEntries refusedAt sameInteger sameSpare sameWorking sameOverfull sameTicks refusalIs isPlan
 holds (reads entries) = sameEntries (readLevels (encodeLevels entries)) entries
 holds (refusesReading entries number place) = refusedAt (readLevels (encodeLevels entries)) number place
 holds (sets levels length load band extra gap) = sameSetting (setting (encodeLevels levels) length load) band extra gap
 holds (refusesSetting levels length load number) = refusedAt (setting (encodeLevels levels) length load) number 0
 holds (spares levels jobs start end z) = sameSpare (spare (encodeLevels levels) (encodeJobs jobs) start end) z
 holds (works levels frequencies) = sameWorking (workingOf (processorOf levels)) frequencies
-holds (refusesOverfull levels jobs start end z) = sameOverfull (planning (encodeLevels levels) (encodeJobs jobs) 0 0 0) start end z
+holds (refusesOverfull levels jobs start end z) = sameOverfull (planning (encodeLevels levels) (encodeJobs jobs) noMarks 0 0 0) start end z
 holds (plans levels jobs planRoom priceRoom shareRoom) =
-    isPlan (planning (encodeLevels levels) (encodeJobs jobs) planRoom priceRoom shareRoom)
+    isPlan (planning (encodeLevels levels) (encodeJobs jobs) noMarks planRoom priceRoom shareRoom)
 holds (intervals jobs count) = eqb (intervalCount (boundsOf jobs)) count
 holds (idleEnergy levels jobs energy) =
     eqb (exactEnergy (workingOf (processorOf levels)) jobs (boundsOf jobs) (λ i j. 0)) (energy * scale (workingOf (processorOf levels)))
     && eqb (energyFigure (workingOf (processorOf levels)) jobs (boundsOf jobs) (λ i j. 0)) energy
-holds (accepts levels jobs plan prices figure) = sameNumber (check (encodeLevels levels) (encodeJobs jobs) plan prices) figure
+holds (accepts levels jobs plan prices figure) = sameNumber (check (encodeLevels levels) (encodeJobs jobs) noMarks plan prices) figure
 holds (costs levels length load energy) =
     eqb (intervalEnergy (workingOf (processorOf levels)) length load) (energy * scale (workingOf (processorOf levels)))
 holds (needs levels jobs shares figure over parts) =
     eqb (energyFigure (workingOf (processorOf levels)) jobs (boundsOf jobs) shares) figure
     && eqb (parts * exactEnergy (workingOf (processorOf levels)) jobs (boundsOf jobs) shares) ((parts * figure + over) * scale (workingOf (processorOf levels)))
+holds (readsMarks bytes marks) = sameTicks (readMarks bytes) marks
+holds (refusesMarks bytes) = refusedAt (readMarks bytes) 34 0
+holds (cutsAt jobs marks bounds) = sameNumbers (boundsWith marks jobs) bounds
+holds (plansMarked levels jobs marks planRoom priceRoom shareRoom) =
+    isPlan (planning (encodeLevels levels) (encodeJobs jobs) (encodeMarks marks) planRoom priceRoom shareRoom)
+holds (wantsMarked levels jobs marks planRoom priceRoom shareRoom number place) =
+    refusalIs (planning (encodeLevels levels) (encodeJobs jobs) (encodeMarks marks) planRoom priceRoom shareRoom) number place
+holds (acceptsMarked levels jobs marks plan prices figure) =
+    sameNumber (check (encodeLevels levels) (encodeJobs jobs) (encodeMarks marks) plan prices) figure
+holds (refusesMarked levels jobs marks plan prices number place) =
+    refusedAt (check (encodeLevels levels) (encodeJobs jobs) (encodeMarks marks) plan prices) number place
 
 -- All lines hold.
 unfoldable pub allHold : List SiteLine → Bool

@@ -13,7 +13,7 @@ use Rattle.model.specs.Sum.{sum, onlyIf}
 use Rattle.model.specs.Search.{someBelow, leastBelow}
 use Rattle.model.specs.Jobs.{jobOf}
 use Rattle.model.specs.Processors.{topOf}
-use Rattle.model.specs.Sites.{Site, readSite}
+use Rattle.model.specs.Sites.{Tables, readTables}
 
 -- A window's own jobs are those inside it: release ≥ start, deadline ≤ end.
 abbrev pub isInside : (start end : ℕ) → Job → Bool
@@ -67,13 +67,13 @@ earliestOverfull top jobs = windowFrom (earliestEnd top jobs) (earliestStart top
 abbrev pub wrongSpan : (start end : ℕ) → Bool
 wrongSpan start end = leb end start || ltb maxDeadline end
 
-abbrev pub spareFor : Site → (start end : ℕ) → Outcome ℤ
-spareFor site start end =
+abbrev pub spareFor : Tables → (start end : ℕ) → Outcome ℤ
+spareFor tables start end =
     refuseWhen (wrongSpan start end) 27
-    (answer (spareOf (topOf (site .processor)) (site .jobs) start end))
+    (answer (spareOf (topOf (tables .processor)) (tables .jobs) start end))
 
--- Spare of a window. Levels, jobs, then 27.
+-- Spare of a window. Levels, jobs, then 27. It cuts no intervals, and takes no marks.
 unfoldable pub spare : (levelBytes jobBytes : List ℕ) → (start end : ℕ) → Outcome ℤ
 spare levelBytes jobBytes start end =
-    andThen (readSite levelBytes jobBytes) λ site.
-    spareFor site start end
+    andThen (readTables levelBytes jobBytes) λ tables.
+    spareFor tables start end

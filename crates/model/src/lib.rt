@@ -27,10 +27,12 @@ pub const MAX_DEADLINE: u64 = 1_000_000;
 
 pub const MAX_CYCLES: u64 = 1_000_000_000;
 
-// Each job has a release and a deadline, and neighbouring bounds have an interval between them.
-pub const MAX_BOUNDS: usize = 128;
+pub const MAX_MARKS: usize = 8;
 
-pub const MAX_INTERVALS: usize = 127;
+// Each job has a release and a deadline, each mark may be a bound too, and neighbouring bounds have an interval between them.
+pub const MAX_BOUNDS: usize = 136;
+
+pub const MAX_INTERVALS: usize = 135;
 
 // Idling and the levels.
 pub const MAX_POINTS: usize = 9;

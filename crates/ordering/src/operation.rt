@@ -17,14 +17,15 @@ pub enum OrderAnswer {
 pub fn order(
     levels: &[u8],
     jobs: &[u8],
+    marks: &[u8],
     plan: &[u8],
     prices: &[u8],
     ordered: &mut [u8],
 ) -> OrderAnswer
-    ensures { λ r. ⌜ OrderContract (now (levels .entry)) (now (jobs .entry)) (now (plan .entry)) (now (prices .entry)) (now (ordered .entry)) (now (ordered .exit)) r ⌝ }
+    ensures { λ r. ⌜ OrderContract (now (levels .entry)) (now (jobs .entry)) (now (marks .entry)) (now (plan .entry)) (now (prices .entry)) (now (ordered .entry)) (now (ordered .exit)) r ⌝ }
 {
     let mut cells = [0u64; SET_WORDS];
-    let checked = check_cells(levels, jobs, plan, prices, &mut cells);
+    let checked = check_cells(levels, jobs, marks, plan, prices, &mut cells);
     if let CheckAnswer::Refused { number, place } = checked {
         return OrderAnswer::Refused { number, place };
     }

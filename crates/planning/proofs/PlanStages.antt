@@ -94,10 +94,10 @@ module _ (site : Site) (lent : Buffers) where
         }
 
 -- a site that is refused
-pub refused-contract : (levelBytes jobBytes : List ℕ) (lent : Buffers) (number place : ℕ) → readSite levelBytes jobBytes ≡ refused number place
-    → PlanContract levelBytes jobBytes lent lent (Refused number place)
+pub refused-contract : (levelBytes jobBytes markBytes : List ℕ) (lent : Buffers) (number place : ℕ) → readSite levelBytes jobBytes markBytes ≡ refused number place
+    → PlanContract levelBytes jobBytes markBytes lent lent (Refused number place)
 unfolding planning
-refused-contract levelBytes jobBytes lent number place e =
+refused-contract levelBytes jobBytes markBytes lent number place e =
     record {
       outcome = rw e;
       untouched = λ _. refl;
@@ -108,30 +108,30 @@ refused-contract levelBytes jobBytes lent number place e =
       exactly-when-served = λ site tables. never tables;
     }
   where
-    never : {site : Site} {A : Type 0} → ValidTables levelBytes jobBytes site → A
+    never : {site : Site} {A : Type 0} → ValidTables levelBytes jobBytes markBytes site → A
     never tables = absurd (refused≢answer (sym e ∙ tables))
 
 -- what holds of planning the site that was read is the whole promise
-module _ (levelBytes jobBytes : List ℕ) (site : Site) (read : readSite levelBytes jobBytes ≡ answer site) where
-  pub planned-as : (planRoom priceRoom shareRoom : ℕ) → planning levelBytes jobBytes planRoom priceRoom shareRoom ≡ planFor site planRoom priceRoom shareRoom
+module _ (levelBytes jobBytes markBytes : List ℕ) (site : Site) (read : readSite levelBytes jobBytes markBytes ≡ answer site) where
+  pub planned-as : (planRoom priceRoom shareRoom : ℕ) → planning levelBytes jobBytes markBytes planRoom priceRoom shareRoom ≡ planFor site planRoom priceRoom shareRoom
   unfolding planning
   planned-as planRoom priceRoom shareRoom = rw read
 
   module _ {before after : Buffers} {answered : PlanAnswer} (planned : SitePlanned site before after answered) where
     -- every site that the tables are read as is this one
-    for-each : (P : Site → Type 0) → P site → (other : Site) → ValidTables levelBytes jobBytes other → P other
+    for-each : (P : Site → Type 0) → P site → (other : Site) → ValidTables levelBytes jobBytes markBytes other → P other
     for-each P holds other tables = rw (answer-injective (sym read ∙ tables)) at holds
 
     served : (a : PlanAnswer) → answered ≡ a → outcomeOf a ≡ comesOut → CanBeServed site
     served (Plan intervals steps energy) is e =
-        let carried = planned-is-best site (sites-are-valid _ _ site read) _ _ _ _ _ _ (planned .written intervals steps energy is .planned) .carried-out in
+        let carried = planned-is-best site (sites-are-valid _ _ _ site read) _ _ _ _ _ _ (planned .written intervals steps energy is .planned) .carried-out in
         (carried .schedule, carried .serves)
     served (Overfull start end spare) is e = let z : _≡_ {A = ℕ} 0 1 = cc e in absurd (omega (arith, z))
     served (Refused number place) is e = let z : _≡_ {A = ℕ} 0 1 = cc e in absurd (omega (arith, z))
 
-    pub site-contract : PlanContract levelBytes jobBytes before after answered
+    pub site-contract : PlanContract levelBytes jobBytes markBytes before after answered
     site-contract =
-        let valid = sites-are-valid levelBytes jobBytes site read in
+        let valid = sites-are-valid levelBytes jobBytes markBytes site read in
         record {
           outcome = planned .outcome ∙ sym (planned-as _ _ _);
           untouched = planned .untouched;

@@ -6,7 +6,7 @@ use Prim.Native.Nat.{ℕ, _+_, _*_, _≤_}
 use native.Mathlib.Nat.{mul-le-mul-left}
 use native.Mathlib.Omega.{arith}
 use lib.ListN.{length}
-use Rattle.model.specs.Limits.{maxJobs}
+use Rattle.model.specs.Limits.{maxJobs, maxIntervals}
 use Rattle.model.specs.Sum.{sum}
 use Rattle.model.specs.Intervals.{intervalCount, openPairs}
 use Rattle.model.specs.Sites.{Site, ValidSite}
@@ -18,11 +18,11 @@ use Rattle.planning.specs.WantedRooms.{OpenIn, WantedRooms}
 
 -- a valid site has few pairs and few intervals
 module _ {site : Site} (valid : ValidSite site) where
-  pub pairs-few : (openPairs (site .bounds) (site .jobs) ≤ 8128) × (intervalCount (site .bounds) ≤ 127)
-      × (length (site .jobs) * intervalCount (site .bounds) ≤ 8128)
+  pub pairs-few : (openPairs (site .bounds) (site .jobs) ≤ maxJobs * maxIntervals) × (intervalCount (site .bounds) ≤ maxIntervals)
+      × (length (site .jobs) * intervalCount (site .bounds) ≤ maxJobs * maxIntervals)
   pairs-few =
       let intervals : ℕ = intervalCount (site .bounds) in
-      let most : intervals ≤ 127 = omega (arith, valid .few-bounds) in
+      let most : intervals ≤ maxIntervals = omega (arith, valid .few-bounds) in
       let row : intervals * length (site .jobs) ≤ intervals * maxJobs = mul-le-mul-left intervals (valid .jobs .few) in
       (omega (arith, open-pairs-few (site .bounds) (site .jobs)), most, omega arith)
 
@@ -31,7 +31,7 @@ module _ {site : Site} {jobs intervals : ℕ} {sets : List ℕ} (held : OpenIn s
   pairs-are : pairs ≡ openPairs (site .bounds) (site .jobs)
   pairs-are = rw (held .intervals-are) at counted ∙ open-pairs-are (held .open-are)
 
-  pub rooms-few : (pairs ≤ 8128) × (intervals ≤ 127) × (jobs * intervals ≤ 8128)
+  pub rooms-few : (pairs ≤ maxJobs * maxIntervals) × (intervals ≤ maxIntervals) × (jobs * intervals ≤ maxJobs * maxIntervals)
   rooms-few = rw (pairs-are, held .intervals-are, held .jobs-are) (pairs-few (held .valid))
 
   pub wanted-rooms : WantedRooms site (4 + 6 * pairs) (2 + 5 * intervals) (jobs * intervals)

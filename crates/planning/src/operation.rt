@@ -42,11 +42,12 @@ pub enum PlanAnswer {
 pub fn plan(
     levels: &[u8],
     jobs: &[u8],
+    marks: &[u8],
     plan: &mut [u8],
     prices: &mut [u8],
     shares: &mut [u32],
 ) -> PlanAnswer
-    ensures { λ r. ⌜ PlanContract (now (levels .entry)) (now (jobs .entry))
+    ensures { λ r. ⌜ PlanContract (now (levels .entry)) (now (jobs .entry)) (now (marks .entry))
         (record { plan = now (plan .entry); prices = now (prices .entry); shares = now (shares .entry) })
         (record { plan = now (plan .exit); prices = now (prices .exit); shares = now (shares .exit) }) r ⌝ }
 {
@@ -57,6 +58,7 @@ pub fn plan(
     let site = read_site(
         levels,
         jobs,
+        marks,
         &mut releases,
         &mut deadlines,
         &mut cycles,

@@ -1,25 +1,47 @@
--- What the arrays and numbers of a site that was read keep: its jobs and its working points, within the limits.
+-- What the arrays and numbers of levels and jobs, and of a site, that were read keep: jobs and working points, within the limits.
 -- Assumes nothing.
 use mathlib.Core.Path.{_≡_, sym}
 use mathlib.Core.List.{List}
 use Prim.Native.Nat.{ℕ, _-_, _<_, _≤_}
 use native.Mathlib.Omega.{arith}
-use lib.ListN.{length, take}
+use lib.ListN.{length, getD, take}
 use Rattle.model.specs.Limits.{maxFrequency, maxJobs}
 use Rattle.model.specs.Jobs.{ValidJobs}
 use Rattle.model.specs.Bands.{bandCount, frequencyOf, Curve}
-use Rattle.model.specs.Processors.{allPoints, workingOf}
-use Rattle.model.specs.Sites.{Site, ValidSite}
+use Rattle.model.specs.Processors.{Processor, ValidProcessor, allPoints, workingOf, topOf}
+use Rattle.model.specs.Sites.{Tables, Site, ValidSite}
 use Rattle.model.proofs.Working.{working-curve, working-top}
 use Rattle.tables.specs.Tables.{jobsIn}
-use Rattle.tables.proofs.Read.{length-jobsIn, jobs-count}
+use Rattle.tables.proofs.Read.{length-jobsIn, jobs-count, sound-in}
 use Rattle.levels.specs.PointTables.{pointsOf, SmallPoints}
 use Rattle.levels.proofs.SmallPoints.{working-small, working-held}
 use Rattle.intervals.specs.Times.{SmallBounds}
 use Rattle.intervals.proofs.OpenRanges.{bounds-small, bounds-held}
+use Rattle.site.specs.declared.TablePair.{TablePair}
 use Rattle.site.specs.declared.SiteTable.{SiteTable}
-use Rattle.site.specs.SiteTables.{HoldsSite}
+use Rattle.site.specs.SiteTables.{HoldsTables, HoldsSite}
 
+top-high : (processor : Processor) → ValidProcessor processor → topOf processor ≤ maxFrequency
+top-high processor valid =
+    let last : length (processor .levels) - 1 < length (processor .levels) = omega (arith, valid .levels .some) in
+    valid .levels .frequency-high (length (processor .levels) - 1) last
+
+-- levels and jobs
+module _ {tables : Tables} {pair : TablePair} {releases deadlines cycles : List ℕ} (holds : HoldsTables tables pair releases deadlines cycles) where
+  pub pair-jobs : ValidJobs (tables .jobs) → ValidJobs (jobsIn (pair .jobs) releases deadlines cycles)
+  pair-jobs valid = rw (holds .jobs-are) valid
+
+  pub pair-count : ValidJobs (tables .jobs) → pair .jobs ≤ maxJobs
+  pair-count valid = jobs-count (pair .jobs) releases deadlines cycles (pair-jobs valid)
+
+  -- each release stands before its deadline
+  pub pair-ordered : ValidJobs (tables .jobs) → (j : ℕ) → j < pair .jobs → getD releases j 0 < getD deadlines j 0
+  pair-ordered valid j below = sound-in (pair .jobs) releases deadlines cycles (pair-jobs valid) j below .release-before-deadline
+
+  pub pair-top : ValidProcessor (tables .processor) → pair .top ≤ maxFrequency
+  pair-top valid = rw (holds .top-is) (top-high (tables .processor) valid)
+
+-- a site
 module _ {site : Site} {table : SiteTable} {releases deadlines cycles times : List ℕ}
     (valid : ValidSite site) (holds : HoldsSite site table releases deadlines cycles times) where
   -- the jobs
@@ -44,10 +66,7 @@ module _ {site : Site} {table : SiteTable} {releases deadlines cycles times : Li
 
   -- the top frequency, which is that of the last working point
   pub held-top : table .top ≤ maxFrequency
-  held-top =
-      let levels = valid .processor .levels in
-      let last : length (site .processor .levels) - 1 < length (site .processor .levels) = omega (arith, levels .some) in
-      rw (holds .top-is) (levels .frequency-high (length (site .processor .levels) - 1) last)
+  held-top = rw (holds .top-is) (top-high (site .processor) (valid .processor))
 
   pub held-top-point : frequencyOf (pointsOf (table .working)) (bandCount (pointsOf (table .working))) ≡ table .top
   held-top-point = rw (held-points, holds .top-is) (working-top (site .processor .idlePower) (site .processor .levels) (valid .processor .rising))

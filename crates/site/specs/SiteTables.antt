@@ -6,14 +6,33 @@ use lib.ListN.{getD}
 use Rattle.model.specs.Limits.{maxJobs}
 use Rattle.model.specs.Outcome.{Outcome, refused, answer}
 use Rattle.model.specs.Processors.{workingOf, topOf}
-use Rattle.model.specs.Sites.{Site, ValidSite}
+use Rattle.model.specs.Sites.{Tables, Site, ValidSite}
 use Rattle.tables.specs.Column.{columnOf}
 use Rattle.tables.specs.Tables.{jobsIn}
 use Rattle.levels.specs.PointTables.{pointTable}
 use Rattle.intervals.specs.Times.{HoldsTimes}
 use Rattle.site.specs.declared.SiteReading.{SiteReading}
 use Rattle.site.specs.declared.SiteReading.the-variants.{Read, Refused}
+use Rattle.site.specs.declared.TablePair.{TablePair}
 use Rattle.site.specs.declared.SiteTable.{SiteTable}
+
+-- The enum's case for an outcome.
+abbrev pub siteReading : {A : Type 0} → Outcome A → SiteReading
+siteReading (refused number place) = Refused number place
+siteReading (answer a) = Read
+
+-- A pair of tables and three arrays hold what levels and jobs say: the working points and the top frequency of the processor, and
+-- the jobs with zeros past the last one's cycles.
+pub record HoldsTables (tables : Tables) (pair : TablePair) (releases deadlines cycles : List ℕ) : Type 0 where
+  pub working-are : pair .working ≡ pointTable (workingOf (tables .processor))
+  pub top-is : pair .top ≡ topOf (tables .processor)
+  pub jobs-are : jobsIn (pair .jobs) releases deadlines cycles ≡ tables .jobs
+  pub zeros-past : cycles ≡ columnOf maxJobs (pair .jobs) (λ j. getD cycles j 0)
+
+-- What reading levels and jobs answers: the enum's case and, where both are read, a pair and arrays that hold them.
+pub record TablesRead (outcome : Outcome Tables) (pair : TablePair) (releases deadlines cycles : List ℕ) : Type 0 where
+  pub told : pair .reading ≡ siteReading outcome
+  pub held : (tables : Tables) → outcome ≡ answer tables → HoldsTables tables pair releases deadlines cycles
 
 -- A table and four arrays hold a site: the working points and the top frequency of its processor, its jobs with zeros past
 -- the last one's cycles, and its bounds.
@@ -23,11 +42,6 @@ pub record HoldsSite (site : Site) (table : SiteTable) (releases deadlines cycle
   pub jobs-are : jobsIn (table .jobs) releases deadlines cycles ≡ site .jobs
   pub zeros-past : cycles ≡ columnOf maxJobs (table .jobs) (λ j. getD cycles j 0)
   pub bounds-are : HoldsTimes times (table .bounds) (site .bounds)
-
--- The enum's case for an outcome.
-abbrev pub siteReading : Outcome Site → SiteReading
-siteReading (refused number place) = Refused number place
-siteReading (answer site) = Read
 
 -- What reading a site answers: the enum's case and, where it is read, a table and arrays that hold it.
 pub record SiteRead (outcome : Outcome Site) (table : SiteTable) (releases deadlines cycles times : List ℕ) : Type 0 where

@@ -5,6 +5,7 @@ pub mod ByEntry
 pub mod DecodedLevels
 pub mod DecodedJobs
 pub mod Read
+pub mod MarksIn
 pub mod CheckedLevels
 pub mod ReadingBack
 pub mod SmallNumbers

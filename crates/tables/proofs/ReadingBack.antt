@@ -13,11 +13,14 @@ use Rattle.model.specs.Bytes.{IsBytes, bytesOf, bytes16, bytes32}
 use Rattle.model.specs.Entries.{encodeEach}
 use Rattle.model.specs.LevelTables.{encodeLevels}
 use Rattle.model.specs.Jobs.{encodeJobs}
+use Rattle.model.specs.Marks.{encodeMarks}
 use Rattle.model.proofs.LevelTables.{levels-read-back}
 use Rattle.model.proofs.Jobs.{jobs-read-back}
-use Rattle.tables.specs.Tables.{levelTable, jobTable}
-use Rattle.tables.specs.ReadingBack.{EncodingsAreBytes, LevelsComeBack, JobsComeBack}
+use Rattle.model.proofs.Marks.{marks-read-back}
+use Rattle.tables.specs.Tables.{levelTable, jobTable, markTable}
+use Rattle.tables.specs.ReadingBack.{EncodingsAreBytes, LevelsComeBack, JobsComeBack, MarksComeBack}
 use Rattle.tables.proofs.Read.{levels-read, jobs-read}
+use Rattle.tables.proofs.MarksIn.{marks-read}
 
 bytes-of-number : (width n : ℕ) → IsBytes (bytesOf width n)
 unfolding bytesOf
@@ -56,8 +59,14 @@ bytes-of-jobs =
     (λ job. bytes-after (bytes32 (job .release)) (bytes32 (job .deadline)) (bytes-of-number 4 (job .release)) (bytes-of-number 4 (job .deadline)))
     (λ job. bytes-of-number 4 (job .cycles))
 
+bytes-of-marks : (marks : List ℕ) → IsBytes (encodeMarks marks)
+unfolding encodeMarks
+bytes-of-marks marks =
+    bytes-after (bytes16 (length marks)) (encodeEach bytes32 marks) (bytes-of-number 2 (length marks))
+    (bytes-of-each bytes32 (λ mark. bytes-of-number 4 mark) marks)
+
 pub encodings-are-bytes : EncodingsAreBytes
-encodings-are-bytes = (bytes-of-levels, bytes-of-jobs)
+encodings-are-bytes = (bytes-of-levels, bytes-of-jobs, bytes-of-marks)
 
 pub levels-come-back : LevelsComeBack
 levels-come-back read meets =
@@ -77,4 +86,14 @@ jobs-come-back read meets =
           ∙ ap jobTable (jobs-read-back (now bytes) jobs (rw encoded (bytes-of-jobs jobs)) .1 (valid, encoded));
       read-encoded = λ bytes small count answered.
           jobs-read-back (now bytes) _ small .0 (jobs-read (now bytes) (read bytes) (meets bytes) count answered);
+    }
+
+pub marks-come-back : MarksComeBack
+marks-come-back read meets =
+    record {
+      encoded-read = λ marks valid fits bytes encoded.
+          meets bytes
+          ∙ ap markTable (marks-read-back (now bytes) marks (rw encoded (bytes-of-marks marks)) .1 (valid, fits, encoded));
+      read-encoded = λ bytes small count answered.
+          marks-read-back (now bytes) _ small .0 (marks-read (now bytes) (read bytes) (meets bytes) count answered);
     }

@@ -5,16 +5,18 @@ use mathlib.Core.List.{List, []}
 use lib.ListN.{length, getD}
 use Rattle.model.specs.declared.Level.{Level}
 use Rattle.model.specs.declared.Job.{Job}
-use Rattle.model.specs.Limits.{maxLevels, maxJobs}
+use Rattle.model.specs.Limits.{maxLevels, maxJobs, maxMarks}
 use Rattle.model.specs.Outcome.{Outcome, refused, answer, refuseWhen, byEntry}
 use Rattle.model.specs.Entries.{listOf}
 use Rattle.model.specs.Levels.{levelOf}
 use Rattle.model.specs.LevelTables.{standsAlone, tableFault}
 use Rattle.model.specs.Jobs.{jobOf, jobFault}
+use Rattle.model.specs.Marks.{markOf}
 use Rattle.tables.specs.declared.Reading.{Reading}
 use Rattle.tables.specs.declared.Reading.the-variants.{Entries, Refused}
 use Rattle.tables.specs.declared.levels.LevelTable.{LevelTable}
 use Rattle.tables.specs.declared.jobs.JobTable.{JobTable}
+use Rattle.tables.specs.declared.marks.MarkTable.{MarkTable}
 use Rattle.tables.specs.Column.{columnOf}
 
 -- The enum's case for an outcome: the number of entries, or the refusal's number and place.
@@ -48,6 +50,12 @@ jobTable outcome =
       cycles = columnOf maxJobs (length jobs) (λ j. jobOf jobs j .cycles);
     }
 
+-- The whole answer of reading marks: the marks, zeros after them.
+abbrev pub markTable : Outcome (List ℕ) → MarkTable
+markTable outcome =
+    let marks : List ℕ = entriesOf outcome in
+    record { reading = readingOf outcome; marks = columnOf maxMarks (length marks) (λ i. markOf marks i) }
+
 -- Jobs decoded into three arrays: the enum's case and, where the table is read, the entries' columns.
 pub record DecodedJobs (outcome : Outcome (List Job)) (reading : Reading) (releases deadlines cycles : List ℕ) : Type 0 where
   pub told : reading ≡ readingOf outcome
@@ -63,6 +71,10 @@ levelsIn count frequencies voltages =
 unfoldable pub jobsIn : (count : ℕ) → (releases deadlines cycles : List ℕ) → List Job
 jobsIn count releases deadlines cycles =
     listOf count (λ j. record { release = getD releases j 0; deadline = getD deadlines j 0; cycles = getD cycles j 0 })
+
+-- The marks that stand in an array, the first `count` of them.
+unfoldable pub marksIn : (count : ℕ) → (marks : List ℕ) → List ℕ
+marksIn count marks = listOf count (λ i. getD marks i 0)
 
 -- Going through the level entries that stand in arrays, by 4, 5 and 32.
 abbrev pub checkedEntries : (count : ℕ) → (frequencies voltages : List ℕ) → Outcome (List Level)

@@ -1,9 +1,10 @@
-// Reading level tables and job tables from bytes, and the built-in level tables.
+// Reading level tables, job tables and handover marks from bytes, and the built-in level tables.
 // Entries are decoded once, into plain arrays of numbers, and worked on in that form.
 mod built_in;
 mod idle_entry;
 mod jobs;
 mod levels;
+mod marks;
 mod numbers;
 
 pub use built_in::first_built_in;
@@ -16,6 +17,8 @@ pub use jobs::read_jobs;
 pub use levels::LevelTable;
 pub use levels::power_of;
 pub use levels::read_levels;
+pub use marks::MarkTable;
+pub use marks::read_marks;
 pub use numbers::number16;
 pub use numbers::number32;
 

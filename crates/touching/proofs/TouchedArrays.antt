@@ -12,10 +12,11 @@ use Rattle.model.specs.Limits.{maxJobs, maxBounds, maxIntervals, maxDeadline}
 use Rattle.model.specs.Outcome.{refused}
 use Rattle.model.specs.Search.{passingBelow, leastBelow}
 use Rattle.model.specs.Jobs.{jobOf, ValidJobs}
-use Rattle.model.specs.Intervals.{boundsOf, Bounds}
+use Rattle.model.specs.Intervals.{Bounds}
 use Rattle.model.specs.Windows.{isInside}
 use Rattle.model.specs.Checking.{stepping}
-use Rattle.model.proofs.BoundsOf.{bounds-of, length-boundsOf}
+use Rattle.model.specs.Marks.{ValidMarks, boundsWith}
+use Rattle.model.proofs.MarkedBounds.{bounds-with, length-boundsWith}
 use Rattle.model.proofs.Passing.{passing-cong}
 use Rattle.tables.specs.Column.{columnOf}
 use Rattle.tables.specs.Tables.{jobsIn}
@@ -33,7 +34,7 @@ use Rattle.fitting.proofs.StepFaults.{stepping-same}
 use Rattle.fitting.proofs.Verdicts.{both-alone, both-stepping, both-refused, both-passed}
 use Rattle.touching.specs.Spans.{opensWithin, jobsOpen, jobsInside, nearestDeadline, touched}
 use Rattle.touching.specs.Touching.{Lists, whereRoom, touchingFor}
-use Rattle.touching.specs.TouchedIn.{opensAt, insideAt, nearestIn, touchedIn}
+use Rattle.touching.specs.TouchedIn.{opensAt, insideAt, nearestIn, touchedIn, HoldsBounds}
 use Rattle.touching.proofs.StepLists.{cells-touched}
 
 -- values and tests that agree have the same least value
@@ -51,9 +52,6 @@ least-cong (suc count) v w f g values tests =
 module _ (count : ℕ) (releases deadlines cycles : List ℕ) where
   abbrev jobs : List Job
   jobs = jobsIn count releases deadlines cycles
-
-  abbrev bounds : List ℕ
-  bounds = boundsOf jobs
 
   counted : length jobs ≡ count
   counted = length-jobsIn count releases deadlines cycles
@@ -77,17 +75,34 @@ module _ (count : ℕ) (releases deadlines cycles : List ℕ) where
     nearest-same = rw counted (least-cong count _ _ _ _ (λ j below. rw (own-job j below)) (λ j below. rw (own-job j below)))
 
   module _ (valid : ValidJobs jobs) where
-    cuts : Bounds jobs bounds
-    cuts = bounds-of jobs (valid .release-before-deadline)
+    -- each release stands before its deadline
+    pub jobs-ordered : (j : ℕ) → j < count → getD releases j 0 < getD deadlines j 0
+    jobs-ordered j below = sound-in count releases deadlines cycles valid j below .release-before-deadline
 
-    few-bounds : length bounds ≤ maxBounds
-    few-bounds = omega (arith, length-boundsOf jobs, valid .few)
+    -- bounds with marks that were read
+    pub marked-bounds-held : {times : List ℕ} {n : ℕ} (marks : List ℕ) → ValidMarks marks → HoldsTimes times n (boundsWith marks jobs)
+        → HoldsBounds jobs times n (boundsWith marks jobs)
+    marked-bounds-held marks rising holds =
+        record {
+          cuts = bounds-with marks jobs (valid .release-before-deadline);
+          few = omega (arith, length-boundsWith marks jobs, valid .few, rising .few);
+          holds = holds;
+        }
 
     pub deadlines-high : (j : ℕ) → j < count → getD deadlines j 0 ≤ maxDeadline
     deadlines-high j below = sound-in count releases deadlines cycles valid j below .deadline-high
 
     -- the times hold the bounds
-    module _ {times : List ℕ} {n : ℕ} (holds : HoldsTimes times n bounds) where
+    module _ {times : List ℕ} {n : ℕ} {bounds : List ℕ} (held : HoldsBounds jobs times n bounds) where
+      cuts : Bounds jobs bounds
+      cuts = held .cuts
+
+      few-bounds : length bounds ≤ maxBounds
+      few-bounds = held .few
+
+      holds : HoldsTimes times n bounds
+      holds = held .holds
+
       pub times-rise : RisingTimes n times
       times-rise = ranges.bounds-small cuts valid few-bounds holds .rising
 

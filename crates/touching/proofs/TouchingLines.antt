@@ -6,7 +6,8 @@ use Rattle.model.specs.Bytes.{numberAt, bytesOf}
 use Rattle.model.specs.Entries.{listOf, encodeEach, joined}
 use Rattle.model.specs.Jobs.{readJobs, jobAt, faultOfJob, encodeJobs}
 use Rattle.model.specs.Search.{someBelow, leastBelow}
-use Rattle.model.specs.Intervals.{insertTime, boundsOf, isOpen}
+use Rattle.model.specs.Intervals.{insertTime, boundsOf, isOpen, earliestRelease, latestDeadline}
+use Rattle.model.specs.Marks.{readMarks, encodeMarks, insertMarks, boundsWith}
 use Rattle.model.specs.Steps.{stepAt}
 use Rattle.model.specs.Checking.{stepFault}
 use Rattle.touching.specs.Spans.{touched}
@@ -14,7 +15,7 @@ use Rattle.touching.specs.Touching.{touchingFor, touching}
 use Rattle.touching.specs.TouchingLines.{TouchingLines}
 
 pub lines-hold : TouchingLines
-unfolding byEntryFrom numberAt bytesOf listOf encodeEach joined readJobs jobAt faultOfJob encodeJobs someBelow leastBelow insertTime boundsOf isOpen stepAt stepFault touched touchingFor touching
+unfolding byEntryFrom numberAt bytesOf listOf encodeEach joined readJobs jobAt faultOfJob encodeJobs someBelow leastBelow insertTime boundsOf isOpen earliestRelease latestDeadline readMarks encodeMarks insertMarks boundsWith stepAt stepFault touched touchingFor touching
 lines-hold =
     record {
       whole = refl;
@@ -33,6 +34,7 @@ lines-hold =
       too-late = refl;
       span-first = refl;
       jobs-next = refl;
+      marks-next = refl;
       no-plan = refl;
       other-intervals = refl;
       not-open = refl;
@@ -45,5 +47,8 @@ lines-hold =
       steps-short = refl;
       exact-room = refl;
       rest-stays = refl;
+      up-to-the-mark = refl;
+      from-the-mark = refl;
+      over-the-mark = refl;
       no-jobs = refl;
     }

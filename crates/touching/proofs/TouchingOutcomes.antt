@@ -1,7 +1,7 @@
--- What a call comes to in each case, in the order in which the cases are told apart: the span, the job table, the room in the lent
--- lists. And what answers such an outcome.
+-- What a call comes to in each case, in the order in which the cases are told apart: the span, the job table, the marks, the room in
+-- the lent lists. And what answers such an outcome.
 -- Assumes nothing.
-use mathlib.Core.Path.{_≡_, refl}
+use mathlib.Core.Path.{_≡_, refl, _∙_}
 use mathlib.Core.Bool.{true, false, or-true}
 use mathlib.Core.Logic.{_⊎_, inl, inr}
 use mathlib.Core.List.{List}
@@ -11,9 +11,9 @@ use lib.Dec.{ltb, leb}
 use borrow.Author.Tests.{leb-false, ltb-false, le-leb, lt-leb, lt-ltb, le-ltb}
 use Rattle.model.specs.declared.Job.{Job}
 use Rattle.model.specs.Limits.{maxDeadline}
-use Rattle.model.specs.Outcome.{Outcome, refused, answer}
+use Rattle.model.specs.Outcome.{Outcome, refused, answer, andThen}
 use Rattle.model.specs.Jobs.{readJobs}
-use Rattle.model.specs.Intervals.{boundsOf}
+use Rattle.model.specs.Marks.{readMarks, boundsWith}
 use Rattle.model.specs.Windows.{wrongSpan}
 use Rattle.model.proofs.Outcome.{answer-injective, answered-past, answered-within, andThen-answered}
 use Rattle.model.proofs.FittingHalf.{stepping-answered}
@@ -32,31 +32,42 @@ span-wrong start end (inr late) = rw (lt-ltb maxDeadline end late, or-true)
 pub span-right : (start end : ℕ) → start < end → end ≤ maxDeadline → wrongSpan start end ≡ false
 span-right start end some early = rw (lt-leb end start some, le-ltb maxDeadline end early)
 
-module _ (jobBytes plan : List ℕ) (start end : ℕ) (before : Lists) where
-  pub touching-wrong-span : (end ≤ start) ⊎ (maxDeadline < end) → touching jobBytes plan start end before ≡ refused 33 0
+module _ (jobBytes markBytes plan : List ℕ) (start end : ℕ) (before : Lists) where
+  pub touching-wrong-span : (end ≤ start) ⊎ (maxDeadline < end) → touching jobBytes markBytes plan start end before ≡ refused 33 0
   unfolding touching
   touching-wrong-span wrong = rw (span-wrong start end wrong)
 
   module _ (some : start < end) (early : end ≤ maxDeadline) where
     pub touching-jobs-refused : (number place : ℕ) → readJobs jobBytes ≡ refused number place
-        → touching jobBytes plan start end before ≡ refused number place
+        → touching jobBytes markBytes plan start end before ≡ refused number place
     unfolding touching
     touching-jobs-refused number place unread = rw (span-right start end some early, unread)
 
     pub touching-read : (jobs : List Job) → readJobs jobBytes ≡ answer jobs
-        → touching jobBytes plan start end before ≡ touchingFor jobs (boundsOf jobs) plan start end before
+        → touching jobBytes markBytes plan start end before ≡ (andThen (readMarks markBytes) λ marks. touchingFor jobs (boundsWith marks jobs) plan start end before)
     unfolding touching
     touching-read jobs read = rw (span-right start end some early, read)
 
+    pub touching-marks-refused : (jobs : List Job) (number place : ℕ) → readJobs jobBytes ≡ answer jobs → readMarks markBytes ≡ refused number place
+        → touching jobBytes markBytes plan start end before ≡ refused number place
+    touching-marks-refused jobs number place read unread = touching-read jobs read ∙ rw unread
+
+    pub touching-both-read : (jobs : List Job) (marks : List ℕ) → readJobs jobBytes ≡ answer jobs → readMarks markBytes ≡ answer marks
+        → touching jobBytes markBytes plan start end before ≡ touchingFor jobs (boundsWith marks jobs) plan start end before
+    touching-both-read jobs marks read marks-read = touching-read jobs read ∙ rw marks-read
+
   -- an answer has no other way
-  pub touching-answered : (t : Touched) → touching jobBytes plan start end before ≡ answer t
+  pub touching-answered : (t : Touched) → touching jobBytes markBytes plan start end before ≡ answer t
       → ((start < end) × (end ≤ maxDeadline))
-      × ((jobs : List Job) × (readJobs jobBytes ≡ answer jobs) × (touchingFor jobs (boundsOf jobs) plan start end before ≡ answer t))
+      × ((jobs : List Job) × (marks : List ℕ) × (readJobs jobBytes ≡ answer jobs) × (readMarks markBytes ≡ answer marks)
+      × (touchingFor jobs (boundsWith marks jobs) plan start end before ≡ answer t))
   unfolding touching
   touching-answered t e =
       let (right, rest) = answered-past (wrongSpan start end) 33 _ e in
       let (some, early) = neither (leb end start) (ltb maxDeadline end) right in
-      ((leb-false end start some, ltb-false maxDeadline end early), andThen-answered (readJobs jobBytes) _ rest)
+      let (jobs, read, rest) = andThen-answered (readJobs jobBytes) _ rest in
+      let (marks, marks-read, rest) = andThen-answered (readMarks markBytes) _ rest in
+      ((leb-false end start some, ltb-false maxDeadline end early), (jobs, marks, read, marks-read, rest))
 
 -- the first list too short, and enough room
 module _ (before : Lists) (t : Touched) where

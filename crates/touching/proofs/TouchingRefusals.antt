@@ -1,4 +1,4 @@
--- The operation refuses by 33, the job table's numbers, the plan's up to 18, and 14; where the span is right not by 33.
+-- The operation refuses by 33, the job table's numbers, that of the marks, the plan's up to 18, and 14; where the span is right not by 33.
 -- Assumes nothing.
 use mathlib.Core.Logic.{_⊎_, inl, inr}
 use mathlib.Core.List.{List}
@@ -8,9 +8,9 @@ use lib.ListN.{length}
 use Rattle.model.specs.Limits.{maxDeadline}
 use Rattle.model.specs.Outcome.{andThen, From, RefusesBy}
 use Rattle.model.specs.Jobs.{readJobs}
-use Rattle.model.specs.Intervals.{boundsOf}
+use Rattle.model.specs.Marks.{readMarks, boundsWith}
 use Rattle.model.specs.Windows.{wrongSpan}
-use Rattle.model.proofs.RefusalNumbers.{by-when, by-then, by-under, by-answer, jobs-by, stepping-by, widen}
+use Rattle.model.proofs.RefusalNumbers.{by-when, by-then, by-under, by-answer, jobs-by, marks-by, stepping-by, widen}
 use Rattle.touching.specs.Spans.{Touched, touched}
 use Rattle.touching.specs.Touching.{Lists, whereRoom, touchingFor, touching, TouchingNumbers, TouchingRefuses}
 use Rattle.touching.proofs.TouchingOutcomes.{span-right}
@@ -25,15 +25,16 @@ room-by before t =
 
 -- The numbers that the operation refuses by where the span is right.
 abbrev pub ReadNumbers : ℕ → Type 0
-ReadNumbers number = From 6 10 number ⊎ (From 15 18 number ⊎ From 14 14 number)
+ReadNumbers number = (From 6 10 number ⊎ From 34 34 number) ⊎ (From 15 18 number ⊎ From 14 14 number)
 
-read-by : (jobBytes plan : List ℕ) (start end : ℕ) (before : Lists)
-    → RefusesBy ReadNumbers (andThen (readJobs jobBytes) (λ jobs. touchingFor jobs (boundsOf jobs) plan start end before))
+read-by : (jobBytes markBytes plan : List ℕ) (start end : ℕ) (before : Lists)
+    → RefusesBy ReadNumbers (andThen (readJobs jobBytes) λ jobs. andThen (readMarks markBytes) λ marks. touchingFor jobs (boundsWith marks jobs) plan start end before)
 unfolding touchingFor
-read-by jobBytes plan start end before =
-    by-then ReadNumbers (readJobs jobBytes) _ (widen (λ n low. inl low) (jobs-by jobBytes)) λ jobs.
-    stepping-by ReadNumbers (λ n from. inr (inl from)) jobs (boundsOf jobs) plan
-    (widen (λ n from. inr (inr from)) (room-by before (touched jobs (boundsOf jobs) plan start end)))
+read-by jobBytes markBytes plan start end before =
+    by-then ReadNumbers (readJobs jobBytes) _ (widen (λ n low. inl (inl low)) (jobs-by jobBytes)) λ jobs.
+    by-then ReadNumbers (readMarks markBytes) _ (widen (λ n new. inl (inr new)) (marks-by markBytes)) λ marks.
+    stepping-by ReadNumbers (λ n from. inr (inl from)) jobs (boundsWith marks jobs) plan
+    (widen (λ n from. inr (inr from)) (room-by before (touched jobs (boundsWith marks jobs) plan start end)))
 
 all-numbers : (n : ℕ) → ReadNumbers n → TouchingNumbers n
 all-numbers n (inl jobs) = inl (inr jobs)
@@ -41,10 +42,10 @@ all-numbers n (inr others) = inr others
 
 pub touching-refuses : TouchingRefuses
 unfolding touching
-touching-refuses jobBytes plan start end before =
-    by-when TouchingNumbers (wrongSpan start end) 33 (inl (inl (omega arith))) (widen all-numbers (read-by jobBytes plan start end before))
+touching-refuses jobBytes markBytes plan start end before =
+    by-when TouchingNumbers (wrongSpan start end) 33 (inl (inl (omega arith))) (widen all-numbers (read-by jobBytes markBytes plan start end before))
 
-pub touching-right-by : (jobBytes plan : List ℕ) (start end : ℕ) (before : Lists) → start < end → end ≤ maxDeadline
-    → RefusesBy ReadNumbers (touching jobBytes plan start end before)
+pub touching-right-by : (jobBytes markBytes plan : List ℕ) (start end : ℕ) (before : Lists) → start < end → end ≤ maxDeadline
+    → RefusesBy ReadNumbers (touching jobBytes markBytes plan start end before)
 unfolding touching
-touching-right-by jobBytes plan start end before some early = rw (span-right start end some early) (read-by jobBytes plan start end before)
+touching-right-by jobBytes markBytes plan start end before some early = rw (span-right start end some early) (read-by jobBytes markBytes plan start end before)

@@ -1,17 +1,20 @@
 -- What touches a span, over plain arrays: the jobs' releases and deadlines, the times of the bounds, and the cells of the plan's
 -- steps as one set of jobs for each interval.
-use Prim.Native.Nat.{ℕ, _+_, _*_}
+use Prim.Native.Nat.{ℕ, _+_, _*_, _≤_}
 use mathlib.Core.Bool.{Bool, cond, _&&_}
 use mathlib.Core.List.{List, [], _∷_}
 use mathlib.Core.Option.{Option}
-use lib.ListN.{getD}
+use lib.ListN.{length, getD}
 use lib.Dec.{ltb, leb}
-use Rattle.model.specs.Limits.{maxJobs}
+use Rattle.model.specs.declared.Job.{Job}
+use Rattle.model.specs.Limits.{maxJobs, maxBounds}
 use Rattle.model.specs.Entries.{joined}
 use Rattle.model.specs.Search.{passingBelow, leastBelow}
+use Rattle.model.specs.Intervals.{Bounds}
 use Rattle.job_sets.specs.declared.JobSet.{JobSet}
 use Rattle.job_sets.specs.JobSets.{isMember, noJobs}
 use Rattle.job_sets.specs.IntervalSets.{setIn}
+use Rattle.intervals.specs.Times.{HoldsTimes}
 use Rattle.touching.specs.Spans.{Touched}
 
 -- Job j is open somewhere in the span, and job j is wholly inside it.
@@ -50,3 +53,9 @@ touchedIn releases deadlines count times sets intervals start end = record {
   steps = cellsWithin times sets intervals start end;
   deadline = nearestIn deadlines count start;
 }
+
+-- Bounds of jobs, as many as there can be at most, stand in an array.
+pub record HoldsBounds (jobs : List Job) (times : List ℕ) (count : ℕ) (bounds : List ℕ) : Type 0 where
+  pub cuts : Bounds jobs bounds
+  pub few : length bounds ≤ maxBounds
+  pub holds : HoldsTimes times count bounds

@@ -1,4 +1,4 @@
--- The operation that lists what touches a span (document 02, Change 5).
+-- The operation that lists what touches a span (document 02, Changes 5 and 6).
 use Prim.Native.Nat.{ℕ}
 use mathlib.Core.List.{List, _++_}
 use mathlib.Core.Logic.{_⊎_}
@@ -6,7 +6,7 @@ use lib.ListN.{length, drop}
 use Rattle.model.specs.declared.Job.{Job}
 use Rattle.model.specs.Outcome.{Outcome, refused, answer, andThen, refuseWhen, refuseUnder, From, RefusesBy}
 use Rattle.model.specs.Jobs.{readJobs}
-use Rattle.model.specs.Intervals.{boundsOf}
+use Rattle.model.specs.Marks.{readMarks, boundsWith}
 use Rattle.model.specs.Windows.{wrongSpan}
 use Rattle.model.specs.Checking.{stepping}
 use Rattle.touching.specs.Spans.{Touched, touched}
@@ -25,18 +25,20 @@ whereRoom before t =
     (refuseUnder (length (t .steps)) 14 (length (before .steps))
     (answer t)))
 
--- What touches the span where the jobs were read: the plan's refusals 15 to 18, then 14.
+-- What touches the span where jobs and marks were read: the plan's refusals 15 to 18, then 14.
 unfoldable pub touchingFor : List Job → (bounds plan : List ℕ) → (start end : ℕ) → (before : Lists) → Outcome Touched
 touchingFor jobs bounds plan start end before =
     stepping jobs bounds plan
     (whereRoom before (touched jobs bounds plan start end))
 
--- "33 start not before end, or end above 1,000,000, before the job table and then the plan are read".
-unfoldable pub touching : (jobBytes plan : List ℕ) → (start end : ℕ) → (before : Lists) → Outcome Touched
-touching jobBytes plan start end before =
+-- "33 start not before end, or end above 1,000,000, before the job table and then the plan are read"; the marks stand beside the
+-- job table, and 34 comes "after the job table's own".
+unfoldable pub touching : (jobBytes markBytes plan : List ℕ) → (start end : ℕ) → (before : Lists) → Outcome Touched
+touching jobBytes markBytes plan start end before =
     refuseWhen (wrongSpan start end) 33
     (andThen (readJobs jobBytes) λ jobs.
-    touchingFor jobs (boundsOf jobs) plan start end before)
+    andThen (readMarks markBytes) λ marks.
+    touchingFor jobs (boundsWith marks jobs) plan start end before)
 
 -- A lent list afterwards: the members at its start, and after them what was there.
 abbrev pub listed : (members before : List ℕ) → List ℕ
@@ -51,11 +53,12 @@ listsAfter (answer t) before = record {
   steps = listed (t .steps) (before .steps);
 }
 
--- The numbers that the operation refuses by: 33, the job table's, the plan's up to 18, and 14.
+-- The numbers that the operation refuses by: 33, the job table's, that of the marks, the plan's up to 18, and 14.
 abbrev pub TouchingNumbers : ℕ → Type 0
-TouchingNumbers number = (From 33 33 number ⊎ From 6 10 number) ⊎ (From 15 18 number ⊎ From 14 14 number)
+TouchingNumbers number = (From 33 33 number ⊎ (From 6 10 number ⊎ From 34 34 number)) ⊎ (From 15 18 number ⊎ From 14 14 number)
 
 -- Proved in proofs/TouchingRefusals.antt.
 abbrev pub TouchingRefuses : Type 0
 TouchingRefuses =
-    (jobBytes plan : List ℕ) (start end : ℕ) (before : Lists) → RefusesBy TouchingNumbers (touching jobBytes plan start end before)
+    (jobBytes markBytes plan : List ℕ) (start end : ℕ) (before : Lists)
+    → RefusesBy TouchingNumbers (touching jobBytes markBytes plan start end before)

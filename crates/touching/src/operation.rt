@@ -1,14 +1,16 @@
-// The operation: from a job table, a plan and a span to three lists and the nearest deadline.
+// The operation: from a job table, handover marks, a plan and a span to three lists and the nearest deadline.
 ghost use mathlib.Core.Path.{_≡_};
+ghost use mathlib.Core.List.{List};
 ghost use Prim.Native.Nat.{ℕ, _<_, _≤_};
 ghost use lib.ListN.{getD};
 ghost use Rattle.model.specs.Limits.{maxJobs, maxIntervals, maxDeadline};
 ghost use Rattle.model.specs.Jobs.{ValidJobs};
-ghost use Rattle.model.specs.Intervals.{boundsOf};
+ghost use Rattle.model.specs.Outcome.{andThen};
+ghost use Rattle.model.specs.Marks.{readMarks, boundsWith};
 ghost use Rattle.tables.specs.Tables.{jobsIn};
 ghost use Rattle.touching.specs.Touching.{whereRoom, touchingFor};
 ghost use Rattle.touching.specs.TouchingAnswers.{Answers, TouchingContract};
-ghost use Rattle.touching.specs.TouchedIn.{touchedIn};
+ghost use Rattle.touching.specs.TouchedIn.{touchedIn, HoldsBounds};
 ghost use Rattle.touching.specs.declared.operation.TouchingAnswer.the-variants.{Refused};
 use crate::jobs::NearestDeadline;
 use crate::jobs::inside_within;
@@ -20,8 +22,8 @@ use crate::steps::write_steps;
 use fitting::Verdict;
 use fitting::check_steps;
 use intervals::bound_numbers;
-use intervals::bounds_of;
 use intervals::interval_count;
+use intervals::marked_bounds;
 use intervals::open_sets;
 use job_sets::SET_WORDS;
 use job_sets::count as count_members;
@@ -30,6 +32,7 @@ use model::MAX_DEADLINE;
 use model::MAX_JOBS;
 use tables::Reading;
 use tables::decode_jobs;
+use tables::read_marks;
 
 // The lengths of the three lists that were written, and the nearest deadline; or the refusal's number and place.
 pub enum TouchingAnswer {
@@ -49,6 +52,7 @@ pub enum TouchingAnswer {
 // tick with it. Any bytes, any numbers and any lists, of any length, are answered.
 pub fn touching(
     jobs: &[u8],
+    marks: &[u8],
     plan: &[u8],
     start: u32,
     end: u32,
@@ -56,7 +60,7 @@ pub fn touching(
     inside_jobs: &mut [u32],
     steps: &mut [u32],
 ) -> TouchingAnswer
-    ensures { λ r. ⌜ TouchingContract (now (jobs .entry)) (now (plan .entry)) start end
+    ensures { λ r. ⌜ TouchingContract (now (jobs .entry)) (now (marks .entry)) (now (plan .entry)) start end
         (record { openJobs = now («open_jobs» .entry); insideJobs = now («inside_jobs» .entry); steps = now (steps .entry) })
         (record { openJobs = now («open_jobs» .exit); insideJobs = now («inside_jobs» .exit); steps = now (steps .exit) }) r ⌝ }
 {
@@ -83,6 +87,7 @@ pub fn touching(
             &deadlines,
             &cycles,
             count,
+            marks,
             plan,
             start as u64,
             end as u64,
@@ -93,12 +98,13 @@ pub fn touching(
     }
 }
 
-// The operation where the span is right and the jobs were read: the plan's steps are checked.
+// The operation where the span is right and the jobs were read: the marks are read, and cut the bounds.
 fn touching_jobs<'a>(
     releases: &'a [u64; MAX_JOBS],
     deadlines: &'a [u64; MAX_JOBS],
     cycles: &[u64; MAX_JOBS],
     count: usize,
+    marks: &[u8],
     plan: &[u8],
     start: u64,
     end: u64,
@@ -107,19 +113,66 @@ fn touching_jobs<'a>(
     steps: &mut [u32],
 ) -> TouchingAnswer
     requires { ⌜ ValidJobs (jobsIn count (now releases) (now deadlines) (now cycles)) ⌝ }
-    ensures { λ r. ⌜ Answers (touchingFor (jobsIn count (now (releases .entry)) (now (deadlines .entry)) (now (cycles .entry)))
-        (boundsOf (jobsIn count (now (releases .entry)) (now (deadlines .entry)) (now (cycles .entry)))) (now (plan .entry)) start end
+    ensures { λ r. ⌜ Answers (andThen (readMarks (now (marks .entry))) λ ticks. touchingFor (jobsIn count (now (releases .entry)) (now (deadlines .entry)) (now (cycles .entry)))
+        (boundsWith ticks (jobsIn count (now (releases .entry)) (now (deadlines .entry)) (now (cycles .entry)))) (now (plan .entry)) start end
         (record { openJobs = now («open_jobs» .entry); insideJobs = now («inside_jobs» .entry); steps = now (steps .entry) }))
         (record { openJobs = now («open_jobs» .entry); insideJobs = now («inside_jobs» .entry); steps = now (steps .entry) })
         (record { openJobs = now («open_jobs» .exit); insideJobs = now («inside_jobs» .exit); steps = now (steps .exit) }) r ⌝ }
 {
-    let mut times = [0u64; MAX_BOUNDS];
-    let bounds = bounds_of(releases, deadlines, count, &mut times);
+    let table = read_marks(marks);
+    let reading = table.reading;
+    match reading {
+        Reading::Refused { number, place } => TouchingAnswer::Refused { number, place },
+        Reading::Entries(mark_count) => {
+            let ticks = table.marks;
+            let mut times = [0u64; MAX_BOUNDS];
+            let bounds = marked_bounds(releases, deadlines, count, &ticks, mark_count, &mut times);
+            touching_bounds(
+                releases,
+                deadlines,
+                cycles,
+                count,
+                &times,
+                bounds,
+                plan,
+                start,
+                end,
+                open_jobs,
+                inside_jobs,
+                steps,
+            )
+        }
+    }
+}
+
+// The operation where the bounds were cut: the plan's steps are checked.
+fn touching_bounds(
+    releases: &[u64; MAX_JOBS],
+    deadlines: &[u64; MAX_JOBS],
+    cycles: &[u64; MAX_JOBS],
+    count: usize,
+    times: &[u64; MAX_BOUNDS],
+    bounds: usize,
+    plan: &[u8],
+    start: u64,
+    end: u64,
+    open_jobs: &mut [u32],
+    inside_jobs: &mut [u32],
+    steps: &mut [u32],
+) -> TouchingAnswer
+    requires { ⌜ ValidJobs (jobsIn count (now releases) (now deadlines) (now cycles)) ⌝ }
+    requires { ⌜ ((l : List ℕ) × HoldsBounds (jobsIn count (now releases) (now deadlines) (now cycles)) (now times) bounds l) ⌝ }
+    ensures { λ r. ⌜ ((l : List ℕ) → HoldsBounds (jobsIn count (now (releases .entry)) (now (deadlines .entry)) (now (cycles .entry))) (now (times .entry)) bounds l
+        → Answers (touchingFor (jobsIn count (now (releases .entry)) (now (deadlines .entry)) (now (cycles .entry))) l (now (plan .entry)) start end
+        (record { openJobs = now («open_jobs» .entry); insideJobs = now («inside_jobs» .entry); steps = now (steps .entry) }))
+        (record { openJobs = now («open_jobs» .entry); insideJobs = now («inside_jobs» .entry); steps = now (steps .entry) })
+        (record { openJobs = now («open_jobs» .exit); insideJobs = now («inside_jobs» .exit); steps = now (steps .exit) }) r) ⌝ }
+{
     let mut first = [0u8; MAX_JOBS];
     let mut last = [0u8; MAX_JOBS];
     let mut sets = [0u64; SET_WORDS];
-    bound_numbers(releases, count, &times, bounds, &mut first);
-    bound_numbers(deadlines, count, &times, bounds, &mut last);
+    bound_numbers(releases, count, times, bounds, &mut first);
+    bound_numbers(deadlines, count, times, bounds, &mut last);
     open_sets(&first, &last, count, &mut sets);
     let mut cells = [0u64; SET_WORDS];
     let checked = check_steps(&sets, cycles, count, bounds, plan, &mut cells);
@@ -130,7 +183,7 @@ fn touching_jobs<'a>(
         releases,
         deadlines,
         count,
-        &times,
+        times,
         interval_count(bounds),
         &cells,
         start,

@@ -5,16 +5,15 @@ ghost use Rattle.model.specs.Limits.{maxFrequency, maxDeadline, maxJobs, maxCyc
 ghost use Rattle.model.specs.Jobs.{ValidJobs};
 ghost use Rattle.model.specs.Sum.{onlyIf};
 ghost use Rattle.model.specs.Processors.{topOf};
-ghost use Rattle.model.specs.Sites.{Site};
+ghost use Rattle.model.specs.Sites.{Tables};
 ghost use Rattle.model.specs.Windows.{isInside, cyclesInside, spareOf, spareFor, spare as spareOfBytes};
 ghost use Rattle.tables.specs.Tables.{jobsIn};
 ghost use Rattle.windows.specs.Answers.{spareAnswer};
-use model::MAX_BOUNDS;
 use model::MAX_DEADLINE;
 use model::MAX_JOBS;
 use site::SiteReading;
-use site::SiteTable;
-use site::read_site;
+use site::TablePair;
+use site::read_tables;
 
 // The spare may be negative.
 pub enum SpareAnswer {
@@ -29,20 +28,12 @@ pub fn spare(levels: &[u8], jobs: &[u8], start: u32, end: u32) -> SpareAnswer
     let mut releases = [0u64; MAX_JOBS];
     let mut deadlines = [0u64; MAX_JOBS];
     let mut cycles = [0u64; MAX_JOBS];
-    let mut times = [0u64; MAX_BOUNDS];
-    let site = read_site(
-        levels,
-        jobs,
-        &mut releases,
-        &mut deadlines,
-        &mut cycles,
-        &mut times,
-    );
-    let reading = site.reading;
+    let tables = read_tables(levels, jobs, &mut releases, &mut deadlines, &mut cycles);
+    let reading = tables.reading;
     match reading {
         SiteReading::Refused { number, place } => SpareAnswer::Refused { number, place },
-        SiteReading::Read => spare_of_site(
-            site,
+        SiteReading::Read => spare_of_tables(
+            tables,
             &releases,
             &deadlines,
             &cycles,
@@ -52,17 +43,17 @@ pub fn spare(levels: &[u8], jobs: &[u8], start: u32, end: u32) -> SpareAnswer
     }
 }
 
-// The spare of a window for a site that was read.
-fn spare_of_site(
-    site: SiteTable,
+// The spare of a window for levels and jobs that were read.
+fn spare_of_tables(
+    tables: TablePair,
     releases: &[u64; MAX_JOBS],
     deadlines: &[u64; MAX_JOBS],
     cycles: &[u64; MAX_JOBS],
     start: u64,
     end: u64,
 ) -> SpareAnswer
-    requires { ⌜ ValidJobs (jobsIn (site .jobs) (now releases) (now deadlines) (now cycles)) × (site .top ≤ maxFrequency) ⌝ }
-    ensures { λ r. ⌜ ((s : Site) → topOf (s .processor) ≡ site .top → s .jobs ≡ jobsIn (site .jobs) (now (releases .entry)) (now (deadlines .entry)) (now (cycles .entry)) → r ≡ spareAnswer (spareFor s start end)) ⌝ }
+    requires { ⌜ ValidJobs (jobsIn (tables .jobs) (now releases) (now deadlines) (now cycles)) × (tables .top ≤ maxFrequency) ⌝ }
+    ensures { λ r. ⌜ ((t : Tables) → topOf (t .processor) ≡ tables .top → t .jobs ≡ jobsIn (tables .jobs) (now (releases .entry)) (now (deadlines .entry)) (now (cycles .entry)) → r ≡ spareAnswer (spareFor t start end)) ⌝ }
 {
     if end <= start {
         return SpareAnswer::Refused {
@@ -76,8 +67,16 @@ fn spare_of_site(
             place: 0,
         };
     }
-    let count = site.jobs;
-    SpareAnswer::Spare(window_spare(releases, deadlines, cycles, count, site.top, start, end))
+    let count = tables.jobs;
+    SpareAnswer::Spare(window_spare(
+        releases,
+        deadlines,
+        cycles,
+        count,
+        tables.top,
+        start,
+        end,
+    ))
 }
 
 // The spare of a window for jobs that were read.

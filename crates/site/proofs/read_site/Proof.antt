@@ -1,21 +1,13 @@
 -- `read_site` meets its contract, by the laws of proofs/ReadSites.antt. Assumes nothing.
-use mathlib.Core.Path.{_≡_, sym}
-use Prim.Native.Nat.{_≤_}
-use native.Mathlib.Omega.{arith}
-use denote.Ref.{now}
 use borrow.Author.Needs.{needs}
-use Rattle.model.specs.Limits.{maxLevels}
-use Rattle.model.specs.Outcome.{answer}
-use Rattle.model.specs.LevelTables.{readLevels}
-use Rattle.model.proofs.LevelTables.{levels-valid}
-use Rattle.tables.specs.Tables.{levelsIn}
-use Rattle.tables.proofs.Read.{levels-count, top-in, levels-read, levels-read-refused}
-use Rattle.site.proofs.ReadSites.{levels-refused}
+use Rattle.model.proofs.Sites.{tables-are-valid}
+use Rattle.site.proofs.ReadSites.{site-refused, site-after, site-refused-first, refused-tables, held-tables}
+use Rattle.site.proofs.HeldSites.{pair-count, pair-ordered}
 use Rattle.site.proofs.read_site.Statement.{statement}
 use Rattle.site.proofs.read_site.Tie as tie
 
-read-levels-requires : tie.Need-read-levels-requires
-read-levels-requires c κs = search needs
+read-tables-requires : tie.Need-read-tables-requires
+read-tables-requires c κs = search needs
 
 enum-known-reading : tie.Need-enum-known-reading
 enum-known-reading c = search needs
@@ -23,57 +15,36 @@ enum-known-reading c = search needs
 refused-site-requires : tie.Need-refused-site-requires
 refused-site-requires c κs = search needs
 
-enum-known-reading-2 : tie.Need-enum-known-reading-2
-enum-known-reading-2 c = search needs
-
--- the levels that were read stand in the arrays, and are valid
-answered : (c : tie.After-reading2)
-    → readLevels (now (c .before .before .before .before .before .args .levels))
-    ≡ answer
-    (levelsIn (c .reading2 .given .0 .0) (c .before .before .read-levels .result .frequencies) (c .before .before .read-levels .result .voltages))
-answered c = levels-read _ _ (c .before .before .read-levels .ensures) _ (c .reading2 .given .1)
-
-counted : (c : tie.After-reading2) → (1 ≤ c .reading2 .given .0 .0) × (c .reading2 .given .0 .0 ≤ maxLevels)
-counted c = levels-count _ _ _ (levels-valid _ _ (answered c))
-
-working-levels-requires : tie.Need-working-levels-requires
-working-levels-requires c κs = levels-valid _ _ (answered (c .before .before .before .before .before))
-
-sub-top : tie.Need-sub-top
-sub-top c = counted (c .before .before .before .before .before .before) .0
-
-mul-top : tie.Need-mul-top
-mul-top c = omega (arith, counted (c .before .before .before .before .before .before))
-
-array-read-top : tie.Need-array-read-top
-array-read-top c = omega (arith, counted (c .before .before .before .before .before .before))
+enum-told : tie.Need-enum-told
+enum-told c = search needs
 
 site-of-requires : tie.Need-site-of-requires
-site-of-requires c κs = search needs
+site-of-requires c κs =
+    let told = c .before .before .before in
+    let read = told .before .before in
+    let (tables, is, holds) = held-tables (read .read-tables .ensures) (told .enum-told .given .1) in
+    let (processor, jobs) = tables-are-valid _ _ tables is in
+    ((search needs, pair-count holds jobs), pair-ordered holds jobs)
 
 returns : tie.Need-returns
 returns c =
     let known = c .before .before in
-    levels-refused _ _ _ _ (levels-read-refused _ _ (known .before .before .read-levels .ensures) _ _ (known .reading .given .1)) (c .refused-site .ensures)
+    site-refused _ _ (site-refused-first _ _ _ _ _ (refused-tables (known .before .before .read-tables .ensures) _ _ (known .reading .given .1))) (c .refused-site .ensures)
 
 returns-2 : tie.Need-returns-2
 returns-2 c =
-    let worked = c .before .before .before .before .before in
-    let read = answered (worked .before .before .before .before .before .before) in
-    c .site-of .ensures _ _ read (worked .working-levels .ensures) (sym (top-in _ _ _ (levels-valid _ _ read)))
+    let told = c .before .before .before .before in
+    let (tables, is, holds) = held-tables (told .before .before .read-tables .ensures) (told .enum-told .given .1) in
+    rw (site-after _ _ _ tables is) (c .site-of .ensures tables _ holds)
 
 pub read-site-spec : {M : Type 1} → statement M
 read-site-spec =
     tie.close
     (tie.spec
-    read-levels-requires
+    read-tables-requires
     enum-known-reading
     refused-site-requires
-    enum-known-reading-2
-    working-levels-requires
-    sub-top
-    mul-top
-    array-read-top
+    enum-told
     site-of-requires
     returns
     returns-2)

@@ -1,14 +1,19 @@
 -- `site_of` meets its contract, by the laws of proofs/ReadSites.antt. Assumes nothing.
 use mathlib.Core.Path.{refl}
+use Prim.Native.Nat.{_≤_}
+use native.Mathlib.Omega.{arith}
 use borrow.Author.Needs.{needs}
-use Rattle.model.proofs.Jobs.{jobs-valid}
-use Rattle.tables.proofs.Read.{jobs-count, jobs-decoded-refused, jobs-decoded, decoded-padded}
-use Rattle.site.proofs.ReadSites.{jobs-refused, both-read}
+use denote.Ref.{now}
+use Rattle.model.specs.Limits.{maxMarks}
+use Rattle.model.proofs.Marks.{marks-valid}
+use Rattle.tables.specs.Tables.{marksIn}
+use Rattle.tables.proofs.MarksIn.{length-marksIn, marks-read, marks-read-refused}
+use Rattle.site.proofs.ReadSites.{marks-refused, site-cut}
 use Rattle.site.proofs.site_of.Statement.{statement}
 use Rattle.site.proofs.site_of.Tie as tie
 
-decode-jobs-requires : tie.Need-decode-jobs-requires
-decode-jobs-requires c κs = search needs
+read-marks-requires : tie.Need-read-marks-requires
+read-marks-requires c κs = search needs
 
 enum-known-reading : tie.Need-enum-known-reading
 enum-known-reading c = search needs
@@ -19,34 +24,37 @@ refused-site-requires c κs = search needs
 enum-known-reading-2 : tie.Need-enum-known-reading-2
 enum-known-reading-2 c = search needs
 
-bounds-of-requires : tie.Need-bounds-of-requires
-bounds-of-requires c κs =
-    let known = c .before .before .before .before in
-    let decoded = known .before .before .decode-jobs .ensures in
-    (jobs-count _ _ _ _ (jobs-valid _ _ (jobs-decoded _ _ _ _ _ decoded _ (known .reading2 .given .1))), search needs)
+-- no more marks than there may be
+few : (c : tie.After-reading2) → c .reading2 .given .0 .0 ≤ maxMarks
+few c =
+    let table = c .before .before .read-marks in
+    let read = marks-read _ _ (table .ensures) _ (c .reading2 .given .1) in
+    omega (arith, marks-valid _ _ read .few, length-marksIn (c .reading2 .given .0 .0) (table .result .marks))
+
+marked-bounds-requires : tie.Need-marked-bounds-requires
+marked-bounds-requires c κs =
+    let known = c .before .before .before .before .before in
+    let start = known .before .before .before .before in
+    ((start .pre .0 .1, few known, start .pre .0 .0), start .pre .1)
 
 returns : tie.Need-returns
-returns c = λ levelBytes levels read working top.
+returns c = λ tables cycles holds.
     let known = c .before .before in
-    let decoded = known .before .before .decode-jobs .ensures in
-    jobs-refused levelBytes _ levels read _ _ (jobs-decoded-refused _ _ _ _ _ decoded _ _ (known .reading .given .1)) (c .refused-site .ensures)
+    marks-refused tables holds _ _ _ (marks-read-refused _ _ (known .before .before .read-marks .ensures) _ _ (known .reading .given .1)) (c .refused-site .ensures)
 
 returns-2 : tie.Need-returns-2
-returns-2 c = λ levelBytes levels read working top.
-    let known = c .before .before .before .before .before in
-    let decoded = known .before .before .decode-jobs .ensures in
-    let counted = known .reading2 .given .1 in
-    both-read levelBytes _ levels read _ (jobs-decoded _ _ _ _ _ decoded _ counted) (decoded-padded _ _ _ _ _ decoded _ counted)
-    refl refl working top (c .bounds-of .ensures _)
+returns-2 c = λ tables cycles holds.
+    let known = c .before .before .before .before .before .before in
+    site-cut tables holds _ _ (marks-read _ _ (known .before .before .read-marks .ensures) _ (known .reading2 .given .1)) refl refl refl refl (c .marked-bounds .ensures cycles)
 
 pub site-of-spec : {M : Type 1} → statement M
 site-of-spec =
     tie.close
     (tie.spec
-    decode-jobs-requires
+    read-marks-requires
     enum-known-reading
     refused-site-requires
     enum-known-reading-2
-    bounds-of-requires
+    marked-bounds-requires
     returns
     returns-2)

@@ -50,7 +50,7 @@ use denote.Triple.Walked.{says, needs, Stays, stay-none, stay-none-ref, gave-ref
 use denote.Exit.{yes}
 use denote.Triple.Clauses.{Lasts, ensured, lasts}
 use Rattle.model.specs.declared.Job.{Job}
-use Rattle.model.specs.Limits.{maxJobs}
+use Rattle.model.specs.Limits.{maxJobs, maxBounds, maxIntervals}
 use Rattle.intervals.specs.Times.{SmallBounds}
 use Rattle.fitting.specs.SetsHave.{NoJobs}
 use Rattle.fitting.specs.TestedJobs.{TestedBelow}
@@ -68,14 +68,14 @@ use Rattle.fitting.proofs.records.lend_jobs.Code as code
 use Rattle.fitting.proofs.records.lend_jobs.Code.Mir as body
 
 abbrev Times : RattleType
-Times = Array u64 128
+Times = Array u64 maxBounds
 
 -- the sums
 abbrev PerJob : RattleType
 PerJob = Array u64 64
 
 abbrev Sets : RattleType
-Sets = Array u64 127
+Sets = Array u64 maxIntervals
 
 abbrev Jobs : RattleType
 Jobs = Array T.the-row 64
@@ -86,12 +86,12 @@ stayed = (
   (
     stay-none (λ _. usize) yes,
     (
-      stay-none-ref (0 ∷ []) tt (ArrayOf (plain (λ _. u64)) (λ _. tt) 128) yes,
+      stay-none-ref (0 ∷ []) tt (ArrayOf (plain (λ _. u64)) (λ _. tt) maxBounds) yes,
       (
         stay-none (λ _. usize) yes,
         (
           stay-none-ref (0 ∷ []) tt (ArrayOf (plain (λ _. u64)) (λ _. tt) 64) yes,
-          (gave-ref (1 ∷ []) tt (ArrayOf (plain (λ _. u64)) (λ _. tt) 127), tt),
+          (gave-ref (1 ∷ []) tt (ArrayOf (plain (λ _. u64)) (λ _. tt) maxIntervals), tt),
         ),
       ),
     ),
@@ -251,13 +251,13 @@ module _
 
     module _ (C : Calls 𝓤 H) (Λ : Loops 𝓤 H) (fm : FmC 𝓤 H (W .laws) C) (known : Triple 𝓤 (C #test-jobs) (All 𝓤 H A mem′ run)) (l₀ l₁ l₂ l₃ l₄ l₅ l₆ l₇ l₈ l₉ l₁₀ : ℕ) where
       abbrev timesTy : Ty
-      timesTy = tyRef (named 0) imm (tyArray word 128)
+      timesTy = tyRef (named 0) imm (tyArray word maxBounds)
 
       abbrev sumsTy : Ty
       sumsTy = tyRef (named 0) imm (tyArray word 64)
 
       abbrev setsTy : Ty
-      setsTy = tyRef (named 1) mut (tyArray word 127)
+      setsTy = tyRef (named 1) mut (tyArray word maxIntervals)
 
       abbrev refTy : Ty
       refTy = tyRef erased imm (tyArray (pointee (T.the-row .written)) 64)
@@ -267,7 +267,7 @@ module _
 
       -- handed on
       abbrev setsTy′ : Ty
-      setsTy′ = tyRef erased mut (tyArray word 127)
+      setsTy′ = tyRef erased mut (tyArray word maxIntervals)
 
       abbrev En : Env 𝓤 H
       En = (word, l₀) ∷ (arrayTy, l₁) ∷ (word, l₂) ∷ (timesTy, l₃) ∷ (word, l₄) ∷ (sumsTy, l₅) ∷ (setsTy, l₆) ∷ (arrayTy, l₇) ∷ (refTy, l₈) ∷ (lentTy, l₉) ∷ (setsTy′, l₁₀) ∷ []
@@ -344,12 +344,12 @@ module _ {M : Type 1} (𝓤 : URA M) (H : Heap 𝓤) (A : Atoms 𝓤) (W : Given
     (
       goes-none 𝓤 H A W 2 (λ _. usize) yes (λ κs x f. refl),
       (
-        goes-none-ref 𝓤 H A W 2 (0 ∷ []) tt (ArrayOf (plain (λ _. u64)) (λ _. tt) 128) yes,
+        goes-none-ref 𝓤 H A W 2 (0 ∷ []) tt (ArrayOf (plain (λ _. u64)) (λ _. tt) maxBounds) yes,
         (
           goes-none 𝓤 H A W 2 (λ _. usize) yes (λ κs x f. refl),
           (
             goes-none-ref 𝓤 H A W 2 (0 ∷ []) tt (ArrayOf (plain (λ _. u64)) (λ _. tt) 64) yes,
-            (goes-gave-ref 𝓤 H A W 2 1 tt (ArrayOf (plain (λ _. u64)) (λ _. tt) 127), tt),
+            (goes-gave-ref 𝓤 H A W 2 1 tt (ArrayOf (plain (λ _. u64)) (λ _. tt) maxIntervals), tt),
           ),
         ),
       ),

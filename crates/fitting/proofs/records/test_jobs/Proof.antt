@@ -54,7 +54,7 @@ use denote.Triple.Walked.{says, needs, Stays, stay-none, stay-none-ref, stay-non
 use denote.Exit.{yes}
 use denote.Triple.Clauses.{Lasts, ensured, lasts}
 use Rattle.model.specs.declared.Job.{Job}
-use Rattle.model.specs.Limits.{maxJobs}
+use Rattle.model.specs.Limits.{maxJobs, maxBounds, maxIntervals}
 use Rattle.model.specs.Jobs.{noJob, jobOf}
 use Rattle.model.proofs.Numbers.{lt-or-le}
 use Rattle.intervals.specs.Times.{SmallBounds}
@@ -74,25 +74,25 @@ use Rattle.fitting.proofs.records.test_jobs.Code as code
 use Rattle.fitting.proofs.records.test_jobs.Code.Mir as body
 
 abbrev Times : RattleType
-Times = Array u64 128
+Times = Array u64 maxBounds
 
 -- the sums
 abbrev PerJob : RattleType
 PerJob = Array u64 64
 
 abbrev Sets : RattleType
-Sets = Array u64 127
+Sets = Array u64 maxIntervals
 
 abbrev stayed : Stays (all.ended .signature .params) (all.ended .kept)
 stayed = (
   stay-none-slice (0 ∷ []) tt (plain (λ _. T.the-row)) yes,
   (
-    stay-none-ref (1 ∷ []) tt (ArrayOf (plain (λ _. u64)) (λ _. tt) 128) yes,
+    stay-none-ref (1 ∷ []) tt (ArrayOf (plain (λ _. u64)) (λ _. tt) maxBounds) yes,
     (
       stay-none (λ _. usize) yes,
       (
         stay-none-ref (1 ∷ []) tt (ArrayOf (plain (λ _. u64)) (λ _. tt) 64) yes,
-        (stay-ref (2 ∷ []) tt (ArrayOf (plain (λ _. u64)) (λ _. tt) 127), tt),
+        (stay-ref (2 ∷ []) tt (ArrayOf (plain (λ _. u64)) (λ _. tt) maxIntervals), tt),
       ),
     ),
   ),
@@ -238,17 +238,17 @@ module _
       jobsTy = sliceTy (tyRef (named 0) imm (pointee (T.the-row .written)))
 
       abbrev timesTy : Ty
-      timesTy = tyRef (named 1) imm (tyArray word 128)
+      timesTy = tyRef (named 1) imm (tyArray word maxBounds)
 
       abbrev sumsTy : Ty
       sumsTy = tyRef (named 1) imm (tyArray word 64)
 
       abbrev setsTy : Ty
-      setsTy = tyRef (named 2) mut (tyArray word 127)
+      setsTy = tyRef (named 2) mut (tyArray word maxIntervals)
 
       -- lent again
       abbrev setsTy′ : Ty
-      setsTy′ = tyRef erased mut (tyArray word 127)
+      setsTy′ = tyRef erased mut (tyArray word maxIntervals)
 
       abbrev En : Env 𝓤 H
       En = (word, l₀) ∷ (jobsTy, l₁) ∷ (timesTy, l₂) ∷ (word, l₃) ∷ (sumsTy, l₄) ∷ (setsTy, l₅) ∷ (word, l₆) ∷ (word, l₇) ∷ (word, l₈) ∷ (tyBool, l₉) ∷ (tyPtr, l₁₀) ∷ (T′.mir, l₁₁) ∷ (setsTy′, l₁₂) ∷ []
@@ -428,12 +428,12 @@ module _ {M : Type 1} (𝓤 : URA M) (H : Heap 𝓤) (A : Atoms 𝓤) (W : Given
   goes = (
     goes-none-slice 𝓤 H A W 3 (0 ∷ []) tt (plain (λ _. T.the-row)) yes,
     (
-      goes-none-ref 𝓤 H A W 3 (1 ∷ []) tt (ArrayOf (plain (λ _. u64)) (λ _. tt) 128) yes,
+      goes-none-ref 𝓤 H A W 3 (1 ∷ []) tt (ArrayOf (plain (λ _. u64)) (λ _. tt) maxBounds) yes,
       (
         goes-none 𝓤 H A W 3 (λ _. usize) yes (λ κs x f. refl),
         (
           goes-none-ref 𝓤 H A W 3 (1 ∷ []) tt (ArrayOf (plain (λ _. u64)) (λ _. tt) 64) yes,
-          (goes-ref 𝓤 H A W 3 2 tt (ArrayOf (plain (λ _. u64)) (λ _. tt) 127), tt),
+          (goes-ref 𝓤 H A W 3 2 tt (ArrayOf (plain (λ _. u64)) (λ _. tt) maxIntervals), tt),
         ),
       ),
     ),

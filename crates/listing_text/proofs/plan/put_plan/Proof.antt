@@ -12,7 +12,7 @@ read-site-requires c κs = search needs
 
 put-lines-requires : tie.Need-put-lines-requires
 put-lines-requires c κs =
-    let listed = c .before .before .before .before .before .before .before .before .before .before .before .before .pre in
+    let listed = c .before .before .before .before .before .before .before .before .before .before .before .before .before .pre in
     shown-plan listed (listed .site) (listed .site-read) (c .before .before .read-site .ensures .held (listed .site) (listed .site-read))
 
 same-length : tie.Need-same-length
@@ -22,7 +22,7 @@ returns : tie.Need-returns
 returns c =
     let put = c .before .before in
     let read = put .before .before .before in
-    let listed = read .before .before .before .before .before .before .before .before .before .before .pre in
+    let listed = read .before .before .before .before .before .before .before .before .before .before .before .pre in
     λ site is. appended-as _ _ (put .put-lines .ensures) _ _ (shown-text listed site is (read .read-site .ensures .held site is)) (omega arith)
 
 pub put-plan-spec : {M : Type 1} → statement M

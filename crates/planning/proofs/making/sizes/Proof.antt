@@ -4,6 +4,7 @@ use mathlib.Core.Path.{_≡_, refl, _∙_}
 use Prim.Native.Nat.{_+_, _-_, _≤_}
 use native.Mathlib.Omega.{arith}
 use lib.ListN.{getD}
+use Rattle.model.specs.Limits.{maxIntervals}
 use Rattle.tables.specs.Column.{columnOf}
 use Rattle.tables.proofs.Column.{column-none, column-more, column-whole}
 use Rattle.planning.proofs.making.sizes.Statement.{statement}
@@ -11,13 +12,13 @@ use Rattle.planning.proofs.making.sizes.Tie as tie
 
 abbrev Inv-loop : tie.InvT-loop
 Inv-loop times intervals lengths₀ i₀ lengths i =
-    (i ≤ intervals) × (lengths ≡ columnOf 127 i (λ k. getD times (k + 1) 0 - getD times k 0))
+    (i ≤ intervals) × (lengths ≡ columnOf maxIntervals i (λ k. getD times (k + 1) 0 - getD times k 0))
 
 abbrev μ-loop : tie.MeasureT-loop
 μ-loop times intervals lengths₀ i₀ lengths i = intervals - i
 
 loop-holds : tie.Need-loop-holds Inv-loop μ-loop
-loop-holds c = (omega arith, c .pre .1 ∙ column-none 127 _)
+loop-holds c = (omega arith, c .pre .1 ∙ column-none maxIntervals _)
 
 add-lengths : tie.Need-add-lengths Inv-loop μ-loop
 add-lengths c = omega arith
@@ -52,10 +53,10 @@ loop-less : tie.Need-loop-less Inv-loop μ-loop
 loop-less c = omega arith
 
 loop-again : tie.Need-loop-again Inv-loop μ-loop
-loop-again c = (omega arith, column-more 127 _ _ _ _ (omega arith) (c .before .before .before .loop .inv .1) refl)
+loop-again c = (omega arith, column-more maxIntervals _ _ _ _ (omega arith) (c .before .before .before .loop .inv .1) refl)
 
 returns : tie.Need-returns Inv-loop μ-loop
-returns c = column-whole 127 _ _ _ _ (c .before .loop .inv .0) (c .loop-test .left) (c .before .loop .inv .1)
+returns c = column-whole maxIntervals _ _ _ _ (c .before .loop .inv .0) (c .loop-test .left) (c .before .loop .inv .1)
 
 pub sizes-spec : {M : Type 1} → statement M
 sizes-spec =

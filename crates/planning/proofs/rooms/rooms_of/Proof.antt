@@ -2,6 +2,7 @@
 -- Assumes nothing.
 use Prim.Native.Nat.{_*_, _≤_}
 use native.Mathlib.Omega.{arith}
+use Rattle.model.specs.Limits.{maxJobs, maxIntervals}
 use Rattle.planning.proofs.RoomSizes.{rooms-few, wanted-rooms}
 use Rattle.planning.proofs.rooms.rooms_of.Statement.{statement}
 use Rattle.planning.proofs.rooms.rooms_of.Tie as tie
@@ -9,8 +10,8 @@ use Rattle.planning.proofs.rooms.rooms_of.Tie as tie
 count-all-requires : tie.Need-count-all-requires
 count-all-requires c κs = let (site, held) = c .pre in omega (arith, held .intervals-are, held .valid .few-bounds)
 
-few : (c : tie.After-count-all) → (c .count-all .result ≤ 8128) × (c .before .args .intervals ≤ 127)
-    × (c .before .args .jobs * c .before .args .intervals ≤ 8128)
+few : (c : tie.After-count-all) → (c .count-all .result ≤ maxJobs * maxIntervals) × (c .before .args .intervals ≤ maxIntervals)
+    × (c .before .args .jobs * c .before .args .intervals ≤ maxJobs * maxIntervals)
 few c = let (site, held) = c .before .pre in rooms-few held _ (c .count-all .ensures)
 
 mul-t5 : tie.Need-mul-t5
