@@ -27,13 +27,7 @@ pub enum CheckAnswer {
 }
 
 // Checks a plan and its price list against a level table, a job table and handover marks. Any bytes are answered.
-pub fn check(
-    levels: &[u8],
-    jobs: &[u8],
-    marks: &[u8],
-    plan: &[u8],
-    prices: &[u8],
-) -> CheckAnswer
+pub fn check(levels: &[u8], jobs: &[u8], marks: &[u8], plan: &[u8], prices: &[u8]) -> CheckAnswer
     ensures { λ r. ⌜ r ≡ checkAnswer (checkOf (now (levels .entry)) (now (jobs .entry)) (now (marks .entry)) (now (plan .entry)) (now (prices .entry))) ⌝ }
 {
     let mut cells = [0u64; SET_WORDS];

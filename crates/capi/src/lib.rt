@@ -275,16 +275,7 @@ pub extern "C" fn ramyearly_touching(
         (record { openJobs = now («open_jobs» .entry); insideJobs = now («inside_jobs» .entry); steps = now (steps .entry) })
         (record { openJobs = now («open_jobs» .exit); insideJobs = now («inside_jobs» .exit); steps = now (steps .exit) }) r ⌝ }
 {
-    let answer = touching::touching(
-        jobs,
-        marks,
-        plan,
-        start,
-        end,
-        open_jobs,
-        inside_jobs,
-        steps,
-    );
+    let answer = touching::touching(jobs, marks, plan, start, end, open_jobs, inside_jobs, steps);
     match answer {
         TouchingAnswer::Touching {
             open_jobs,

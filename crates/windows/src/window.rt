@@ -68,15 +68,7 @@ fn spare_of_tables(
         };
     }
     let count = tables.jobs;
-    SpareAnswer::Spare(window_spare(
-        releases,
-        deadlines,
-        cycles,
-        count,
-        tables.top,
-        start,
-        end,
-    ))
+    SpareAnswer::Spare(window_spare(releases, deadlines, cycles, count, tables.top, start, end))
 }
 
 // The spare of a window for jobs that were read.

@@ -23,6 +23,15 @@ slice-aggregate-read-file-4 c = search needs
 read-file-requires-2 : tie.Need-read-file-requires-2
 read-file-requires-2 c κs = search needs
 
+slice-aggregate-read-file-5 : tie.Need-slice-aggregate-read-file-5
+slice-aggregate-read-file-5 c = search needs
+
+slice-aggregate-read-file-6 : tie.Need-slice-aggregate-read-file-6
+slice-aggregate-read-file-6 c = search needs
+
+read-file-requires-3 : tie.Need-read-file-requires-3
+read-file-requires-3 c κs = search needs
+
 text-buffer-requires : tie.Need-text-buffer-requires
 text-buffer-requires c κs = search needs
 
@@ -38,8 +47,14 @@ array-share-prefix-jobs c = search needs
 slice-aggregate-write-listing-2 : tie.Need-slice-aggregate-write-listing-2
 slice-aggregate-write-listing-2 c = search needs
 
+array-share-prefix-marks : tie.Need-array-share-prefix-marks
+array-share-prefix-marks c = search needs
+
 slice-aggregate-write-listing-3 : tie.Need-slice-aggregate-write-listing-3
 slice-aggregate-write-listing-3 c = search needs
+
+slice-aggregate-write-listing-4 : tie.Need-slice-aggregate-write-listing-4
+slice-aggregate-write-listing-4 c = search needs
 
 write-listing-requires : tie.Need-write-listing-requires
 write-listing-requires c κs = search needs
@@ -66,12 +81,17 @@ main-spec =
     slice-aggregate-read-file-3
     slice-aggregate-read-file-4
     read-file-requires-2
+    slice-aggregate-read-file-5
+    slice-aggregate-read-file-6
+    read-file-requires-3
     text-buffer-requires
     array-share-prefix-levels
     slice-aggregate-write-listing
     array-share-prefix-jobs
     slice-aggregate-write-listing-2
+    array-share-prefix-marks
     slice-aggregate-write-listing-3
+    slice-aggregate-write-listing-4
     write-listing-requires
     array-share-prefix-text
     slice-aggregate-write-all
