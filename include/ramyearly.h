@@ -13,6 +13,13 @@
  * units, which must be below the power of the level after it. It is one of the 1 to 8 entries, but no level. Without it
  * idling draws 0. A plan, and every schedule it is compared with, pays for idling from earliest release to latest deadline.
  *
+ * A mark table has the number of handover marks as 16 bits, at most 8, then their ticks, 32 bits each, of any size and strictly
+ * rising. A mark strictly between earliest release and latest deadline is a bound of intervals, as releases and deadlines are; any
+ * other has no effect, nor has one on a bound that is there without it, or beside an empty job table. No marks are the two bytes
+ * 0 0. Any other table, also one of no bytes, gives 34 with place 0, after the refusals of the job table. A plan and its price list
+ * go with the marks that they were made for: with other bounds the check refuses them. The least exact energy, which a plan that is
+ * written or accepted has, is what it is without marks.
+ *
  * No function uses a heap or writable static data. The deepest stack that was measured, on x86-64, is 12 kB for ordering, 11 kB
  * for checking, 10 kB for planning, 5 kB for touching and for the spare, and 2 kB for the setting and for rounds
  * (docs/BENCHMARK.md). */
@@ -61,11 +68,12 @@ struct ramyearly_touching_answer {
 };
 
 /* Accepts a plan and its price list exactly when the plan gives each job its cycles between release and deadline and the
- * prices fit, and answers the energy figure. Refusals 1 to 10, 15 to 24, 31 and 32. No schedule over the same levels
+ * prices fit, and answers the energy figure. Refusals 1 to 10, 31, 32, 34, and then 15 to 24. No schedule over the same levels
  * that meets all deadlines has less than an accepted plan's exact energy. */
 struct ramyearly_check_answer ramyearly_check(
     const uint8_t *levels, size_t levels_length,
     const uint8_t *jobs, size_t jobs_length,
+    const uint8_t *marks, size_t marks_length,
     const uint8_t *plan, size_t plan_length,
     const uint8_t *prices, size_t prices_length);
 
@@ -82,13 +90,16 @@ struct ramyearly_spare_answer ramyearly_spare(
 
 /* Plans a site. Number 0: the first 4 + 6 x steps bytes of the plan buffer, 2 + 5 x intervals bytes of the price buffer and
  * jobs x intervals shares (that job's cycles at interval x jobs + job) are written, the rest stays; ramyearly_check
- * accepts exactly those bytes and answers the same energy. No schedule over the same levels that meets all deadlines
- * has less than the plan's exact energy. Number 11: start and end are the earliest overfull window, with its spare,
- * and no schedule meets all deadlines. Otherwise refusals 1 to 10, 12 to 14, 31 and 32; the places of 12 to 14 are the
- * lengths wanted, 14 counting 32-bit numbers. Where no plan comes out the buffers stay as they were. */
+ * accepts exactly those bytes with the same marks and answers the same energy. No schedule over the same levels that meets
+ * all deadlines has less than the plan's exact energy. Number 11: start and end are the earliest overfull window, with its
+ * spare, and no schedule meets all deadlines; it is the same window whatever the marks. Otherwise refusals 1 to 10, 31, 32 and
+ * 34 before 11, and 12 to 14 after it, whose places are the lengths wanted, 14 counting 32-bit numbers. Where no plan comes out
+ * the buffers stay as they were. There are at most 135 intervals, and 64 x 72 pairs of a job and an interval where it is open:
+ * 27,652 bytes, 677 bytes and 8,640 numbers are always enough. */
 struct ramyearly_plan_answer ramyearly_plan(
     const uint8_t *levels, size_t levels_length,
     const uint8_t *jobs, size_t jobs_length,
+    const uint8_t *marks, size_t marks_length,
     uint8_t *plan, size_t plan_length,
     uint8_t *prices, size_t prices_length,
     uint32_t *shares, size_t shares_length);
@@ -108,32 +119,34 @@ struct ramyearly_rounds_answer ramyearly_rounds(
 
 /* Writes an accepted plan with its steps in cell order: interval by interval, within one by job number. Number 0: the first
  * `length` bytes of the buffer are written, as many as the plan has, and the rest stays; they have the plan's number of
- * intervals and its steps, each step with its own cycles, and ramyearly_check accepts them with the same levels, jobs and
+ * intervals and its steps, each step with its own cycles, and ramyearly_check accepts them with the same levels, jobs, marks and
  * prices and answers the same energy. A plan that is already in order comes out unchanged. Two accepted plans for one job
- * table come out equal, byte for byte, exactly when every job has the same cycles in every interval; their levels and
- * prices may differ. Otherwise the refusals of ramyearly_check, 1 to 10, 15 to 24, 31 and 32, then 12, whose place is the
- * plan's length, and the buffer stays as it was. The buffer must not overlap the plan: nothing is ordered in place. */
+ * table and the same marks come out equal, byte for byte, exactly when every job has the same cycles in every interval; their
+ * levels and prices may differ. Otherwise the refusals of ramyearly_check, 1 to 10, 31, 32, 34 and 15 to 24, then 12, whose place
+ * is the plan's length, and the buffer stays as it was. The buffer must not overlap the plan: nothing is ordered in place. */
 struct ramyearly_order_answer ramyearly_order(
     const uint8_t *levels, size_t levels_length,
     const uint8_t *jobs, size_t jobs_length,
+    const uint8_t *marks, size_t marks_length,
     const uint8_t *plan, size_t plan_length,
     const uint8_t *prices, size_t prices_length,
     uint8_t *ordered, size_t ordered_length);
 
-/* Lists what touches the span of ticks from `start` up to, not including, `end`, by a job table and a plan for it. Lent are the
- * two, and three lists whose lengths count 32-bit numbers; no levels. Number 0: the first `open`, `inside` and `steps` numbers of
- * the three lists are written, and the rest stays. What is written rises, has each member once and has nothing else:
+/* Lists what touches the span of ticks from `start` up to, not including, `end`, by a job table, its marks and a plan for them.
+ * Lent are these, and three lists whose lengths count 32-bit numbers; no levels. Number 0: the first `open`, `inside` and `steps`
+ * numbers of the three lists are written, and the rest stays. What is written rises, has each member once and has nothing else:
  *   open    the numbers of the jobs open somewhere in the span: released before `end`, with a deadline after `start`
  *   inside  the numbers of the jobs wholly inside it: released at or after `start`, with a deadline at or before `end`
  *   steps   the cells of the plan's steps whose interval shares a tick with it; a cell is interval x 64 + job
  * and `deadline` is the nearest deadline at or after `start`, of all jobs, also of those after the span; 0 where there is none,
  * since no deadline is 0. A list may be exactly as long as what is written; 64 and 64 numbers, and as many as the plan has steps,
  * which is at most 64 x its intervals, are always enough. Otherwise, in this order: 33 where `start` is not before `end`, or `end`
- * is above 1,000,000, before anything is read; the job table's refusals 6 to 10; the plan's 15 to 18, as ramyearly_check
+ * is above 1,000,000, before anything is read; the job table's refusals 6 to 10; 34; the plan's 15 to 18, as ramyearly_check
  * has them; and 14 for the first list that is too short, in the order open, inside, steps, its place the length wanted. All lists
  * then stay as they were. Without levels and prices 19 to 24 never occur: the plan's steps need not add up to its jobs' cycles. */
 struct ramyearly_touching_answer ramyearly_touching(
     const uint8_t *jobs, size_t jobs_length,
+    const uint8_t *marks, size_t marks_length,
     const uint8_t *plan, size_t plan_length,
     uint32_t start, uint32_t end,
     uint32_t *open, size_t open_length,
