@@ -170,6 +170,7 @@ int main(void)
     idle();
     order();
     touching();
+    marks();
     if (!wrong)
         printf("interface: check, setting, spare, plan, rounds, order and touching answer C as they should\n");
     return wrong;

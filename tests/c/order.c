@@ -185,12 +185,11 @@ static void plan_refused(const char *name, struct bytes plan, uint32_t number, u
 /* The places are steps of the plan as it was lent. In cell order the faulty ones stand elsewhere. */
 static void plans_refused(void)
 {
-    struct bytes nothing = { .length = 0 }, mixed = mixed_plan(1, 2, 8), longer = mixed;
-    longer.at[longer.length++] = 0;
+    struct bytes nothing = { .length = 0 }, mixed = mixed_plan(1, 2, 8);
     plan_refused("no bytes of a plan", nothing, 15, 0);
     plan_refused("three bytes of a plan", cut(plan_of(3, 0, NULL)), 15, 0);
     plan_refused("a byte missing", cut(mixed), 15, 0);
-    plan_refused("a byte too many", longer, 15, 0);
+    plan_refused("a byte too many", extended(mixed), 15, 0);
     plan_refused("two intervals", plan_of(2, 0, NULL), 16, 0);
     plan_refused("a job before its release", mixed_plan(0, 2, 8), 17, 4);
     plan_refused("no such interval", mixed_plan(3, 2, 8), 17, 4);

@@ -1,6 +1,7 @@
 #include "support.h"
 
 #include <stdio.h>
+#include <stdlib.h>
 #include <string.h>
 
 #include "calls.h"
@@ -50,6 +51,29 @@ struct bytes cut(struct bytes b)
     return b;
 }
 
+struct bytes extended(struct bytes b)
+{
+    put(&b, 1, 0);
+    return b;
+}
+
+struct list list_of(const char *text)
+{
+    struct list list = { .length = 0 };
+    char *rest;
+    for (unsigned long number = strtoul(text, &rest, 10); rest != text; number = strtoul(text, &rest, 10)) {
+        list.at[list.length++] = (uint32_t)number;
+        text = rest;
+    }
+    return list;
+}
+
+struct bytes marks_at(const char *text)
+{
+    struct list ticks = list_of(text);
+    return table(4, (unsigned)ticks.length, ticks.at, ticks.length);
+}
+
 struct bytes level_pair(void)
 {
     return table(2, 2, (const uint32_t[]) { 2, 4, 10, 20 }, 4);
@@ -85,30 +109,37 @@ void spare_is(const char *name, struct bytes level_table, struct bytes job_table
     same(name, a.spare, wanted.spare);
 }
 
-void check_is(const char *name, struct bytes level_table, struct bytes job_table, struct bytes plan_table, struct bytes price_list,
-    struct ramyearly_check_answer wanted)
+void check_marked_is(const char *name, struct bytes level_table, struct bytes job_table, struct bytes mark_table, struct bytes plan_table,
+    struct bytes price_list, struct ramyearly_check_answer wanted)
 {
-    const uint8_t *levels = level_table.at, *jobs = job_table.at, *plan = plan_table.at, *prices = price_list.at;
-    size_t levels_length = level_table.length, jobs_length = job_table.length, plan_length = plan_table.length, prices_length = price_list.length;
+    const uint8_t *levels = level_table.at, *jobs = job_table.at, *marks = mark_table.at, *plan = plan_table.at, *prices = price_list.at;
+    size_t levels_length = level_table.length, jobs_length = job_table.length, marks_length = mark_table.length;
+    size_t plan_length = plan_table.length, prices_length = price_list.length;
     struct ramyearly_check_answer a = CALL_CHECK;
     same(name, a.number, wanted.number);
     same(name, a.place, wanted.place);
     same(name, a.energy, wanted.energy);
 }
 
-static struct lent marked(void)
+void check_is(const char *name, struct bytes level_table, struct bytes job_table, struct bytes plan_table, struct bytes price_list,
+    struct ramyearly_check_answer wanted)
+{
+    check_marked_is(name, level_table, job_table, marks_at(""), plan_table, price_list, wanted);
+}
+
+static struct lent filled(void)
 {
     struct lent l;
     memset(&l, 0xa5, sizeof l);
     return l;
 }
 
-struct lent plan_is(const char *name, struct bytes level_table, struct bytes job_table, size_t plan_length, size_t prices_length, size_t shares_length,
-    struct ramyearly_plan_answer wanted)
+struct lent plan_marked_is(const char *name, struct bytes level_table, struct bytes job_table, struct bytes mark_table, size_t plan_length,
+    size_t prices_length, size_t shares_length, struct ramyearly_plan_answer wanted)
 {
-    const uint8_t *levels = level_table.at, *jobs = job_table.at;
-    size_t levels_length = level_table.length, jobs_length = job_table.length;
-    struct lent before = marked(), after = before;
+    const uint8_t *levels = level_table.at, *jobs = job_table.at, *marks = mark_table.at;
+    size_t levels_length = level_table.length, jobs_length = job_table.length, marks_length = mark_table.length;
+    struct lent before = filled(), after = before;
     uint8_t *plan = after.plan, *prices = after.prices;
     uint32_t *shares = after.shares;
     struct ramyearly_plan_answer a = CALL_PLAN;
@@ -125,9 +156,15 @@ struct lent plan_is(const char *name, struct bytes level_table, struct bytes job
     return after;
 }
 
+struct lent plan_is(const char *name, struct bytes level_table, struct bytes job_table, size_t plan_length, size_t prices_length, size_t shares_length,
+    struct ramyearly_plan_answer wanted)
+{
+    return plan_marked_is(name, level_table, job_table, marks_at(""), plan_length, prices_length, shares_length, wanted);
+}
+
 void written_is(const char *name, struct lent found, struct bytes plan, struct bytes prices, const uint32_t *shares, size_t count)
 {
-    struct lent wanted = marked();
+    struct lent wanted = filled();
     memcpy(wanted.plan, plan.at, plan.length);
     memcpy(wanted.prices, prices.at, prices.length);
     memcpy(wanted.shares, shares, count * sizeof *shares);
@@ -136,8 +173,8 @@ void written_is(const char *name, struct lent found, struct bytes plan, struct b
     same(name, memcmp(found.shares, wanted.shares, sizeof wanted.shares), 0);
 }
 
-/* The bytes, and the marker up to the end of their room. */
-static struct bytes in_marked(struct bytes b)
+/* The bytes, and the pattern up to the end of their room. */
+static struct bytes in_filled(struct bytes b)
 {
     memset(b.at + b.length, 0xa5, sizeof b.at - b.length);
     return b;
@@ -147,7 +184,7 @@ struct bytes rounds_is(const char *name, struct bytes task_table, size_t jobs_le
 {
     const uint8_t *tasks = task_table.at;
     size_t tasks_length = task_table.length;
-    struct bytes written = in_marked((struct bytes) { .length = 0 }), right = in_marked(job_table);
+    struct bytes written = in_filled((struct bytes) { .length = 0 }), right = in_filled(job_table);
     uint8_t *jobs = written.at;
     struct ramyearly_rounds_answer a = CALL_ROUNDS;
     same(name, a.number, wanted.number);
@@ -165,12 +202,13 @@ void rounds_refused(const char *name, struct bytes task_table, size_t jobs_lengt
     rounds_is(name, task_table, jobs_length, (struct ramyearly_rounds_answer) { .number = number, .place = place }, (struct bytes) { .length = 0 });
 }
 
-struct bytes order_is(const char *name, struct bytes level_table, struct bytes job_table, struct bytes plan_table, struct bytes price_list,
-    size_t ordered_length, struct ramyearly_order_answer wanted, struct bytes ordered_plan)
+struct bytes order_marked_is(const char *name, struct bytes level_table, struct bytes job_table, struct bytes mark_table, struct bytes plan_table,
+    struct bytes price_list, size_t ordered_length, struct ramyearly_order_answer wanted, struct bytes ordered_plan)
 {
-    const uint8_t *levels = level_table.at, *jobs = job_table.at, *plan = plan_table.at, *prices = price_list.at;
-    size_t levels_length = level_table.length, jobs_length = job_table.length, plan_length = plan_table.length, prices_length = price_list.length;
-    struct bytes written = in_marked((struct bytes) { .length = 0 }), right = in_marked(ordered_plan);
+    const uint8_t *levels = level_table.at, *jobs = job_table.at, *marks = mark_table.at, *plan = plan_table.at, *prices = price_list.at;
+    size_t levels_length = level_table.length, jobs_length = job_table.length, marks_length = mark_table.length;
+    size_t plan_length = plan_table.length, prices_length = price_list.length;
+    struct bytes written = in_filled((struct bytes) { .length = 0 }), right = in_filled(ordered_plan);
     uint8_t *ordered = written.at;
     struct ramyearly_order_answer a = CALL_ORDER;
     same(name, a.number, wanted.number);
@@ -182,11 +220,23 @@ struct bytes order_is(const char *name, struct bytes level_table, struct bytes j
     return written;
 }
 
+struct bytes order_is(const char *name, struct bytes level_table, struct bytes job_table, struct bytes plan_table, struct bytes price_list,
+    size_t ordered_length, struct ramyearly_order_answer wanted, struct bytes ordered_plan)
+{
+    return order_marked_is(name, level_table, job_table, marks_at(""), plan_table, price_list, ordered_length, wanted, ordered_plan);
+}
+
+void order_marked_refused(const char *name, struct bytes level_table, struct bytes job_table, struct bytes mark_table, struct bytes plan_table,
+    struct bytes price_list, size_t ordered_length, uint32_t number, uint32_t place)
+{
+    order_marked_is(name, level_table, job_table, mark_table, plan_table, price_list, ordered_length,
+        (struct ramyearly_order_answer) { .number = number, .place = place }, (struct bytes) { .length = 0 });
+}
+
 void order_refused(const char *name, struct bytes level_table, struct bytes job_table, struct bytes plan_table, struct bytes price_list,
     size_t ordered_length, uint32_t number, uint32_t place)
 {
-    order_is(name, level_table, job_table, plan_table, price_list, ordered_length,
-        (struct ramyearly_order_answer) { .number = number, .place = place }, (struct bytes) { .length = 0 });
+    order_marked_refused(name, level_table, job_table, marks_at(""), plan_table, price_list, ordered_length, number, place);
 }
 
 /* The memory that the three lists stand in: longer than any of them, with numbers before the list and after it. */
@@ -196,7 +246,7 @@ struct lists {
     uint32_t open[MEMORY], inside[MEMORY], steps[MEMORY];
 };
 
-static struct lists marked_lists(void)
+static struct lists filled_lists(void)
 {
     struct lists l;
     memset(&l, 0xa5, sizeof l);
@@ -208,24 +258,24 @@ static void put_list(uint32_t *memory, const struct list *list)
     memcpy(memory + BEFORE, list->at, list->length * sizeof *list->at);
 }
 
-static struct ramyearly_touching_answer touching_in(struct lists *lists, struct bytes job_table, struct bytes plan_table, uint32_t start,
-    uint32_t end, struct room room)
+static struct ramyearly_touching_answer touching_in(struct lists *lists, struct bytes job_table, struct bytes mark_table, struct bytes plan_table,
+    uint32_t start, uint32_t end, struct room room)
 {
-    const uint8_t *jobs = job_table.at, *plan = plan_table.at;
-    size_t jobs_length = job_table.length, plan_length = plan_table.length;
+    const uint8_t *jobs = job_table.at, *marks = mark_table.at, *plan = plan_table.at;
+    size_t jobs_length = job_table.length, marks_length = mark_table.length, plan_length = plan_table.length;
     uint32_t *open = lists->open + BEFORE, *inside = lists->inside + BEFORE, *steps = lists->steps + BEFORE;
     size_t open_length = room.open, inside_length = room.inside, steps_length = room.steps;
     return CALL_TOUCHING;
 }
 
-void touching_is(const char *name, struct bytes job_table, struct bytes plan_table, uint32_t start, uint32_t end, struct room room,
-    const struct touched *wanted)
+void touching_marked_is(const char *name, struct bytes job_table, struct bytes mark_table, struct bytes plan_table, uint32_t start, uint32_t end,
+    struct room room, const struct touched *wanted)
 {
-    struct lists written = marked_lists(), right = written;
+    struct lists written = filled_lists(), right = written;
     put_list(right.open, &wanted->open);
     put_list(right.inside, &wanted->inside);
     put_list(right.steps, &wanted->steps);
-    struct ramyearly_touching_answer a = touching_in(&written, job_table, plan_table, start, end, room);
+    struct ramyearly_touching_answer a = touching_in(&written, job_table, mark_table, plan_table, start, end, room);
     same(name, a.number, 0);
     same(name, a.place, 0);
     same(name, a.open, wanted->open.length);
@@ -235,11 +285,17 @@ void touching_is(const char *name, struct bytes job_table, struct bytes plan_tab
     same(name, memcmp(&written, &right, sizeof right), 0);
 }
 
-void touching_refused(const char *name, struct bytes job_table, struct bytes plan_table, uint32_t start, uint32_t end, struct room room,
-    uint32_t number, uint32_t place)
+void touching_is(const char *name, struct bytes job_table, struct bytes plan_table, uint32_t start, uint32_t end, struct room room,
+    const struct touched *wanted)
 {
-    struct lists written = marked_lists(), right = written;
-    struct ramyearly_touching_answer a = touching_in(&written, job_table, plan_table, start, end, room);
+    touching_marked_is(name, job_table, marks_at(""), plan_table, start, end, room, wanted);
+}
+
+void touching_marked_refused(const char *name, struct bytes job_table, struct bytes mark_table, struct bytes plan_table, uint32_t start,
+    uint32_t end, struct room room, uint32_t number, uint32_t place)
+{
+    struct lists written = filled_lists(), right = written;
+    struct ramyearly_touching_answer a = touching_in(&written, job_table, mark_table, plan_table, start, end, room);
     same(name, a.number, number);
     same(name, a.place, place);
     same(name, a.open, 0);
@@ -247,4 +303,10 @@ void touching_refused(const char *name, struct bytes job_table, struct bytes pla
     same(name, a.steps, 0);
     same(name, a.deadline, 0);
     same(name, memcmp(&written, &right, sizeof right), 0);
+}
+
+void touching_refused(const char *name, struct bytes job_table, struct bytes plan_table, uint32_t start, uint32_t end, struct room room,
+    uint32_t number, uint32_t place)
+{
+    touching_marked_refused(name, job_table, marks_at(""), plan_table, start, end, room, number, place);
 }

@@ -1,6 +1,4 @@
 /* The cases of what touches a span. */
-#include <stdlib.h>
-
 #include "support.h"
 
 static const struct room NONE = { 0, 0, 0 }, LONG = { 100, 100, 100 };
@@ -27,18 +25,6 @@ static struct bytes plan_with(uint32_t interval, uint32_t job, uint32_t cycles)
 static struct bytes mixed_plan(void)
 {
     return plan_with(2, 0, 1);
-}
-
-/* Numbers with blanks between. */
-static struct list list_of(const char *text)
-{
-    struct list list = { .length = 0 };
-    char *rest;
-    for (unsigned long number = strtoul(text, &rest, 10); rest != text; number = strtoul(text, &rest, 10)) {
-        list.at[list.length++] = (uint32_t)number;
-        text = rest;
-    }
-    return list;
 }
 
 static struct room just_enough(const struct touched *wanted)
@@ -227,14 +213,12 @@ static void jobs_refused(const char *name, struct bytes jobs, uint32_t number, u
 
 static void tables_refused(void)
 {
-    struct bytes longer = four_jobs();
-    longer.at[longer.length++] = 0;
     jobs_refused("no bytes of jobs", (struct bytes) { .length = 0 }, 6, 0);
     jobs_refused("a byte of jobs", cut(table(4, 0, NULL, 0)), 6, 0);
     jobs_refused("65 jobs", table(4, 65, NULL, 0), 7, 0);
     jobs_refused("64 jobs and no bytes of them", table(4, 64, NULL, 0), 8, 0);
     jobs_refused("a byte of jobs missing", cut(four_jobs()), 8, 0);
-    jobs_refused("a byte of jobs too many", longer, 8, 0);
+    jobs_refused("a byte of jobs too many", extended(four_jobs()), 8, 0);
     jobs_refused("an empty window", table(4, 2, (const uint32_t[]) { 2, 9, 6, 6, 7, 5 }, 6), 9, 1);
     jobs_refused("a deadline past the limit", table(4, 2, (const uint32_t[]) { 2, 1000001, 4, 6, 7, 5 }, 6), 9, 0);
     jobs_refused("a job without cycles", table(4, 2, (const uint32_t[]) { 2, 9, 4, 6, 7, 0 }, 6), 10, 1);
@@ -250,12 +234,10 @@ static void plan_refused(const char *name, struct bytes plan, uint32_t number, u
 /* The places are steps of the plan as it was lent. The span is one that a faulty step touches, and one that no step touches. */
 static void plans_refused(void)
 {
-    struct bytes longer = mixed_plan();
-    longer.at[longer.length++] = 0;
     plan_refused("no bytes of a plan", (struct bytes) { .length = 0 }, 15, 0);
     plan_refused("three bytes of a plan", cut(plan_of(6, 0, NULL)), 15, 0);
     plan_refused("a byte missing", cut(mixed_plan()), 15, 0);
-    plan_refused("a byte too many", longer, 15, 0);
+    plan_refused("a byte too many", extended(mixed_plan()), 15, 0);
     plan_refused("an interval less", plan_of(5, 0, NULL), 16, 0);
     plan_refused("an interval more", plan_of(7, 0, NULL), 16, 0);
     plan_refused("a job before its release", plan_with(1, 2, 1), 17, 5);
