@@ -6,7 +6,7 @@
 struct tally *tally;
 void (*on_disagreement)(void);
 
-static const char *const names[TABLES] = { "levels", "jobs", "plan", "prices", "tasks" };
+static const char *const names[TABLES] = { "levels", "jobs", "marks", "plan", "prices", "tasks" };
 static struct guarded room[TABLES];
 
 /* The tables of this call, to be printed where it disagrees. */
@@ -32,6 +32,21 @@ struct paper_bytes call_lend(struct numbers *numbers, unsigned which, const stru
     guarded_fill(&room[which], part, table->at);
     lent[which] = (struct paper_bytes) { room[which].lent + part.start, part.length };
     return lent[which];
+}
+
+struct paper_tables call_lend_site(struct numbers *numbers, const struct site_tables *site)
+{
+    struct paper_tables tables;
+    tables.levels = call_lend(numbers, LEVELS, site->levels);
+    tables.jobs = call_lend(numbers, JOBS, site->jobs);
+    tables.marks = call_lend(numbers, MARKS, site->marks);
+    return tables;
+}
+
+struct ramyearly_check_answer call_check(struct paper_tables site, struct paper_bytes plan, struct paper_bytes prices)
+{
+    return ramyearly_check(site.levels.at, site.levels.length, site.jobs.at, site.jobs.length, site.marks.at, site.marks.length,
+        plan.at, plan.length, prices.at, prices.length);
 }
 
 bool call_agrees(void)

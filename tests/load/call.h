@@ -5,7 +5,7 @@
 #include "compare.h"
 #include "guarded.h"
 
-enum { LEVELS, JOBS, PLAN, PRICES, TASKS, TABLES };
+enum { LEVELS, JOBS, MARKS, PLAN, PRICES, TASKS, TABLES };
 
 /* Maps the room that tables are lent from. */
 void call_start(void);
@@ -18,6 +18,10 @@ void call_start_touching(void);
 void call_begin(void);
 /* Lends a copy of the table, read only, at either end of its room. */
 struct paper_bytes call_lend(struct numbers *numbers, unsigned which, const struct table *table);
+/* All three of a site. */
+struct paper_tables call_lend_site(struct numbers *numbers, const struct site_tables *site);
+/* Calls the check. */
+struct ramyearly_check_answer call_check(struct paper_tables site, struct paper_bytes plan, struct paper_bytes prices);
 /* Says it when bytes at the start of a part are not the right ones. Nothing is read past the part. */
 void same_bytes(const char *what, const struct guarded *memory, struct part part, struct paper_bytes wanted);
 /* Whether everything looked at since the beginning was right. */

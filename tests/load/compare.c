@@ -43,13 +43,12 @@ void compare_spare(struct numbers *numbers, const struct table *levels, const st
     call_end("the spare", found.number);
 }
 
-void compare_check(struct numbers *numbers, const struct table *levels, const struct table *jobs, const struct table *plan, const struct table *prices)
+void compare_check(struct numbers *numbers, const struct site_tables *site, const struct table *plan, const struct table *prices)
 {
     call_begin();
-    struct paper_bytes l = call_lend(numbers, LEVELS, levels), j = call_lend(numbers, JOBS, jobs);
+    struct paper_tables t = call_lend_site(numbers, site);
     struct paper_bytes p = call_lend(numbers, PLAN, plan), r = call_lend(numbers, PRICES, prices);
-    struct ramyearly_check_answer found = ramyearly_check(l.at, l.length, j.at, j.length, p.at, p.length, r.at, r.length);
-    struct ramyearly_check_answer wanted = paper_check(l, j, p, r);
+    struct ramyearly_check_answer found = call_check(t, p, r), wanted = paper_check(t, p, r);
     same("number", found.number, wanted.number);
     same("place", found.place, wanted.place);
     same("energy", (int64_t)found.energy, (int64_t)wanted.energy);

@@ -5,11 +5,13 @@
 #include "numbers.h"
 #include "table.h"
 
-enum { REFUSALS = 33 };
+enum { REFUSALS = 34 };
 
-/* What was counted. by_number[0] counts the answers. Lists too short are those of touching, of which each is counted. */
+/* What was counted. by_number[0] counts the answers. Of the plans, some have a mark as a bound, and some have as many intervals or
+ * open pairs as there can be. Lists too short are those of touching, of which each is counted. */
 struct tally {
     uint64_t calls, plans, accepted, ordered, touched, disagreements, by_number[REFUSALS + 1], too_short[PAPER_LISTS];
+    uint64_t cut, most_intervals, most_pairs;
 };
 
 /* Calls are counted here. */
@@ -20,9 +22,14 @@ extern void (*on_disagreement)(void);
 /* Maps the memory that is lent. Once, before all calls. */
 void compare_start(void);
 
+/* The tables of a site, whether or not they are right. */
+struct site_tables {
+    const struct table *levels, *jobs, *marks;
+};
+
 void compare_setting(struct numbers *numbers, const struct table *levels, uint32_t length, uint64_t load);
 void compare_spare(struct numbers *numbers, const struct table *levels, const struct table *jobs, uint32_t start, uint32_t end);
-void compare_check(struct numbers *numbers, const struct table *levels, const struct table *jobs, const struct table *plan, const struct table *prices);
+void compare_check(struct numbers *numbers, const struct site_tables *site, const struct table *plan, const struct table *prices);
 
 /* What planning is lent: bytes, bytes, and 32-bit numbers. */
 struct buffer_lengths {
@@ -31,15 +38,14 @@ struct buffer_lengths {
 
 /* Answers whether a plan came out. Then it stands in the two tables; it was judged by both checks, its shares and prices were
  * looked at. */
-bool compare_plan(struct numbers *numbers, const struct table *levels, const struct table *jobs, struct buffer_lengths lengths,
-    struct table *plan, struct table *prices);
+bool compare_plan(struct numbers *numbers, const struct site_tables *site, struct buffer_lengths lengths, struct table *plan, struct table *prices);
 
 /* Lends a job buffer of that length. Answers whether a job table came out; then it stands in the table. */
 bool compare_rounds(struct numbers *numbers, const struct table *tasks, size_t jobs_length, struct table *jobs);
 
 /* Lends a buffer of that length. Answers whether a plan came out in order; then it stands in the table. It was accepted with the
  * figure of the plan given, and ordered again. */
-bool compare_order(struct numbers *numbers, const struct table *levels, const struct table *jobs, const struct table *plan, const struct table *prices,
+bool compare_order(struct numbers *numbers, const struct site_tables *site, const struct table *plan, const struct table *prices,
     size_t ordered_length, struct table *ordered);
 
 struct window {
@@ -51,18 +57,20 @@ struct list_lengths {
     size_t open, inside, steps;
 };
 
-void compare_touching(struct numbers *numbers, const struct table *jobs, const struct table *plan, struct window span, struct list_lengths lengths);
+/* Lent are the site's jobs and marks. */
+void compare_touching(struct numbers *numbers, const struct site_tables *site, const struct table *plan, struct window span,
+    struct list_lengths lengths);
 
-/* The interval whose setting is asked for, by its length and load, and the window whose spare is. */
+/* The interval whose setting is asked for, by its length and load, and the window whose spare is, and what touches it. */
 struct questions {
     uint32_t length;
     uint64_t load;
     struct window window;
 };
 
-/* Two level tables that must have the same answers: setting, spare, planning with every byte that it writes, and the check and
- * the order of what it wrote. */
-void compare_alike(struct numbers *numbers, const struct table *levels, const struct table *others, const struct table *jobs, struct questions questions);
+/* Two sites that must have the same answers: setting, spare, planning with every byte that it writes, and the check and the order of
+ * what it wrote and what touches the window by it. */
+void compare_alike(struct numbers *numbers, const struct site_tables *one_site, const struct site_tables *other_site, struct questions questions);
 
 /* Says it when a number is not the right one. */
 void same(const char *what, int64_t found, int64_t wanted);

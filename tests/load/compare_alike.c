@@ -2,52 +2,67 @@
 
 #include "call.h"
 
-/* What the archive answers and writes for one level table. No answer has padding, so its bytes are its fields. */
+/* What the archive answers and writes for one site. No answer has padding, so its bytes are its fields. */
 struct answers {
     struct ramyearly_setting_answer setting;
     struct ramyearly_spare_answer spare;
     struct ramyearly_plan_answer planning;
     struct ramyearly_check_answer check;
     struct ramyearly_order_answer order;
+    struct ramyearly_touching_answer touching;
     uint8_t plan[PAPER_PLAN], prices[2 + 5 * PAPER_INTERVALS], ordered[PAPER_PLAN];
-    uint32_t shares[PAPER_INTERVALS * PAPER_JOBS];
+    uint32_t shares[PAPER_INTERVALS * PAPER_JOBS], open[PAPER_JOBS], inside[PAPER_JOBS], steps[PAPER_INTERVALS * PAPER_JOBS];
 };
 
-/* The check and ordering are lent what planning wrote; where no plan came out, that is a few marked bytes. */
-static void ask(struct paper_bytes l, struct paper_bytes j, struct questions questions, struct answers *a)
+#define COUNT(list) (sizeof(list) / sizeof *(list))
+
+/* The check, ordering and touching are lent what planning wrote; where no plan came out, that is a few bytes of a pattern. */
+static void ask_of_plan(struct paper_tables t, struct window span, struct answers *a)
 {
-    memset(a, 0xa5, sizeof *a);
-    a->setting = ramyearly_setting(l.at, l.length, questions.length, questions.load);
-    call_count(a->setting.number);
-    a->spare = ramyearly_spare(l.at, l.length, j.at, j.length, questions.window.start, questions.window.end);
-    call_count(a->spare.number);
-    a->planning = ramyearly_plan(l.at, l.length, j.at, j.length, a->plan, sizeof a->plan, a->prices, sizeof a->prices,
-        a->shares, sizeof a->shares / sizeof *a->shares);
-    call_count(a->planning.number);
-    size_t plan = 4 + 6 * (size_t)a->planning.steps, prices = 2 + 5 * (size_t)a->planning.intervals;
-    a->check = ramyearly_check(l.at, l.length, j.at, j.length, a->plan, plan, a->prices, prices);
+    struct paper_bytes p = { a->plan, 4 + 6 * (size_t)a->planning.steps }, r = { a->prices, 2 + 5 * (size_t)a->planning.intervals };
+    a->check = call_check(t, p, r);
     call_count(a->check.number);
-    a->order = ramyearly_order(l.at, l.length, j.at, j.length, a->plan, plan, a->prices, prices, a->ordered, sizeof a->ordered);
+    a->order = ramyearly_order(t.levels.at, t.levels.length, t.jobs.at, t.jobs.length, t.marks.at, t.marks.length, p.at, p.length, r.at, r.length,
+        a->ordered, sizeof a->ordered);
     call_count(a->order.number);
+    a->touching = ramyearly_touching(t.jobs.at, t.jobs.length, t.marks.at, t.marks.length, p.at, p.length, span.start, span.end,
+        a->open, COUNT(a->open), a->inside, COUNT(a->inside), a->steps, COUNT(a->steps));
+    call_count(a->touching.number);
 }
 
-#define ALIKE(field) same(#field " for both level tables is the same", memcmp(&one.field, &other.field, sizeof one.field) == 0, 1)
+static void ask(struct paper_tables t, struct questions questions, struct answers *a)
+{
+    memset(a, 0xa5, sizeof *a);
+    a->setting = ramyearly_setting(t.levels.at, t.levels.length, questions.length, questions.load);
+    call_count(a->setting.number);
+    a->spare = ramyearly_spare(t.levels.at, t.levels.length, t.jobs.at, t.jobs.length, questions.window.start, questions.window.end);
+    call_count(a->spare.number);
+    a->planning = ramyearly_plan(t.levels.at, t.levels.length, t.jobs.at, t.jobs.length, t.marks.at, t.marks.length,
+        a->plan, sizeof a->plan, a->prices, sizeof a->prices, a->shares, COUNT(a->shares));
+    call_count(a->planning.number);
+    ask_of_plan(t, questions.window, a);
+}
 
-void compare_alike(struct numbers *numbers, const struct table *levels, const struct table *others, const struct table *jobs, struct questions questions)
+#define ALIKE(field) same(#field " for both sites is the same", memcmp(&one.field, &other.field, sizeof one.field) == 0, 1)
+
+void compare_alike(struct numbers *numbers, const struct site_tables *one_site, const struct site_tables *other_site, struct questions questions)
 {
     static struct answers one, other;
     call_begin();
-    struct paper_bytes j = call_lend(numbers, JOBS, jobs);
-    ask(call_lend(numbers, LEVELS, levels), j, questions, &one);
-    ask(call_lend(numbers, LEVELS, others), j, questions, &other);
+    ask(call_lend_site(numbers, one_site), questions, &one);
+    ask(call_lend_site(numbers, other_site), questions, &other);
     ALIKE(setting);
     ALIKE(spare);
     ALIKE(planning);
     ALIKE(check);
     ALIKE(order);
+    ALIKE(touching);
     ALIKE(plan);
     ALIKE(prices);
     ALIKE(shares);
     ALIKE(ordered);
-    call_report("two level tables");
+    ALIKE(open);
+    ALIKE(inside);
+    ALIKE(steps);
+    call_report("two sites");
 }

@@ -12,32 +12,31 @@ void call_start_order(void)
 
 /* The tables of a call. */
 struct lent {
-    struct paper_bytes levels, jobs, plan, prices;
+    struct paper_tables site;
+    struct paper_bytes plan, prices;
 };
 
-static struct lent lend(struct numbers *numbers, const struct table *levels, const struct table *jobs, const struct table *plan,
-    const struct table *prices)
+static struct lent lend(struct numbers *numbers, const struct site_tables *site, const struct table *plan, const struct table *prices)
 {
     struct lent lent;
-    lent.levels = call_lend(numbers, LEVELS, levels);
-    lent.jobs = call_lend(numbers, JOBS, jobs);
+    lent.site = call_lend_site(numbers, site);
     lent.plan = call_lend(numbers, PLAN, plan);
     lent.prices = call_lend(numbers, PRICES, prices);
     return lent;
 }
 
-static struct ramyearly_order_answer order(const struct lent *t, const struct guarded *memory, struct part part)
+static struct ramyearly_order_answer order(const struct lent *lent, const struct guarded *memory, struct part part)
 {
-    return ramyearly_order(t->levels.at, t->levels.length, t->jobs.at, t->jobs.length, t->plan.at, t->plan.length, t->prices.at, t->prices.length,
-        memory->lent + part.start, part.length);
+    const struct paper_tables *t = &lent->site;
+    return ramyearly_order(t->levels.at, t->levels.length, t->jobs.at, t->jobs.length, t->marks.at, t->marks.length,
+        lent->plan.at, lent->plan.length, lent->prices.at, lent->prices.length, memory->lent + part.start, part.length);
 }
 
 /* What came out, lent as the plan: it is accepted with the figure of the plan that was given. */
-static void check_ordered(const struct lent *given, const struct lent *t)
+static void check_ordered(const struct lent *given, const struct lent *written)
 {
-    struct ramyearly_check_answer found = ramyearly_check(t->levels.at, t->levels.length, t->jobs.at, t->jobs.length, t->plan.at, t->plan.length,
-        t->prices.at, t->prices.length);
-    struct ramyearly_check_answer wanted = paper_check(given->levels, given->jobs, given->plan, given->prices);
+    struct ramyearly_check_answer found = call_check(written->site, written->plan, written->prices);
+    struct ramyearly_check_answer wanted = paper_check(given->site, given->plan, given->prices);
     call_count(found.number);
     same("the check of the ordered plan: number", found.number, 0);
     same("the check of the ordered plan: place", found.place, 0);
@@ -45,40 +44,40 @@ static void check_ordered(const struct lent *given, const struct lent *t)
 }
 
 /* Ordering it again changes nothing. */
-static void order_again(const struct lent *t, uint8_t mark)
+static void order_again(const struct lent *written, uint8_t seed)
 {
-    struct part part = guarded_part(&again_buffer, t->plan.length, mark & 2);
-    guarded_mark(&again_buffer, part, mark);
-    struct ramyearly_order_answer found = order(t, &again_buffer, part);
+    struct part part = guarded_part(&again_buffer, written->plan.length, seed & 2);
+    guarded_set_pattern(&again_buffer, part, seed);
+    struct ramyearly_order_answer found = order(written, &again_buffer, part);
     call_count(found.number);
     same("ordered again: number", found.number, 0);
     same("ordered again: place", found.place, 0);
-    same("ordered again: length", found.length, (int64_t)t->plan.length);
-    same_bytes("plan that was ordered again", &again_buffer, part, t->plan);
-    same("ordered again: the bytes beside the buffer stay", guarded_marked_from(&again_buffer, part, part.length, mark), 1);
+    same("ordered again: length", found.length, (int64_t)written->plan.length);
+    same_bytes("plan that was ordered again", &again_buffer, part, written->plan);
+    same("ordered again: the bytes beside the buffer stay", guarded_has_pattern_from(&again_buffer, part, part.length, seed), 1);
 }
 
-bool compare_order(struct numbers *numbers, const struct table *levels, const struct table *jobs, const struct table *plan, const struct table *prices,
+bool compare_order(struct numbers *numbers, const struct site_tables *site, const struct table *plan, const struct table *prices,
     size_t ordered_length, struct table *ordered)
 {
     static uint8_t bytes[PAPER_PLAN];
     call_begin();
-    struct lent given = lend(numbers, levels, jobs, plan, prices), written = given;
-    uint8_t mark = any_byte(numbers);
-    struct part part = guarded_part(&ordered_buffer, ordered_length, mark & 1);
-    guarded_mark(&ordered_buffer, part, mark);
+    struct lent given = lend(numbers, site, plan, prices), written = given;
+    uint8_t seed = any_byte(numbers);
+    struct part part = guarded_part(&ordered_buffer, ordered_length, seed & 1);
+    guarded_set_pattern(&ordered_buffer, part, seed);
     struct ramyearly_order_answer found = order(&given, &ordered_buffer, part);
-    struct ramyearly_order_answer wanted = paper_order(given.levels, given.jobs, given.plan, given.prices, ordered_length, bytes);
+    struct ramyearly_order_answer wanted = paper_order(given.site, given.plan, given.prices, ordered_length, bytes);
     same("number", found.number, wanted.number);
     same("place", found.place, wanted.place);
     same("length", found.length, wanted.length);
     same_bytes("ordered plan", &ordered_buffer, part, (struct paper_bytes) { bytes, wanted.length });
-    same("the buffer's rest stays", guarded_marked_from(&ordered_buffer, part, wanted.length, mark), 1);
+    same("the buffer's rest stays", guarded_has_pattern_from(&ordered_buffer, part, wanted.length, seed), 1);
     bool came_out = found.number == 0 && call_agrees();
     if (came_out) {
         written.plan = (struct paper_bytes) { ordered_buffer.lent + part.start, found.length };
         check_ordered(&given, &written);
-        order_again(&written, mark);
+        order_again(&written, seed);
         table_keep(ordered, written.plan);
         tally->ordered++;
     }

@@ -11,13 +11,13 @@ void call_start_plan(void)
     shares_buffer = guarded_buffer(TABLE_ROOM);
 }
 
-/* The three buffers of one call of planning, marked before it. */
+/* The three buffers of one call of planning, with a pattern from the seed before it. */
 struct buffers {
     struct part plan, prices, shares;
-    uint8_t mark;
+    uint8_t seed;
 };
 
-static struct buffers mark_buffers(struct numbers *numbers, struct buffer_lengths lengths)
+static struct buffers fill_buffers(struct numbers *numbers, struct buffer_lengths lengths)
 {
     uint8_t choice = any_byte(numbers);
     struct buffers buffers = {
@@ -26,18 +26,18 @@ static struct buffers mark_buffers(struct numbers *numbers, struct buffer_length
         guarded_part(&shares_buffer, lengths.shares * sizeof(uint32_t), choice & 4),
         choice
     };
-    guarded_mark(&plan_buffer, buffers.plan, buffers.mark);
-    guarded_mark(&prices_buffer, buffers.prices, buffers.mark);
-    guarded_mark(&shares_buffer, buffers.shares, buffers.mark);
+    guarded_set_pattern(&plan_buffer, buffers.plan, buffers.seed);
+    guarded_set_pattern(&prices_buffer, buffers.prices, buffers.seed);
+    guarded_set_pattern(&shares_buffer, buffers.shares, buffers.seed);
     return buffers;
 }
 
 /* Past what was written, and beside the buffers, nothing has changed. */
 static void rest_stays(const struct buffers *buffers, size_t plan, size_t prices, size_t shares)
 {
-    same("the plan buffer's rest stays", guarded_marked_from(&plan_buffer, buffers->plan, plan, buffers->mark), 1);
-    same("the price buffer's rest stays", guarded_marked_from(&prices_buffer, buffers->prices, prices, buffers->mark), 1);
-    same("the shares' rest stays", guarded_marked_from(&shares_buffer, buffers->shares, shares * sizeof(uint32_t), buffers->mark), 1);
+    same("the plan buffer's rest stays", guarded_has_pattern_from(&plan_buffer, buffers->plan, plan, buffers->seed), 1);
+    same("the price buffer's rest stays", guarded_has_pattern_from(&prices_buffer, buffers->prices, prices, buffers->seed), 1);
+    same("the shares' rest stays", guarded_has_pattern_from(&shares_buffer, buffers->shares, shares * sizeof(uint32_t), buffers->seed), 1);
 }
 
 /* The shares are the plan's cycles, and 0 where it has no step. */
@@ -65,12 +65,21 @@ static void smallest_prices(const struct paper_site *site, struct paper_bytes pl
         same("a price, smallest", prices.at[2 + 4 * n + i], price[i]);
 }
 
+static void count_plan(const struct paper_site *site)
+{
+    const struct paper_marks none = { .count = 0 };
+    tally->plans++;
+    tally->cut += site->intervals.count > paper_intervals(&site->jobs, &none).count;
+    tally->most_intervals += site->intervals.count == PAPER_INTERVALS;
+    tally->most_pairs += paper_pairs(&site->intervals) == PAPER_PAIRS;
+}
+
 /* A plan came out. Its numbers are looked at first, so that nothing is read past what was written. */
-static void judge_plan(const struct buffers *buffers, struct paper_bytes l, struct paper_bytes j, struct ramyearly_plan_answer found,
-    struct table *plan, struct table *prices)
+static void judge_plan(const struct buffers *buffers, struct paper_tables t, struct ramyearly_plan_answer found, struct table *plan,
+    struct table *prices)
 {
     struct paper_site site;
-    paper_read_site(l, j, &site);
+    paper_read_site(t, &site);
     same("no more steps than open pairs", found.steps <= paper_pairs(&site.intervals), 1);
     if (!call_agrees())
         return;
@@ -78,11 +87,11 @@ static void judge_plan(const struct buffers *buffers, struct paper_bytes l, stru
     struct paper_bytes r = { prices_buffer.lent + buffers->prices.start, 2 + 5 * (size_t)found.intervals };
     const uint32_t *shares = (const uint32_t *)(const void *)(shares_buffer.lent + buffers->shares.start);
     rest_stays(buffers, p.length, r.length, (size_t)site.jobs.count * found.intervals);
-    struct ramyearly_check_answer by_paper = paper_check(l, j, p, r);
+    struct ramyearly_check_answer by_paper = paper_check(t, p, r);
     same("the paper's check of the plan: number", by_paper.number, 0);
     same("the paper's check of the plan: place", by_paper.place, 0);
     same("the paper's check of the plan: energy", (int64_t)by_paper.energy, (int64_t)found.energy);
-    struct ramyearly_check_answer by_archive = ramyearly_check(l.at, l.length, j.at, j.length, p.at, p.length, r.at, r.length);
+    struct ramyearly_check_answer by_archive = call_check(t, p, r);
     call_count(by_archive.number);
     same("the archive's check of the plan: number", by_archive.number, 0);
     same("the archive's check of the plan: place", by_archive.place, 0);
@@ -91,21 +100,20 @@ static void judge_plan(const struct buffers *buffers, struct paper_bytes l, stru
         return;
     shares_match(&site, p, shares);
     smallest_prices(&site, p, r);
-    tally->plans++;
+    count_plan(&site);
     table_keep(plan, p);
     table_keep(prices, r);
 }
 
-bool compare_plan(struct numbers *numbers, const struct table *levels, const struct table *jobs, struct buffer_lengths lengths,
-    struct table *plan, struct table *prices)
+bool compare_plan(struct numbers *numbers, const struct site_tables *site, struct buffer_lengths lengths, struct table *plan, struct table *prices)
 {
     call_begin();
-    struct paper_bytes l = call_lend(numbers, LEVELS, levels), j = call_lend(numbers, JOBS, jobs);
-    struct buffers buffers = mark_buffers(numbers, lengths);
-    struct ramyearly_plan_answer found = ramyearly_plan(l.at, l.length, j.at, j.length,
+    struct paper_tables t = call_lend_site(numbers, site);
+    struct buffers buffers = fill_buffers(numbers, lengths);
+    struct ramyearly_plan_answer found = ramyearly_plan(t.levels.at, t.levels.length, t.jobs.at, t.jobs.length, t.marks.at, t.marks.length,
         plan_buffer.lent + buffers.plan.start, lengths.plan, prices_buffer.lent + buffers.prices.start, lengths.prices,
         (uint32_t *)(void *)(shares_buffer.lent + buffers.shares.start), lengths.shares);
-    struct ramyearly_plan_answer wanted = paper_planning(l, j, lengths.plan, lengths.prices, lengths.shares);
+    struct ramyearly_plan_answer wanted = paper_planning(t, lengths.plan, lengths.prices, lengths.shares);
     same("number", found.number, wanted.number);
     same("place", found.place, wanted.place);
     same("intervals", found.intervals, wanted.intervals);
@@ -117,7 +125,7 @@ bool compare_plan(struct numbers *numbers, const struct table *levels, const str
         same("energy", (int64_t)found.energy, 0);
         rest_stays(&buffers, 0, 0, 0);
     } else if (call_agrees()) {
-        judge_plan(&buffers, l, j, found, plan, prices);
+        judge_plan(&buffers, t, found, plan, prices);
     }
     if (!call_agrees())
         printf("  buffers of %zu bytes, %zu bytes and %zu numbers\n", lengths.plan, lengths.prices, lengths.shares);

@@ -15,9 +15,9 @@ bool compare_rounds(struct numbers *numbers, const struct table *tasks, size_t j
     struct paper_jobs released;
     call_begin();
     struct paper_bytes t = call_lend(numbers, TASKS, tasks);
-    uint8_t mark = any_byte(numbers);
-    struct part part = guarded_part(&jobs_buffer, jobs_length, mark & 1);
-    guarded_mark(&jobs_buffer, part, mark);
+    uint8_t seed = any_byte(numbers);
+    struct part part = guarded_part(&jobs_buffer, jobs_length, seed & 1);
+    guarded_set_pattern(&jobs_buffer, part, seed);
     struct ramyearly_rounds_answer found = ramyearly_rounds(t.at, t.length, jobs_buffer.lent + part.start, jobs_length);
     struct ramyearly_rounds_answer wanted = paper_rounds(t, jobs_length, &released);
     same("number", found.number, wanted.number);
@@ -29,7 +29,7 @@ bool compare_rounds(struct numbers *numbers, const struct table *tasks, size_t j
         same("the job table's length", (int64_t)table.length, wanted.length);
         same_bytes("job table", &jobs_buffer, part, bytes_of(&table));
     }
-    same("the job buffer's rest stays", guarded_marked_from(&jobs_buffer, part, wanted.length, mark), 1);
+    same("the job buffer's rest stays", guarded_has_pattern_from(&jobs_buffer, part, wanted.length, seed), 1);
     if (!call_agrees())
         printf("  a job buffer of %zu bytes\n", jobs_length);
     bool came_out = found.number == 0 && call_agrees();

@@ -187,6 +187,50 @@ void damage_jobs(struct numbers *numbers, struct table *table)
     }
 }
 
+/* The ticks from one on: rising by a step, or equal where that is 0. */
+static void set_marks(struct table *table, unsigned count, uint64_t first, uint64_t step)
+{
+    table->length = 2 + 4 * (size_t)count;
+    put(table, 0, 2, count);
+    for (unsigned i = 0; i < count; i++)
+        put(table, 2 + 4 * (size_t)i, 4, first + i * step);
+}
+
+/* As late as the one before or the one after, beside them, or the latest or the first there is. */
+static void damage_tick(struct numbers *numbers, struct table *table, unsigned i)
+{
+    size_t at = 2 + 4 * (size_t)i;
+    uint64_t before = i > 0 ? field(table, at - 4, 4) : 0, after = field(table, at + 4, 4);
+    put(table, at, 4, ONE_OF(numbers, 0, before, before - 1, after, after + 1, UINT32_MAX, any_number(numbers)));
+}
+
+/* A table without ticks has none to damage: it gets equal ones. */
+void damage_marks(struct numbers *numbers, struct table *table)
+{
+    unsigned count = field(table, 0, 2), i = (unsigned)below(numbers, count > 0 ? count : 1);
+    uint64_t tick = one_in(numbers, 2) ? below(numbers, 10) : any_number(numbers);
+    switch (below(numbers, 6)) {
+    case 0:
+        put(table, 0, 2, wrong_count(numbers, count, PAPER_MARKS));
+        break;
+    case 1:
+        set_marks(table, (unsigned)between(numbers, PAPER_MARKS, PAPER_MARKS + 2), tick, 1);
+        break;
+    case 2:
+    case 3:
+        if (count > 0)
+            damage_tick(numbers, table, i);
+        else
+            set_marks(table, (unsigned)between(numbers, 2, PAPER_MARKS), tick, 0);
+        break;
+    case 4:
+        table->length = below(numbers, 2);
+        break;
+    default:
+        damage_bytes(numbers, table);
+    }
+}
+
 /* Windows that end with the period, a tick later, or so late that phase + deadline looks small in 32 bits. */
 static void damage_task_window(struct numbers *numbers, struct table *table, unsigned count, unsigned i)
 {

@@ -8,6 +8,7 @@
 
 void damage_levels(struct numbers *numbers, struct table *table);
 void damage_jobs(struct numbers *numbers, struct table *table);
+void damage_marks(struct numbers *numbers, struct table *table);
 void damage_tasks(struct numbers *numbers, struct table *table);
 /* Missing bytes, further bytes, or one byte changed. */
 void damage_bytes(struct numbers *numbers, struct table *table);

@@ -66,6 +66,9 @@ static struct tally total(void)
         all.ordered += one->ordered;
         all.touched += one->touched;
         all.disagreements += one->disagreements;
+        all.cut += one->cut;
+        all.most_intervals += one->most_intervals;
+        all.most_pairs += one->most_pairs;
         for (unsigned i = 0; i <= REFUSALS; i++)
             all.by_number[i] += one->by_number[i];
         for (unsigned i = 0; i < PAPER_LISTS; i++)
@@ -100,6 +103,14 @@ static bool print_short_lists(const struct tally *t)
     return t->too_short[PAPER_OPEN] > 0 && t->too_short[PAPER_INSIDE] > 0 && t->too_short[PAPER_STEPS] > 0;
 }
 
+/* Answers whether marks cut intervals, up to as many intervals and as many open pairs as there can be. */
+static bool print_cut_plans(const struct tally *t)
+{
+    printf("plans with a mark as a bound: %" PRIu64 ", with %d intervals %" PRIu64 ", with %d open pairs %" PRIu64 "\n", t->cut, PAPER_INTERVALS,
+        t->most_intervals, PAPER_PAIRS, t->most_pairs);
+    return t->cut > 0 && t->most_intervals > 0 && t->most_pairs > 0;
+}
+
 static int run(uint64_t calls)
 {
     for (case_number = 0; total().calls < calls; case_number++)
@@ -111,6 +122,10 @@ static int run(uint64_t calls)
     printf("refusals by number:\n");
     bool each = print_refusals(&all);
     each = print_short_lists(&all) && each;
+    if (!print_cut_plans(&all)) {
+        printf("load: no plan with marks was as large as there can be\n");
+        return 1;
+    }
     if (!each) {
         printf("load: a refusal never occurred\n");
         return 1;

@@ -80,28 +80,28 @@ static struct part canary(const struct guarded *memory, struct part part)
     return (struct part) { at_end ? part.start - length : part.length, length };
 }
 
-static uint8_t pattern(size_t at, uint8_t mark)
+static uint8_t pattern(size_t at, uint8_t seed)
 {
-    return (uint8_t)(mark + at * 29);
+    return (uint8_t)(seed + at * 29);
 }
 
-void guarded_mark(const struct guarded *memory, struct part part, uint8_t mark)
+void guarded_set_pattern(const struct guarded *memory, struct part part, uint8_t seed)
 {
     struct part side = canary(memory, part);
     for (size_t i = 0; i < part.length; i++)
-        memory->writable[part.start + i] = pattern(part.start + i, mark);
+        memory->writable[part.start + i] = pattern(part.start + i, seed);
     for (size_t i = 0; i < side.length; i++)
-        memory->writable[side.start + i] = pattern(side.start + i, mark);
+        memory->writable[side.start + i] = pattern(side.start + i, seed);
 }
 
-bool guarded_marked_from(const struct guarded *memory, struct part part, size_t offset, uint8_t mark)
+bool guarded_has_pattern_from(const struct guarded *memory, struct part part, size_t offset, uint8_t seed)
 {
     struct part side = canary(memory, part);
     for (size_t i = 0; i < side.length; i++)
-        if (memory->writable[side.start + i] != pattern(side.start + i, mark))
+        if (memory->writable[side.start + i] != pattern(side.start + i, seed))
             return false;
     for (size_t i = offset; i < part.length; i++)
-        if (memory->writable[part.start + i] != pattern(part.start + i, mark))
+        if (memory->writable[part.start + i] != pattern(part.start + i, seed))
             return false;
     return true;
 }

@@ -29,9 +29,9 @@ struct guarded guarded_buffer(size_t room);
 struct part guarded_part(const struct guarded *memory, size_t length, bool at_end);
 void guarded_fill(const struct guarded *memory, struct part part, const uint8_t *bytes);
 
-/* Marks the part and the canary bytes on its open side, with a pattern from the mark. */
-void guarded_mark(const struct guarded *memory, struct part part, uint8_t mark);
-/* Whether the canary bytes, and the part from an offset on, still have the mark. */
-bool guarded_marked_from(const struct guarded *memory, struct part part, size_t offset, uint8_t mark);
+/* Fills the part and the canary bytes on its open side with a pattern from the seed. */
+void guarded_set_pattern(const struct guarded *memory, struct part part, uint8_t seed);
+/* Whether the canary bytes, and the part from an offset on, still have that pattern. */
+bool guarded_has_pattern_from(const struct guarded *memory, struct part part, size_t offset, uint8_t seed);
 
 #endif

@@ -8,8 +8,9 @@
 #include "other.h"
 #include "sites.h"
 
-/* The site's tables, a plan for it and what that comes out as; then another plan for the same jobs. */
-static struct table levels, jobs, plan, prices, ordered, other_levels, other_plan, other_prices, other_ordered;
+/* The site's tables, a plan for it and what that comes out as; then another plan for the same jobs and marks. */
+static struct table levels, jobs, marks, plan, prices, ordered, other_levels, other_plan, other_prices, other_ordered;
+static const struct site_tables tables = { &levels, &jobs, &marks }, other_tables = { &other_levels, &jobs, &marks };
 static struct plan steps, other_steps;
 static struct prices list, other_list;
 
@@ -45,11 +46,11 @@ static void make_other(struct numbers *numbers, const struct paper_site *site)
     prices_table(&other_prices, &other_list);
 }
 
-/* Two accepted plans for one job table come out equal exactly when every job has the same cycles in every interval. */
+/* Two accepted plans for one job table and the same marks come out equal exactly when every job has the same cycles in every interval. */
 static void order_other(struct numbers *numbers, const struct paper_site *site)
 {
     make_other(numbers, site);
-    if (!compare_order(numbers, &other_levels, &jobs, &other_plan, &other_prices, any_buffer(numbers, other_plan.length), &other_ordered))
+    if (!compare_order(numbers, &other_tables, &other_plan, &other_prices, any_buffer(numbers, other_plan.length), &other_ordered))
         return;
     bool equal = other_ordered.length == ordered.length && memcmp(other_ordered.at, ordered.at, ordered.length) == 0;
     same("it comes out as the first plan did", equal, paper_same_shares(bytes_of(&other_plan), bytes_of(&plan)));
@@ -66,9 +67,8 @@ static struct shape light_shape(struct numbers *numbers)
 /* The plan that planning writes, or one with steps in all open pairs where that is as good. */
 static bool make_plan(struct numbers *numbers, const struct paper_site *site, bool light)
 {
-    levels_table(&levels, &site->levels);
-    jobs_table(&jobs, &site->jobs);
-    if (!compare_plan(numbers, &levels, &jobs, enough(site), &plan, &prices))
+    tables_of_site(site, &levels, &jobs, &marks);
+    if (!compare_plan(numbers, &tables, enough(site), &plan, &prices))
         return false;
     plan_of_table(&steps, &plan);
     prices_of_table(&list, &prices);
@@ -82,9 +82,8 @@ static bool make_plan(struct numbers *numbers, const struct paper_site *site, bo
 void ordered_plans(struct numbers *numbers)
 {
     bool light = one_in(numbers, 2);
-    struct paper_site site = light ? light_site(numbers, light_shape(numbers))
-                                   : any_site(numbers, is_large(numbers) ? large_shape(numbers) : small_shape(numbers));
-    if (!make_plan(numbers, &site, light) || !compare_order(numbers, &levels, &jobs, &plan, &prices, plan.length, &ordered))
+    struct paper_site site = light ? light_site(numbers, light_shape(numbers)) : small_or_large_site(numbers);
+    if (!make_plan(numbers, &site, light) || !compare_order(numbers, &tables, &plan, &prices, plan.length, &ordered))
         return;
     for (unsigned i = 0; i < 4; i++)
         order_other(numbers, &site);

@@ -1,5 +1,7 @@
 #include "sites.h"
 
+#include "marks.h"
+
 static void add_level(struct paper_levels *levels, uint64_t frequency, uint64_t voltage)
 {
     levels->frequency[levels->count] = (uint32_t)frequency;
@@ -100,7 +102,7 @@ struct shape small_shape(struct numbers *numbers)
     return shape;
 }
 
-struct shape large_shape(struct numbers *numbers)
+static struct shape large_shape(struct numbers *numbers)
 {
     struct shape shape = { .jobs = (unsigned)ONE_OF(numbers, 16, 32, 63, 64) };
     shape.horizon = (uint32_t)ONE_OF(numbers, 20, 200, 1000, PAPER_TIME);
@@ -131,17 +133,21 @@ static void set_window(struct numbers *numbers, struct shape shape, unsigned arr
 }
 
 /* Windows within the horizon, which sometimes ends at the latest deadline that is allowed. No cycles yet. */
-static struct paper_jobs windows(struct numbers *numbers, struct shape shape)
+static struct paper_jobs arranged_windows(struct numbers *numbers, struct shape shape, unsigned arrangement)
 {
     struct paper_jobs jobs = { .count = shape.jobs };
     uint32_t shift = one_in(numbers, 4) ? PAPER_TIME - shape.horizon : 0;
-    unsigned arrangement = (unsigned)below(numbers, 8);
     for (unsigned j = 0; j < jobs.count; j++) {
         set_window(numbers, shape, arrangement, &jobs, j);
         jobs.release[j] += shift;
         jobs.deadline[j] += shift;
     }
     return jobs;
+}
+
+static struct paper_jobs windows(struct numbers *numbers, struct shape shape)
+{
+    return arranged_windows(numbers, shape, (unsigned)below(numbers, 8));
 }
 
 struct paper_jobs any_jobs(struct numbers *numbers, struct shape shape, const struct paper_levels *levels)
@@ -201,9 +207,10 @@ static uint64_t take_cycles(struct numbers *numbers, const struct paper_points *
 /* A job for which nothing is left is left out. */
 struct paper_jobs fitting_jobs(struct numbers *numbers, struct shape shape, const struct paper_levels *levels)
 {
+    const struct paper_marks none = { .count = 0 };
     struct paper_jobs all = windows(numbers, shape), jobs = { .count = 0 };
     struct paper_points points = paper_points(levels);
-    struct paper_intervals intervals = paper_intervals(&all);
+    struct paper_intervals intervals = paper_intervals(&all, &none);
     struct paper_loads loads = { { 0 } };
     for (unsigned j = 0; j < all.count; j++) {
         uint64_t cycles = take_cycles(numbers, &points, &intervals, &loads, j);
@@ -217,9 +224,9 @@ struct paper_jobs fitting_jobs(struct numbers *numbers, struct shape shape, cons
     return jobs;
 }
 
-struct paper_site site_of(struct paper_levels levels, struct paper_jobs jobs)
+struct paper_site site_of(struct paper_levels levels, struct paper_jobs jobs, struct paper_marks marks)
 {
-    return (struct paper_site) { levels, jobs, paper_points(&levels), paper_intervals(&jobs) };
+    return (struct paper_site) { levels, jobs, marks, paper_points(&levels), paper_intervals(&jobs, &marks) };
 }
 
 struct paper_site tiny_site(struct numbers *numbers)
@@ -230,7 +237,7 @@ struct paper_site tiny_site(struct numbers *numbers)
     struct paper_jobs jobs = windows(numbers, shape);
     for (unsigned j = 0; j < jobs.count; j++)
         jobs.cycles[j] = (uint32_t)between(numbers, 1, PAPER_TINY_CYCLES);
-    return site_of(levels, jobs);
+    return site_of(levels, jobs, any_marks(numbers, &jobs));
 }
 
 static uint64_t shortest_interval(const struct paper_intervals *intervals)
@@ -243,21 +250,61 @@ static uint64_t shortest_interval(const struct paper_intervals *intervals)
 }
 
 /* All jobs together have no more cycles than band 1 takes in the shortest interval, where that has one for each. */
+static void set_light_cycles(struct numbers *numbers, struct paper_site *site)
+{
+    unsigned count = site->jobs.count;
+    uint64_t most = shortest_interval(&site->intervals) * (uint64_t)site->points.frequency[1] / (count > 0 ? count : 1);
+    for (unsigned j = 0; j < count; j++)
+        site->jobs.cycles[j] = (uint32_t)(most < 1 ? 1 : one_in(numbers, 2) ? most : between(numbers, 1, most));
+}
+
 struct paper_site light_site(struct numbers *numbers, struct shape shape)
 {
     struct paper_levels levels = any_levels(numbers);
     struct paper_jobs jobs = windows(numbers, shape);
-    struct paper_site site = site_of(levels, jobs);
-    uint64_t most = shortest_interval(&site.intervals) * (uint64_t)site.points.frequency[1] / (jobs.count > 0 ? jobs.count : 1);
-    for (unsigned j = 0; j < jobs.count; j++)
-        site.jobs.cycles[j] = (uint32_t)(most < 1 ? 1 : one_in(numbers, 2) ? most : between(numbers, 1, most));
+    struct paper_site site = site_of(levels, jobs, any_marks(numbers, &jobs));
+    set_light_cycles(numbers, &site);
+    return site;
+}
+
+/* Each job has up to an equal share of what the top frequency does in its window, so that all can be served. */
+static void set_shared_cycles(struct numbers *numbers, struct paper_site *site)
+{
+    struct paper_jobs *jobs = &site->jobs;
+    for (unsigned j = 0; j < jobs->count; j++) {
+        uint64_t share = (uint64_t)(jobs->deadline[j] - jobs->release[j]) * paper_top(&site->levels) / jobs->count;
+        jobs->cycles[j] = (uint32_t)(share < 1 ? 1 : one_in(numbers, 2) ? share : between(numbers, 1, share));
+    }
+}
+
+/* As many jobs, intervals and open pairs as there can be: each window is inside the one before or a step later, and all marks stand
+ * where all jobs are open. */
+static struct paper_site largest_site(struct numbers *numbers)
+{
+    struct shape shape = { PAPER_JOBS, (uint32_t)ONE_OF(numbers, 1000, PAPER_TIME) };
+    struct paper_levels levels = any_levels(numbers);
+    struct paper_jobs jobs = arranged_windows(numbers, shape, (unsigned)between(numbers, 1, 2));
+    struct paper_site site = site_of(levels, jobs, crowded_marks(&jobs));
+    if (one_in(numbers, 2))
+        set_light_cycles(numbers, &site);
+    else
+        set_shared_cycles(numbers, &site);
     return site;
 }
 
 struct paper_site any_site(struct numbers *numbers, struct shape shape)
 {
     struct paper_levels levels = any_levels(numbers);
-    if (one_in(numbers, 6))
-        return site_of(levels, any_jobs(numbers, shape, &levels));
-    return site_of(levels, fitting_jobs(numbers, shape, &levels));
+    struct paper_jobs jobs = one_in(numbers, 6) ? any_jobs(numbers, shape, &levels) : fitting_jobs(numbers, shape, &levels);
+    return site_of(levels, jobs, any_marks(numbers, &jobs));
+}
+
+struct paper_site large_site(struct numbers *numbers)
+{
+    return below(numbers, 4) == 3 ? largest_site(numbers) : any_site(numbers, large_shape(numbers));
+}
+
+struct paper_site small_or_large_site(struct numbers *numbers)
+{
+    return is_large(numbers) ? large_site(numbers) : any_site(numbers, small_shape(numbers));
 }

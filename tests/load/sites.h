@@ -1,4 +1,4 @@
-/* Valid level and job tables of many shapes. */
+/* Valid level and job tables of many shapes, and sites of them with marks. */
 #ifndef SITES_H
 #define SITES_H
 
@@ -17,7 +17,6 @@ struct shape {
 /* True once in 16 times, and never after the last byte of a fuzzer's input: large cases take long. */
 bool is_large(struct numbers *numbers);
 struct shape small_shape(struct numbers *numbers);
-struct shape large_shape(struct numbers *numbers);
 
 /* Jobs that can be served: their cycles are taken from what the intervals have left, and often fill a band exactly. */
 struct paper_jobs fitting_jobs(struct numbers *numbers, struct shape shape, const struct paper_levels *levels);
@@ -25,12 +24,15 @@ struct paper_jobs fitting_jobs(struct numbers *numbers, struct shape shape, cons
 struct paper_jobs any_jobs(struct numbers *numbers, struct shape shape, const struct paper_levels *levels);
 
 /* A site of these tables. */
-struct paper_site site_of(struct paper_levels levels, struct paper_jobs jobs);
+struct paper_site site_of(struct paper_levels levels, struct paper_jobs jobs, struct paper_marks marks);
 /* A site whose placements and schedules can be gone through whole. */
 struct paper_site tiny_site(struct numbers *numbers);
 /* Its jobs are so light that all loads stay in band 1, mostly whichever plan it has: then each is a least one. */
 struct paper_site light_site(struct numbers *numbers, struct shape shape);
-/* Mostly small, mostly fitting. */
+/* Mostly fitting, half of them with marks. */
 struct paper_site any_site(struct numbers *numbers, struct shape shape);
+/* Some have as many jobs, intervals and open pairs as there can be. */
+struct paper_site large_site(struct numbers *numbers);
+struct paper_site small_or_large_site(struct numbers *numbers);
 
 #endif

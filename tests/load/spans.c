@@ -18,29 +18,28 @@ struct window any_window(struct numbers *numbers, const struct paper_jobs *jobs)
 }
 
 /* One of the intervals, or none where there is none; sometimes one tick more or less at either end. */
-static struct window near_interval(struct numbers *numbers, const struct paper_jobs *jobs)
+static struct window near_interval(struct numbers *numbers, const struct paper_intervals *intervals)
 {
-    struct paper_intervals intervals = paper_intervals(jobs);
-    unsigned i = intervals.count > 0 ? (unsigned)below(numbers, intervals.count) : 0;
-    uint64_t start = intervals.bound[i], end = intervals.count > 0 ? intervals.bound[i + 1] : start;
+    unsigned i = intervals->count > 0 ? (unsigned)below(numbers, intervals->count) : 0;
+    uint64_t start = intervals->bound[i], end = intervals->count > 0 ? intervals->bound[i + 1] : start;
     start = ONE_OF(numbers, start, start, start + 1, start - 1);
     end = ONE_OF(numbers, end, end, end + 1, end - 1);
     return (struct window) { (uint32_t)start, (uint32_t)end };
 }
 
-static struct window one_span(struct numbers *numbers, const struct paper_jobs *jobs)
+static struct window one_span(struct numbers *numbers, const struct paper_site *site)
 {
-    uint32_t start = any_time(numbers, jobs);
+    uint32_t start = any_time(numbers, &site->jobs);
     switch (below(numbers, 8)) {
     case 0:
         return (struct window) { start, start + (uint32_t)between(numbers, 1, 2) };
     case 1:
     case 2:
-        return near_interval(numbers, jobs);
+        return near_interval(numbers, &site->intervals);
     case 3:
         return (struct window) { 0, (uint32_t)ONE_OF(numbers, PAPER_TIME, PAPER_TIME, PAPER_TIME + 1, start) };
     default:
-        return any_window(numbers, jobs);
+        return any_window(numbers, &site->jobs);
     }
 }
 
@@ -50,10 +49,10 @@ static bool is_wrong(struct window span)
 }
 
 /* A wrong one is made again, up to two times. */
-struct window any_span(struct numbers *numbers, const struct paper_jobs *jobs)
+struct window any_span(struct numbers *numbers, const struct paper_site *site)
 {
-    struct window span = one_span(numbers, jobs);
+    struct window span = one_span(numbers, site);
     for (unsigned i = 0; i < 2 && is_wrong(span); i++)
-        span = one_span(numbers, jobs);
+        span = one_span(numbers, site);
     return span;
 }

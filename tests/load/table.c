@@ -52,6 +52,21 @@ void jobs_table(struct table *table, const struct paper_jobs *jobs)
         add(table, 4, jobs->cycles[i]);
 }
 
+void marks_table(struct table *table, const struct paper_marks *marks)
+{
+    table->length = 0;
+    add(table, 2, marks->count);
+    for (unsigned i = 0; i < marks->count; i++)
+        add(table, 4, marks->tick[i]);
+}
+
+void tables_of_site(const struct paper_site *site, struct table *levels, struct table *jobs, struct table *marks)
+{
+    levels_table(levels, &site->levels);
+    jobs_table(jobs, &site->jobs);
+    marks_table(marks, &site->marks);
+}
+
 void tasks_table(struct table *table, unsigned count, const struct paper_tasks *tasks)
 {
     table->length = 0;

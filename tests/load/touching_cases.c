@@ -7,15 +7,16 @@
 #include "sites.h"
 #include "spans.h"
 
-static struct table levels, jobs, plan, prices;
+static struct table levels, jobs, marks, plan, prices;
+static const struct site_tables tables = { &levels, &jobs, &marks };
 static struct plan steps;
 
 /* Around the lengths wanted; or any where the call is refused whatever they are. */
-static struct list_lengths any_lists(struct numbers *numbers, const struct table *job_table, const struct table *plan_of_jobs, struct window span)
+static struct list_lengths any_lists(struct numbers *numbers, const struct site_tables *given, const struct table *plan_of_jobs, struct window span)
 {
     static struct paper_touched ignored;
-    struct ramyearly_touching_answer wanted = paper_touching(bytes_of(job_table), bytes_of(plan_of_jobs), span.start, span.end,
-        SIZE_MAX, SIZE_MAX, SIZE_MAX, &ignored);
+    struct ramyearly_touching_answer wanted = paper_touching(bytes_of(given->jobs), bytes_of(given->marks), bytes_of(plan_of_jobs),
+        span.start, span.end, SIZE_MAX, SIZE_MAX, SIZE_MAX, &ignored);
     struct list_lengths lengths;
     lengths.open = any_buffer(numbers, wanted.open);
     lengths.inside = any_buffer(numbers, wanted.inside);
@@ -23,10 +24,10 @@ static struct list_lengths any_lists(struct numbers *numbers, const struct table
     return lengths;
 }
 
-void touch_any(struct numbers *numbers, const struct paper_jobs *near, const struct table *job_table, const struct table *plan_of_jobs)
+void touch_any(struct numbers *numbers, const struct paper_site *near, const struct site_tables *given, const struct table *plan_of_jobs)
 {
     struct window span = any_span(numbers, near);
-    compare_touching(numbers, job_table, plan_of_jobs, span, any_lists(numbers, job_table, plan_of_jobs, span));
+    compare_touching(numbers, given, plan_of_jobs, span, any_lists(numbers, given, plan_of_jobs, span));
 }
 
 /* The plan that planning writes, where one comes out; or one that nobody made least. */
@@ -34,8 +35,7 @@ static void make_steps(struct numbers *numbers, const struct paper_site *site)
 {
     switch (below(numbers, 4)) {
     case 0:
-        levels_table(&levels, &site->levels);
-        if (compare_plan(numbers, &levels, &jobs, enough(site), &plan, &prices)) {
+        if (compare_plan(numbers, &tables, enough(site), &plan, &prices)) {
             plan_of_table(&steps, &plan);
             return;
         }
@@ -69,12 +69,13 @@ static void make_plan(struct numbers *numbers, const struct paper_site *site)
 
 void touched_spans(struct numbers *numbers)
 {
-    struct shape shape = is_large(numbers) ? large_shape(numbers) : small_shape(numbers);
-    struct paper_site site = one_in(numbers, 4) ? light_site(numbers, shape) : any_site(numbers, shape);
-    jobs_table(&jobs, &site.jobs);
+    struct paper_site site = one_in(numbers, 4) ? light_site(numbers, small_shape(numbers)) : small_or_large_site(numbers);
+    tables_of_site(&site, &levels, &jobs, &marks);
     make_plan(numbers, &site);
     if (one_in(numbers, 24))
         damage_jobs(numbers, &jobs);
+    if (one_in(numbers, 24))
+        damage_marks(numbers, &marks);
     for (unsigned i = 0; i < 6; i++)
-        touch_any(numbers, &site.jobs, &jobs, &plan);
+        touch_any(numbers, &site, &tables, &plan);
 }

@@ -162,10 +162,10 @@ static struct paper_refusal prices_refusal(const struct paper_site *site, struct
     return refusal;
 }
 
-struct ramyearly_check_answer paper_check(struct paper_bytes levels, struct paper_bytes jobs, struct paper_bytes plan, struct paper_bytes prices)
+struct ramyearly_check_answer paper_check(struct paper_tables tables, struct paper_bytes plan, struct paper_bytes prices)
 {
     struct paper_site site;
-    struct paper_refusal refusal = paper_read_site(levels, jobs, &site);
+    struct paper_refusal refusal = paper_read_site(tables, &site);
     if (!refusal.number)
         refusal = plan_refusal(&site, plan);
     if (!refusal.number)

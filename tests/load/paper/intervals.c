@@ -15,8 +15,8 @@ void paper_sort(uint32_t *numbers, unsigned count)
         qsort(numbers, count, sizeof *numbers, by_size);
 }
 
-/* All releases and deadlines, sorted, without repeats. Answers their number. */
-static unsigned bounds(const struct paper_jobs *jobs, uint32_t bound[PAPER_BOUNDS])
+/* All releases and deadlines, and the marks that are bounds too, sorted, without repeats. Answers their number. */
+static unsigned bounds(const struct paper_jobs *jobs, const struct paper_marks *marks, uint32_t bound[PAPER_BOUNDS])
 {
     uint32_t times[PAPER_BOUNDS];
     unsigned count = 0, kept = 0;
@@ -24,6 +24,9 @@ static unsigned bounds(const struct paper_jobs *jobs, uint32_t bound[PAPER_BOUND
         times[count++] = jobs->release[j];
         times[count++] = jobs->deadline[j];
     }
+    for (unsigned i = 0; i < marks->count; i++)
+        if (paper_mark_is_bound(jobs, marks->tick[i]))
+            times[count++] = marks->tick[i];
     paper_sort(times, count);
     for (unsigned i = 0; i < count; i++)
         if (i == 0 || times[i] != times[i - 1])
@@ -31,10 +34,10 @@ static unsigned bounds(const struct paper_jobs *jobs, uint32_t bound[PAPER_BOUND
     return kept;
 }
 
-struct paper_intervals paper_intervals(const struct paper_jobs *jobs)
+struct paper_intervals paper_intervals(const struct paper_jobs *jobs, const struct paper_marks *marks)
 {
     struct paper_intervals intervals = { .count = 0 };
-    unsigned times = bounds(jobs, intervals.bound);
+    unsigned times = bounds(jobs, marks, intervals.bound);
     intervals.count = times > 0 ? times - 1 : 0;
     for (unsigned i = 0; i < intervals.count; i++)
         for (unsigned j = 0; j < jobs->count; j++)
@@ -54,14 +57,16 @@ uint64_t paper_length(const struct paper_intervals *intervals, unsigned interval
     return intervals->bound[interval + 1] - intervals->bound[interval];
 }
 
-struct paper_refusal paper_read_site(struct paper_bytes levels, struct paper_bytes jobs, struct paper_site *site)
+struct paper_refusal paper_read_site(struct paper_tables tables, struct paper_site *site)
 {
-    struct paper_refusal refusal = paper_read_levels(levels, &site->levels);
+    struct paper_refusal refusal = paper_read_levels(tables.levels, &site->levels);
     if (!refusal.number)
-        refusal = paper_read_jobs(jobs, &site->jobs);
+        refusal = paper_read_jobs(tables.jobs, &site->jobs);
+    if (!refusal.number)
+        refusal = paper_read_marks(tables.marks, &site->marks);
     if (!refusal.number) {
         site->points = paper_points(&site->levels);
-        site->intervals = paper_intervals(&site->jobs);
+        site->intervals = paper_intervals(&site->jobs, &site->marks);
     }
     return refusal;
 }

@@ -51,10 +51,10 @@ static void write_ordered(struct paper_bytes plan, uint8_t *ordered)
 }
 
 /* Number 0: the bytes that must be written are put there, as many as the plan has. */
-struct ramyearly_order_answer paper_order(struct paper_bytes levels, struct paper_bytes jobs, struct paper_bytes plan, struct paper_bytes prices,
-    size_t ordered_length, uint8_t ordered[PAPER_PLAN])
+struct ramyearly_order_answer paper_order(struct paper_tables tables, struct paper_bytes plan, struct paper_bytes prices, size_t ordered_length,
+    uint8_t ordered[PAPER_PLAN])
 {
-    struct ramyearly_check_answer checked = paper_check(levels, jobs, plan, prices);
+    struct ramyearly_check_answer checked = paper_check(tables, plan, prices);
     if (checked.number)
         return (struct ramyearly_order_answer) { .number = checked.number, .place = checked.place };
     if (ordered_length < plan.length)
@@ -70,7 +70,7 @@ static void take_shares(struct paper_bytes plan, uint32_t shares[STEPS])
         shares[step_at(plan, s).cell] = step_at(plan, s).cycles;
 }
 
-/* Whether every job has the same cycles in every interval, by two accepted plans for one job table. */
+/* Whether every job has the same cycles in every interval, by two accepted plans for one job table and the same marks. */
 bool paper_same_shares(struct paper_bytes plan, struct paper_bytes other)
 {
     uint32_t shares[STEPS], others[STEPS];

@@ -1,4 +1,4 @@
-/* Document 01 and Changes 1 to 3 and 5 of document 02 in plain C, written from the pages alone, to be held against the archive.
+/* Document 01 and Changes 1 to 3, 5 and 6 of document 02 in plain C, written from the pages alone, to be held against the archive.
  * It reads tables, lays out tasks, judges plans, puts them in order, lists what touches a span and says when planning must
  * refuse. It does not plan.
  * Nothing here is meant to be fast: each function follows the words of the pages. */
@@ -15,8 +15,11 @@ enum {
     PAPER_LEVELS = 8,
     PAPER_JOBS = 64,
     PAPER_TASKS = 16,
-    PAPER_BOUNDS = 2 * PAPER_JOBS,
+    PAPER_MARKS = 8,
+    PAPER_BOUNDS = 2 * PAPER_JOBS + PAPER_MARKS,
     PAPER_INTERVALS = PAPER_BOUNDS - 1,
+    /* The most open pairs: no deadline is before a release, and all marks stand between them. */
+    PAPER_PAIRS = PAPER_JOBS * (PAPER_JOBS + PAPER_MARKS),
     /* The length of a plan with a step for every job in every interval. */
     PAPER_PLAN = 4 + 6 * PAPER_INTERVALS * PAPER_JOBS,
     PAPER_TIME = 1000000,
@@ -32,6 +35,11 @@ enum { PAPER_TINY_JOBS = 3, PAPER_TINY_CYCLES = 6, PAPER_TINY_SLOTS = 2 };
 struct paper_bytes {
     const uint8_t *at;
     size_t length;
+};
+
+/* The tables of a site. */
+struct paper_tables {
+    struct paper_bytes levels, jobs, marks;
 };
 
 /* Number 0: nothing is refused. */
@@ -57,6 +65,11 @@ struct paper_tasks {
     uint32_t phase[PAPER_TASKS], period[PAPER_TASKS], deadline[PAPER_TASKS], cycles[PAPER_TASKS];
 };
 
+struct paper_marks {
+    unsigned count;
+    uint32_t tick[PAPER_MARKS];
+};
+
 /* Points 0 to m: idling, then the working levels. */
 struct paper_points {
     unsigned m;
@@ -70,10 +83,11 @@ struct paper_intervals {
     uint64_t open[PAPER_INTERVALS];
 };
 
-/* Both tables, decoded, with what follows from them. */
+/* The tables, decoded, with what follows from them. */
 struct paper_site {
     struct paper_levels levels;
     struct paper_jobs jobs;
+    struct paper_marks marks;
     struct paper_points points;
     struct paper_intervals intervals;
 };
@@ -98,6 +112,10 @@ struct paper_refusal paper_refuse(uint32_t number, uint32_t place);
 struct paper_refusal paper_read_levels(struct paper_bytes bytes, struct paper_levels *levels);
 struct paper_refusal paper_read_jobs(struct paper_bytes bytes, struct paper_jobs *jobs);
 
+/* marks.c */
+struct paper_refusal paper_read_marks(struct paper_bytes bytes, struct paper_marks *marks);
+bool paper_mark_is_bound(const struct paper_jobs *jobs, uint32_t tick);
+
 /* levels.c */
 int64_t paper_idle_power(const struct paper_levels *levels);
 int64_t paper_power(const struct paper_levels *levels, unsigned level);
@@ -108,10 +126,10 @@ struct ramyearly_setting_answer paper_setting(struct paper_bytes levels, uint32_
 
 /* intervals.c */
 void paper_sort(uint32_t *numbers, unsigned count);
-struct paper_intervals paper_intervals(const struct paper_jobs *jobs);
+struct paper_intervals paper_intervals(const struct paper_jobs *jobs, const struct paper_marks *marks);
 bool paper_open(const struct paper_intervals *intervals, unsigned interval, unsigned job);
 uint64_t paper_length(const struct paper_intervals *intervals, unsigned interval);
-struct paper_refusal paper_read_site(struct paper_bytes levels, struct paper_bytes jobs, struct paper_site *site);
+struct paper_refusal paper_read_site(struct paper_tables tables, struct paper_site *site);
 
 /* windows.c */
 int64_t paper_spare_of(const struct paper_site *site, uint32_t start, uint32_t end);
@@ -127,11 +145,11 @@ uint64_t paper_carried_out(const struct paper_site *site, const struct paper_loa
 /* check.c */
 struct paper_refusal paper_steps_refusal(const struct paper_jobs *jobs, const struct paper_intervals *intervals, struct paper_bytes plan);
 struct paper_loads paper_loads(struct paper_bytes plan);
-struct ramyearly_check_answer paper_check(struct paper_bytes levels, struct paper_bytes jobs, struct paper_bytes plan, struct paper_bytes prices);
+struct ramyearly_check_answer paper_check(struct paper_tables tables, struct paper_bytes plan, struct paper_bytes prices);
 
 /* planning.c */
 unsigned paper_pairs(const struct paper_intervals *intervals);
-struct ramyearly_plan_answer paper_planning(struct paper_bytes levels, struct paper_bytes jobs, size_t plan, size_t prices, size_t shares);
+struct ramyearly_plan_answer paper_planning(struct paper_tables tables, size_t plan, size_t prices, size_t shares);
 void paper_smallest_prices(const struct paper_site *site, struct paper_bytes plan, uint8_t price[PAPER_INTERVALS]);
 
 /* rounds.c */
@@ -140,13 +158,13 @@ uint32_t paper_multiple(const struct paper_tasks *tasks);
 struct ramyearly_rounds_answer paper_rounds(struct paper_bytes tasks, size_t jobs_length, struct paper_jobs *jobs);
 
 /* order.c */
-struct ramyearly_order_answer paper_order(struct paper_bytes levels, struct paper_bytes jobs, struct paper_bytes plan, struct paper_bytes prices,
-    size_t ordered_length, uint8_t ordered[PAPER_PLAN]);
+struct ramyearly_order_answer paper_order(struct paper_tables tables, struct paper_bytes plan, struct paper_bytes prices, size_t ordered_length,
+    uint8_t ordered[PAPER_PLAN]);
 bool paper_same_shares(struct paper_bytes plan, struct paper_bytes other);
 
 /* touching.c */
-struct ramyearly_touching_answer paper_touching(struct paper_bytes jobs, struct paper_bytes plan, uint32_t start, uint32_t end,
-    size_t open_length, size_t inside_length, size_t steps_length, struct paper_touched *touched);
+struct ramyearly_touching_answer paper_touching(struct paper_bytes jobs, struct paper_bytes marks, struct paper_bytes plan, uint32_t start,
+    uint32_t end, size_t open_length, size_t inside_length, size_t steps_length, struct paper_touched *touched);
 
 /* search.c */
 bool paper_search(const struct paper_site *site, uint64_t *least);

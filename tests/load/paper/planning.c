@@ -25,10 +25,10 @@ static struct paper_refusal buffers_refusal(const struct paper_site *site, size_
 }
 
 /* Number 0: a plan must come out. Its steps and energy hang on the plan and are left 0 here. */
-struct ramyearly_plan_answer paper_planning(struct paper_bytes levels, struct paper_bytes jobs, size_t plan, size_t prices, size_t shares)
+struct ramyearly_plan_answer paper_planning(struct paper_tables tables, size_t plan, size_t prices, size_t shares)
 {
     struct paper_site site;
-    struct paper_refusal refusal = paper_read_site(levels, jobs, &site);
+    struct paper_refusal refusal = paper_read_site(tables, &site);
     uint32_t start, end;
     if (!refusal.number && paper_overfull(&site, &start, &end))
         return (struct ramyearly_plan_answer) { .number = 11, .start = start, .end = end, .spare = paper_spare_of(&site, start, end) };

@@ -1,4 +1,4 @@
-/* What touches a span of ticks: refusal 33, those of the job table and 15 to 18, then 14 for the first list that is too short. */
+/* What touches a span of ticks: refusal 33, those of the job table, 34 and 15 to 18, then 14 for the first list that is too short. */
 #include "paper.h"
 
 /* The ticks from the first up to, not including, the end. */
@@ -81,17 +81,20 @@ static struct ramyearly_touching_answer list_too_short(enum paper_list list, uin
 }
 
 /* Number 0: the numbers that must be written are put there, as many as the answer says. */
-struct ramyearly_touching_answer paper_touching(struct paper_bytes job_bytes, struct paper_bytes plan, uint32_t start, uint32_t end,
-    size_t open_length, size_t inside_length, size_t steps_length, struct paper_touched *touched)
+struct ramyearly_touching_answer paper_touching(struct paper_bytes job_bytes, struct paper_bytes mark_bytes, struct paper_bytes plan, uint32_t start,
+    uint32_t end, size_t open_length, size_t inside_length, size_t steps_length, struct paper_touched *touched)
 {
     struct paper_jobs jobs;
+    struct paper_marks marks;
     struct ticks span = { start, end };
     if (start >= end || end > PAPER_TIME)
         return refuse(33, 0);
     struct paper_refusal refusal = paper_read_jobs(job_bytes, &jobs);
+    if (!refusal.number)
+        refusal = paper_read_marks(mark_bytes, &marks);
     if (refusal.number)
         return refuse(refusal.number, refusal.place);
-    struct paper_intervals intervals = paper_intervals(&jobs);
+    struct paper_intervals intervals = paper_intervals(&jobs, &marks);
     refusal = paper_steps_refusal(&jobs, &intervals, plan);
     if (refusal.number)
         return refuse(refusal.number, refusal.place);

@@ -43,10 +43,13 @@ bool paper_overfull(const struct paper_site *site, uint32_t *start, uint32_t *en
     return false;
 }
 
+/* No marks are read, and no intervals are cut. */
 struct ramyearly_spare_answer paper_spare(struct paper_bytes levels, struct paper_bytes jobs, uint32_t start, uint32_t end)
 {
     struct paper_site site;
-    struct paper_refusal refusal = paper_read_site(levels, jobs, &site);
+    struct paper_refusal refusal = paper_read_levels(levels, &site.levels);
+    if (!refusal.number)
+        refusal = paper_read_jobs(jobs, &site.jobs);
     if (refusal.number)
         return (struct ramyearly_spare_answer) { .number = refusal.number, .place = refusal.place };
     if (start >= end || end > PAPER_TIME)
