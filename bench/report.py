@@ -104,6 +104,24 @@ def grids(t):
                for f in t.families])
 
 
+def marked_sites(t, folder):
+    """The largest sites with 8 handover marks, and how much longer each call takes than without them."""
+    rows = read(folder, "marked.csv")
+    if not rows:
+        return
+    marked, last = Times(rows), t.sizes[-1]
+    columns = ("plan", "plain", "check", "order", "touching")
+
+    def longer(family, column):
+        sites = zip(marked.sites(family, last), t.sites(family, last))
+        return short(statistics.median(float(with_marks[column]) / float(without[column]) for with_marks, without in sites))
+
+    table(f"Sites of {last} jobs with 8 marks: sizes, planning in microseconds, and times / times without marks",
+          ["family", "intervals", "pairs K", "steps", "planning"] + [f"{c}, ratio" for c in columns],
+          [[f] + [f"{marked.median(f, last, c):.0f}" for c in ("intervals", "pairs", "steps")]
+           + [short(marked.median(f, last, "plan") / 1000)] + [longer(f, c) for c in columns] for f in marked.families])
+
+
 def longest_plans(folder):
     """The longest plan of the sites, and the one with the most steps that there can be."""
     site = max(read(folder, "times.csv"), key=lambda r: int(r["steps"]))
@@ -231,6 +249,7 @@ def all_tables(folder):
     print(f"{len(times.rows)} sites; {writers} the same bytes as ours"
           + (f", and {', '.join(times.peers)} find the same exact energy" if times.peers else ""))
     grids(times)
+    marked_sites(times, folder)
     others(folder)
     print("\nGoals")
     goals(times)

@@ -203,6 +203,10 @@ static void encode(struct site *s)
     for (int j = 0; j < s->jobs; j++)
         at = put(at, 4, s->cycles[j]);
     s->job_length = at - s->job_bytes;
+    at = put(s->mark_bytes, 2, s->marks);
+    for (int m = 0; m < s->marks; m++)
+        at = put(at, 4, s->mark[m]);
+    s->mark_length = at - s->mark_bytes;
 }
 
 void make_site(struct site *s, int family, int jobs, int seed)
@@ -215,6 +219,19 @@ void make_site(struct site *s, int family, int jobs, int seed)
     choose_levels(s, family);
     choose_windows(s, family);
     choose_cycles(s, family);
+    encode(s);
+}
+
+void set_marks(struct site *s)
+{
+    uint32_t first = s->release[0], last = s->deadline[0];
+    for (int j = 1; j < s->jobs; j++) {
+        first = s->release[j] < first ? s->release[j] : first;
+        last = s->deadline[j] > last ? s->deadline[j] : last;
+    }
+    s->marks = MAX_MARKS;
+    for (int m = 0; m < MAX_MARKS; m++)
+        s->mark[m] = first + (last - first) * (m + 1) / (MAX_MARKS + 1);
     encode(s);
 }
 
@@ -239,29 +256,31 @@ void mix_steps(uint8_t *mixed, const uint8_t *plan, int steps)
     }
 }
 
-/* Job j is open from tick j up to tick 128 - j. Every tick of that has one of its cycles, and the middle interval has two ticks. */
+/* Each interval is one tick. Job j is open from tick j up to tick 135 - j, with a cycle in every tick. */
 void make_longest(struct site *s, uint8_t *plan, uint8_t *prices)
 {
-    enum { MIDDLE = MAX_INTERVALS / 2 };
     static const uint32_t level[][2] = { { 1000, 1 } };
     memset(s, 0, sizeof *s);
     s->family = "longest";
     s->jobs = MAX_JOBS;
+    s->marks = MAX_MARKS;
     use_levels(s, 1, level);
     for (int j = 0; j < MAX_JOBS; j++) {
         s->release[j] = j;
-        s->deadline[j] = MAX_INTERVALS + 1 - j;
+        s->deadline[j] = MAX_INTERVALS - j;
         s->cycles[j] = s->deadline[j] - s->release[j];
     }
+    for (int m = 0; m < MAX_MARKS; m++)
+        s->mark[m] = MAX_JOBS + m;
     encode(s);
     uint8_t *cells = put(put(plan, 2, MAX_INTERVALS), 2, MAX_PAIRS), *cycles = cells + 2 * MAX_PAIRS;
     uint8_t *ends = put(prices, 2, MAX_INTERVALS), *numbers = ends + 4 * MAX_INTERVALS;
     for (int i = 0; i < MAX_INTERVALS; i++) {
-        for (int j = 0; j <= i && j < MAX_INTERVALS - i; j++) {
+        for (int j = 0; j < MAX_JOBS && j <= i && j < MAX_INTERVALS - i; j++) {
             cells = put(cells, 2, i * MAX_JOBS + j);
-            cycles = put(cycles, 4, i == MIDDLE ? 2 : 1);
+            cycles = put(cycles, 4, 1);
         }
-        ends = put(ends, 4, i < MIDDLE ? i + 1 : i + 2);
+        ends = put(ends, 4, i + 1);
         numbers = put(numbers, 1, 1);
     }
 }
@@ -303,21 +322,39 @@ static void make_bands(struct network *w, const struct site *s)
         w->price[k] = w->scale / w->gap[k] * w->rise[k];
 }
 
-void make_network(struct network *w, const struct site *s)
+/* Sorts times and removes repeats. */
+static int sort_times(uint32_t *times, int count)
 {
-    uint32_t times[2 * MAX_JOBS];
-    int bounds = 0;
-    memset(w, 0, sizeof *w);
-    w->jobs = s->jobs;
+    int kept = 0;
+    qsort(times, count, sizeof *times, rising);
+    for (int i = 0; i < count; i++)
+        if (kept == 0 || times[i] != times[kept - 1])
+            times[kept++] = times[i];
+    return kept;
+}
+
+/* Releases and deadlines, and the marks between the first of them and the last. */
+static int make_bounds(const struct site *s, uint32_t *times)
+{
     for (int j = 0; j < s->jobs; j++) {
         times[2 * j] = s->release[j];
         times[2 * j + 1] = s->deadline[j];
     }
-    qsort(times, 2 * s->jobs, sizeof *times, rising);
-    for (int i = 0; i < 2 * s->jobs; i++)
-        if (bounds == 0 || times[i] != times[bounds - 1])
-            times[bounds++] = times[i];
-    w->intervals = bounds ? bounds - 1 : 0;
+    int bounds = sort_times(times, 2 * s->jobs);
+    uint32_t first = times[0], last = times[bounds - 1];
+    for (int m = 0; m < s->marks; m++)
+        if (first < s->mark[m] && s->mark[m] < last)
+            times[bounds++] = s->mark[m];
+    return sort_times(times, bounds);
+}
+
+void make_network(struct network *w, const struct site *s)
+{
+    uint32_t times[MAX_BOUNDS];
+    int bounds = make_bounds(s, times);
+    memset(w, 0, sizeof *w);
+    w->jobs = s->jobs;
+    w->intervals = bounds - 1;
     for (int i = 0; i < w->intervals; i++)
         w->size[i] = times[i + 1] - times[i];
     for (int j = 0; j < s->jobs; j++) {

@@ -1,0 +1,222 @@
+#include "calls.h"
+
+#include <stdio.h>
+#include <stdlib.h>
+#include <string.h>
+
+#include "plain.h"
+
+struct buffers {
+    uint8_t plan[4 + 6 * MAX_PAIRS], prices[2 + 5 * MAX_INTERVALS];
+    uint32_t shares[MAX_JOBS * MAX_INTERVALS];
+};
+
+struct site site;
+struct network network;
+struct ramyearly_plan_answer planned;
+static struct ramyearly_plan_answer answered;
+static struct buffers ours, theirs;
+/* Our plan with its steps out of order, and what ordering makes of it. */
+static uint8_t mixed[4 + 6 * MAX_PAIRS], ordered[4 + 6 * MAX_PAIRS];
+/* What touches all ticks, by the same plan. */
+static uint32_t open_jobs[MAX_JOBS], inside_jobs[MAX_JOBS], cells[MAX_PAIRS];
+static struct ramyearly_touching_answer touched;
+static struct totals loads_by_band;
+static uint64_t loads[MAX_INTERVALS];
+static volatile uint64_t kept;
+
+void wrong(const char *who, const char *what)
+{
+    fprintf(stderr, "bench: %s %d jobs, seed %d: %s: %s\n", site.family, site.jobs, site.seed, who, what);
+    exit(1);
+}
+
+typedef __typeof__(ramyearly_plan) planner;
+
+static struct ramyearly_plan_answer plan_with(planner *call, struct buffers *to)
+{
+    return call(site.level_bytes, site.level_length, site.job_bytes, site.job_length, site.mark_bytes, site.mark_length,
+        to->plan, sizeof to->plan, to->prices, sizeof to->prices, to->shares, sizeof to->shares / sizeof *to->shares);
+}
+
+void call_plan(void)
+{
+    planned = plan_with(ramyearly_plan, &ours);
+}
+
+void call_plain(void)
+{
+    answered = plan_with(plain_plan, &theirs);
+}
+
+#ifdef WITH_BEFORE
+struct ramyearly_plan_answer before_plan(
+    const uint8_t *levels, size_t levels_length,
+    const uint8_t *jobs, size_t jobs_length,
+    uint8_t *plan, size_t plan_length,
+    uint8_t *prices, size_t prices_length,
+    uint32_t *shares, size_t shares_length);
+
+void call_plan_before(void)
+{
+    answered = before_plan(site.level_bytes, site.level_length, site.job_bytes, site.job_length, theirs.plan, sizeof theirs.plan,
+        theirs.prices, sizeof theirs.prices, theirs.shares, sizeof theirs.shares / sizeof *theirs.shares);
+}
+#endif
+
+static struct ramyearly_check_answer checked(const uint8_t *steps)
+{
+    return ramyearly_check(site.level_bytes, site.level_length, site.job_bytes, site.job_length, site.mark_bytes, site.mark_length,
+        steps, 4 + 6 * planned.steps, ours.prices, 2 + 5 * planned.intervals);
+}
+
+void call_check(void)
+{
+    kept = checked(ours.plan).energy;
+}
+
+void call_check_mixed(void)
+{
+    kept = checked(mixed).energy;
+}
+
+void call_order(void)
+{
+    kept = ramyearly_order(site.level_bytes, site.level_length, site.job_bytes, site.job_length, site.mark_bytes, site.mark_length,
+        mixed, 4 + 6 * planned.steps, ours.prices, 2 + 5 * planned.intervals, ordered, sizeof ordered).length;
+}
+
+void call_touching(void)
+{
+    touched = ramyearly_touching(site.job_bytes, site.job_length, site.mark_bytes, site.mark_length,
+        mixed, 4 + 6 * planned.steps, 0, MAX_DEADLINE, open_jobs, MAX_JOBS, inside_jobs, MAX_JOBS, cells, MAX_PAIRS);
+}
+
+void call_settings(void)
+{
+    for (uint32_t i = 0; i < planned.intervals; i++)
+        kept = ramyearly_setting(site.level_bytes, site.level_length, network.size[i], loads[i]).extra;
+}
+
+void call_spare(void)
+{
+    kept = ramyearly_spare(site.level_bytes, site.level_length, site.job_bytes, site.job_length, site.release[0], site.deadline[0]).spare;
+}
+
+/* The most tasks and jobs there are: 16 tasks of 64 jobs in 20 ticks, one of period 20, three of 4 and twelve of 5. Each has
+ * phase 0, deadline 1 and one cycle. */
+enum { TASKS = 16 };
+static uint8_t tasks[2 + 16 * TASKS], laid_out[2 + 12 * MAX_JOBS];
+
+void call_rounds(void)
+{
+    kept = ramyearly_rounds(tasks, sizeof tasks, laid_out, sizeof laid_out).length;
+}
+
+void open_tasks(void)
+{
+    tasks[0] = TASKS;
+    for (int i = 0; i < TASKS; i++) {
+        tasks[2 + 8 * i + 4] = i < 1 ? 20 : i < 4 ? 4 : 5;
+        tasks[2 + 8 * TASKS + 8 * i] = tasks[2 + 8 * TASKS + 8 * i + 4] = 1;
+    }
+    call_rounds();
+    if (laid_out[0] != MAX_JOBS)
+        wrong("rounds", "not as many jobs as there are");
+}
+
+/* Our plan's loads, from the shares. */
+static void take_loads(void)
+{
+    memset(&loads_by_band, 0, sizeof loads_by_band);
+    for (int i = 0; i < network.intervals; i++) {
+        loads[i] = 0;
+        for (int j = 0; j < network.jobs; j++)
+            loads[i] += ours.shares[i * network.jobs + j];
+        for (int k = 0; k < network.bands; k++) {
+            int64_t above = (int64_t)loads[i] - network.size[i] * network.lower[k], room = network.size[i] * network.gap[k];
+            if (above > 0)
+                loads_by_band.band[k] += above < room ? above : room;
+        }
+    }
+}
+
+void same_optimum(const char *who, const struct totals *t)
+{
+    if (exact_energy(&network, t) != exact_energy(&network, &loads_by_band))
+        wrong(who, "another exact energy");
+    if (energy_figure(&network, t) != (int64_t)planned.energy)
+        wrong(who, "another figure");
+}
+
+/* Whether another planner has our answer and writes our bytes. */
+static void same_plan(const char *who, void (*call)(void))
+{
+    memset(&theirs, 0, sizeof theirs);
+    call();
+    if (memcmp(&planned, &answered, sizeof planned) || memcmp(&ours, &theirs, sizeof ours))
+        wrong(who, "another plan");
+}
+
+/* Whether all jobs are open in all ticks and inside them, and all steps are listed, in the order of our plan. */
+static void all_touched(void)
+{
+    uint32_t jobs = (uint32_t)site.jobs;
+    call_touching();
+    if (touched.number || touched.open != jobs || touched.inside != jobs || touched.steps != planned.steps)
+        wrong("touching", "not all jobs and steps");
+    for (uint32_t s = 0; s < planned.steps; s++)
+        if (cells[s] != ours.plan[4 + 2 * s] + 256u * ours.plan[5 + 2 * s])
+            wrong("touching", "another cell");
+}
+
+/* Plans the site, and holds what comes out against the check, ordering, touching and the plain planner. */
+static void plan_site(void)
+{
+    make_network(&network, &site);
+    memset(&ours, 0, sizeof ours);
+    call_plan();
+    if (planned.number)
+        wrong("planning", "refused");
+    take_loads();
+    same_optimum("planning", &loads_by_band);
+    struct ramyearly_check_answer c = checked(ours.plan);
+    if (c.number || c.energy != planned.energy)
+        wrong("checking", "does not accept the plan");
+    mix_steps(mixed, ours.plan, planned.steps);
+    call_order();
+    if (kept != 4 + 6 * planned.steps || memcmp(ordered, ours.plan, kept))
+        wrong("ordering", "another plan");
+    all_touched();
+    same_plan("plain planner", call_plain);
+}
+
+void open_site(int family, int jobs, int seed)
+{
+    make_site(&site, family, jobs, seed);
+    plan_site();
+#ifdef WITH_BEFORE
+    same_plan("planning before", call_plan_before);
+#endif
+}
+
+void mark_site(void)
+{
+    wide exact = exact_energy(&network, &loads_by_band);
+    set_marks(&site);
+    plan_site();
+    if (exact_energy(&network, &loads_by_band) != exact)
+        wrong("planning", "another exact energy with marks");
+}
+
+/* Nothing plans it: no site of the families has so many steps. */
+void open_longest(void)
+{
+    make_longest(&site, ours.plan, ours.prices);
+    planned = (struct ramyearly_plan_answer){ .intervals = MAX_INTERVALS, .steps = MAX_PAIRS };
+    mix_steps(mixed, ours.plan, MAX_PAIRS);
+    call_order();
+    if (kept != sizeof ordered || memcmp(ordered, ours.plan, sizeof ordered))
+        wrong("ordering", "another plan");
+    all_touched();
+}
