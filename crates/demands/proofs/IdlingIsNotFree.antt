@@ -16,11 +16,8 @@ use Rattle.model.specs.Jobs.{readJobs}
 use Rattle.model.specs.LevelTables.{beginsIdle, idleEntry, idlePowerOf, runningLevels, readLevels, ValidLevelTable, DrawFits, encodeLevels}
 use Rattle.model.specs.Processors.{Processor, processorOf, readProcessor}
 use Rattle.model.specs.Setting.{setting}
-use Rattle.model.specs.Intervals.{boundsOf}
-use Rattle.model.specs.Sites.{readSite}
+use Rattle.model.specs.Sites.{readTables, readSite}
 use Rattle.model.specs.Windows.{spare}
-use Rattle.model.specs.Checking.{check}
-use Rattle.model.specs.Planning.{planning}
 use Rattle.model.proofs.Numbers.{true-or-false}
 use Rattle.model.proofs.Outcome.{andThen-answered, answer-injective}
 use Rattle.model.proofs.Points.{power-some, points-rise}
@@ -28,11 +25,8 @@ use Rattle.model.proofs.LevelTables.{running-length, plain-begins, plain-table,
 use Rattle.model.proofs.Sites.{sites-are-valid}
 use Rattle.model.proofs.IdleDraw.{idling-is-a-point, draw-keeps-levels, energies-gain-the-draw, schedules-pay-the-draw, draw-moves-no-window}
 use Rattle.tables.proofs.ReadingBack.{encodings-are-bytes}
-use Rattle.planning.specs.declared.operation.PlanAnswer.{PlanAnswer}
-use Rattle.planning.specs.MadePlans.{Buffers}
-use Rattle.planning.specs.PlanAnswers.{PlanContract}
-use Rattle.ordering.specs.Ordering.{order}
 use Rattle.demands.specs.IdlingIsNotFree.{TableOf, with-entry, without-entry, SameAnswers, IdlingIsNotFree}
+use Rattle.demands.proofs.SameSites.{contract-kept, checks-kept, orders-kept}
 use Rattle.demands.proofs.RepeatedRounds.{repeated-rounds}
 
 -- a valid table has an idle entry before its running levels, or none
@@ -76,37 +70,31 @@ module _ (bytes : List ℕ) (small : IsBytes bytes) (processor : Processor) wher
       rw (levels-read-back bytes _ small .1 (table, fits, encoded), plain-begins (processor .levels) valid)
       (ap (λ (power : ℕ). answer (record { idlePower = power; levels = processor .levels })) (sym drawn))
 
--- tables that make the same sites
-module _ (one two : List ℕ) (sites : (jobs : List ℕ) → readSite one jobs ≡ readSite two jobs) where
-  contract-kept : (jobs : List ℕ) (before after : Buffers) (answered : PlanAnswer) → PlanContract one jobs before after answered
-      → PlanContract two jobs before after answered
-  unfolding planning
-  contract-kept jobs before after answered contract =
-      record {
-        outcome = rw (← sites jobs) (contract .outcome);
-        untouched = contract .untouched;
-        written = λ site read. contract .written site (sites jobs ∙ read);
-        best = λ site read. contract .best site (sites jobs ∙ read);
-        window = λ site read. contract .window site (sites jobs ∙ read);
-        never-served = λ site read. contract .never-served site (sites jobs ∙ read);
-        exactly-when-served = λ site read. contract .exactly-when-served site (sites jobs ∙ read);
-      }
+-- levels that are read with all jobs as others are make the same sites
+same-sites : (one two : List ℕ) → ((jobs : List ℕ) → readTables one jobs ≡ readTables two jobs) → (jobs marks : List ℕ) → readSite one jobs marks ≡ readSite two jobs marks
+unfolding readSite
+same-sites one two tables jobs marks = rw (tables jobs)
 
-same-answers : (one two : List ℕ) → readProcessor one ≡ readProcessor two → ((jobs : List ℕ) → readSite one jobs ≡ readSite two jobs) → SameAnswers one two
-unfolding setting spare check order
-same-answers one two same sites =
+same-answers : (one two : List ℕ) → readProcessor one ≡ readProcessor two → ((jobs : List ℕ) → readTables one jobs ≡ readTables two jobs)
+    → SameAnswers one two
+unfolding setting spare
+same-answers one two same tables =
     record {
       processors = same;
+      tables = tables;
       sites = sites;
       settings = λ length load. rw same;
-      spares = λ jobs start end. rw (sites jobs);
-      checks = λ jobs plan prices. rw (sites jobs);
-      orders = λ jobs plan prices room. rw (sites jobs);
-      plans = λ jobs before after answered. (
-        contract-kept one two sites jobs before after answered,
-        contract-kept two one (λ jobs. sym (sites jobs)) jobs before after answered,
+      spares = λ jobs start end. rw (tables jobs);
+      checks = λ jobs marks. checks-kept (sites jobs marks);
+      orders = λ jobs marks. orders-kept (sites jobs marks);
+      plans = λ jobs marks before after answered. (
+        contract-kept (sites jobs marks) before after answered,
+        contract-kept (sym (sites jobs marks)) before after answered,
       );
     }
+  where
+    sites : (jobs marks : List ℕ) → readSite one jobs marks ≡ readSite two jobs marks
+    sites = same-sites one two tables
 
 -- a draw of 0 makes the processor of the running levels alone
 module _ (levels : List Level) (valid : ValidLevels levels) (few : length levels ≤ 7) where
@@ -121,27 +109,27 @@ module _ (levels : List Level) (valid : ValidLevels levels) (few : length levels
   same-processor : processorOf (idleEntry 0 ∷ levels) ≡ processorOf levels
   same-processor = rw (plain-begins levels valid)
 
-  same-sites : (jobs : List ℕ) → readSite (encodeLevels (idleEntry 0 ∷ levels)) jobs ≡ readSite (encodeLevels levels) jobs
-  unfolding readSite
-  same-sites jobs =
+  same-tables : (jobs : List ℕ) → readTables (encodeLevels (idleEntry 0 ∷ levels)) jobs ≡ readTables (encodeLevels levels) jobs
+  unfolding readTables
+  same-tables jobs =
       rw (with-nothing, without)
-      (ap (λ (processor : Processor). andThen (readJobs jobs) λ jobs. answer (record { processor = processor; jobs = jobs; bounds = boundsOf jobs })) same-processor)
+      (ap (λ (processor : Processor). andThen (readJobs jobs) λ jobs. answer (record { processor = processor; jobs = jobs })) same-processor)
 
   nothing-drawn : SameAnswers (encodeLevels (idleEntry 0 ∷ levels)) (encodeLevels levels)
-  nothing-drawn = same-answers _ _ (rw (with-nothing, without) (ap answer same-processor)) same-sites
+  nothing-drawn = same-answers _ _ (rw (with-nothing, without) (ap answer same-processor)) same-tables
 
 pub idling-is-not-free : IdlingIsNotFree
 idling-is-not-free =
     record {
       read = λ bytes small processor. (read-table bytes small processor, table-read bytes small processor);
       point = idling-is-a-point;
-      gained = λ levelBytes jobBytes site tables plan figure such.
-          let valid = sites-are-valid levelBytes jobBytes site tables in
+      gained = λ levelBytes jobBytes markBytes site tables plan figure such.
+          let valid = sites-are-valid levelBytes jobBytes markBytes site tables in
           let gains = energies-gain-the-draw _ (site .processor .levels) (site .jobs) (site .bounds) (valid .bounds) _ in
           record { exact = gains .0; reported = such .energy-figure ∙ gains .1 };
       schedules-pay = λ site schedule. schedules-pay-the-draw _ _ _ schedule;
-      between-repeats = λ laid length multiple told levelBytes plan prices figure accepted site tables r.
-          let repeated = repeated-rounds .checked laid length multiple told levelBytes plan prices figure accepted site tables r in
+      between-repeats = λ laid length multiple told levelBytes markBytes plan prices figure accepted site tables r.
+          let repeated = repeated-rounds .checked laid length multiple told levelBytes markBytes plan prices figure accepted site tables r in
           record {
             apart = repeated .apart;
             plan-pays = repeated .repeated-plan .energy;

@@ -1,5 +1,7 @@
--- The three demands hold, rounds repeat, idling is not free, a plan has one spelling, the window test keeps a running sum, and what
--- touches a span is listed.
+-- The three demands hold, rounds repeat, idling is not free, a plan has one spelling, the window test keeps a running sum, what touches
+-- a span is listed, and handover marks cut intervals.
+pub mod SiteParts
+pub mod SameSites
 pub mod ThreeDemands
 pub mod RepeatedRounds
 pub mod IdlingIsNotFree
@@ -7,3 +9,4 @@ pub mod OneSpelling
 pub mod RunningSums
 pub mod TouchedMembers
 pub mod TouchedSpans
+pub mod HandoverMarks

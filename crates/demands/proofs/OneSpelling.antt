@@ -1,6 +1,6 @@
 -- One spelling of a plan: what a call of ordering answers and leaves, and what holds of the plans that come out.
 -- Assumes nothing.
-use mathlib.Core.Path.{_≡_, refl, sym, _∙_, ap}
+use mathlib.Core.Path.{_≡_, refl, sym, _∙_, ap, ap₂}
 use mathlib.Core.Logic.{_↔_}
 use mathlib.Core.List.{List, _++_}
 use Prim.Native.Nat.{ℕ, _≤_}
@@ -10,13 +10,12 @@ use lib.Seq.{take-at, drop-at}
 use Rattle.model.specs.declared.Job.{Job}
 use Rattle.model.specs.Outcome.{Outcome, refused, answer}
 use Rattle.model.specs.Jobs.{readJobs}
-use Rattle.model.specs.Intervals.{boundsOf}
-use Rattle.model.specs.LevelTables.{readLevels}
+use Rattle.model.specs.Marks.{readMarks, boundsWith}
 use Rattle.model.specs.Sites.{Site, readSite}
 use Rattle.model.specs.Checking.{check}
 use Rattle.model.specs.Accepted.{IsPlan, exactFor}
 use Rattle.model.specs.Demands.{ValidTables}
-use Rattle.model.proofs.Outcome.{answer-injective, andThen-answered}
+use Rattle.model.proofs.Outcome.{answer-injective}
 use Rattle.model.proofs.Sites.{sites-are-valid}
 use Rattle.model.proofs.Accepted.{check-accepts, check-read, check-reads}
 use Rattle.ordering.specs.OrderedPlan.{orderedPlan, Orderable}
@@ -29,6 +28,7 @@ use Rattle.ordering.proofs.InOrder.{in-order-unchanged}
 use Rattle.ordering.proofs.AcceptedAgain.{same-for-jobs, ordered-exact, accepted-again}
 use Rattle.ordering.proofs.Ordering.{order-as-check, order-too-short, order-answers, order-answered}
 use Rattle.ordering.proofs.OrderAnswers.{order-orderable}
+use Rattle.demands.proofs.SiteParts.{site-parts}
 use Rattle.demands.specs.OneSpelling.{OrderingCall, ComesOut, planOut, RefusedCall, WrittenCall, SameCycles, OneSpelling}
 
 -- an answer of a length is that of an ordered plan
@@ -36,23 +36,22 @@ answered-of : (outcome : Outcome (List ℕ)) (size : ℕ) → Ordered size ≡ o
 answered-of (refused number place) size e = let z : _≡_ {A = ℕ} 0 1 = cc e in absurd (omega (arith, z))
 answered-of (answer ordered) size e = (ordered, refl)
 
--- a site has the jobs of its job table, and their bounds
-jobs-of : (levelBytes jobBytes : List ℕ) (site : Site) → readSite levelBytes jobBytes ≡ answer site → (jobs : List Job) → readJobs jobBytes ≡ answer jobs
-    → (site .jobs ≡ jobs) × (site .bounds ≡ boundsOf jobs)
-unfolding readSite
-jobs-of levelBytes jobBytes site read jobs is-jobs =
-    let (entries, levels-read, rest) = andThen-answered (readLevels levelBytes) _ read in
-    let (found, jobs-read, made) = andThen-answered (readJobs jobBytes) _ rest in
+-- a site has the jobs of its job table, and their bounds with the marks
+jobs-of : (levelBytes jobBytes markBytes : List ℕ) (site : Site) → readSite levelBytes jobBytes markBytes ≡ answer site
+    → (jobs : List Job) → readJobs jobBytes ≡ answer jobs → (marks : List ℕ) → readMarks markBytes ≡ answer marks
+    → (site .jobs ≡ jobs) × (site .bounds ≡ boundsWith marks jobs)
+jobs-of levelBytes jobBytes markBytes site read jobs is-jobs marks are-marks =
+    let (found, ticks, jobs-read, marks-read, same-jobs, same-bounds) = site-parts levelBytes jobBytes markBytes site read in
     let same : found ≡ jobs = answer-injective (sym jobs-read ∙ is-jobs) in
-    let is-site = answer-injective made in
-    (ap (λ (s : Site). s .jobs) (sym is-site) ∙ same, ap (λ (s : Site). s .bounds) (sym is-site) ∙ ap boundsOf same)
+    let same-marks : ticks ≡ marks = answer-injective (sym marks-read ∙ are-marks) in
+    (same-jobs ∙ same, same-bounds ∙ ap₂ (λ (m : List ℕ) (j : List Job). boundsWith m j) same-marks same)
 
 module _ (call : OrderingCall) where
   abbrev outcome : Outcome (List ℕ)
-  outcome = order (call .levelBytes) (call .jobBytes) (call .plan) (call .prices) (length (call .before))
+  outcome = order (call .levelBytes) (call .jobBytes) (call .markBytes) (call .plan) (call .prices) (length (call .before))
 
   abbrev Accepts : ℕ → Type 0
-  Accepts figure = check (call .levelBytes) (call .jobBytes) (call .plan) (call .prices) ≡ answer figure
+  Accepts figure = check (call .levelBytes) (call .jobBytes) (call .markBytes) (call .plan) (call .prices) ≡ answer figure
 
   refused-call : (number place : ℕ) → outcome ≡ refused number place → RefusedCall call number place
   refused-call number place e = record { refusal = rw e at (call .contract .answer-is); untouched = rw e at (call .contract .buffer-is) }
@@ -60,18 +59,18 @@ module _ (call : OrderingCall) where
   only-accepted : (size : ℕ) → call .answered ≡ Ordered size → (figure : ℕ) × Accepts figure × (length (call .plan) ≤ length (call .before))
   only-accepted size is =
       let (ordered, e) = answered-of outcome size (sym is ∙ call .contract .answer-is) in
-      order-answered (call .levelBytes) (call .jobBytes) (call .plan) (call .prices) (length (call .before)) ordered e
+      order-answered (call .levelBytes) (call .jobBytes) (call .markBytes) (call .plan) (call .prices) (length (call .before)) ordered e
 
   module _ (figure : ℕ) (accepted : Accepts figure) where
     orderable : Orderable (call .plan)
-    orderable = order-orderable (call .levelBytes) (call .jobBytes) (call .plan) (call .prices) figure accepted
+    orderable = order-orderable (call .levelBytes) (call .jobBytes) (call .markBytes) (call .plan) (call .prices) figure accepted
 
     long : length (orderedPlan (call .plan)) ≡ length (call .plan)
     long = length-ordered (call .plan) orderable
 
     module _ (room : length (call .plan) ≤ length (call .before)) where
       answers : outcome ≡ answer (orderedPlan (call .plan))
-      answers = order-answers (call .levelBytes) (call .jobBytes) (call .plan) (call .prices) (length (call .before)) figure accepted room
+      answers = order-answers (call .levelBytes) (call .jobBytes) (call .markBytes) (call .plan) (call .prices) (length (call .before)) figure accepted room
 
       left : call .after ≡ orderedPlan (call .plan) ++ drop (length (call .plan)) (call .before)
       left = rw (answers, long) at (call .contract .buffer-is)
@@ -102,36 +101,39 @@ module _ (call : OrderingCall) (comes-out : ComesOut call) where
   plan-out = out-is call figure-of accepts (only-accepted call (length (call .plan)) comes-out .2)
 
   -- the plan is one for the jobs of the table
-  plan-of-jobs : (jobs : List Job) → readJobs (call .jobBytes) ≡ answer jobs → IsPlan jobs (boundsOf jobs) (call .plan)
-  plan-of-jobs jobs is-jobs =
-      let (site, read, checked) = check-reads (call .levelBytes) (call .jobBytes) (call .plan) (call .prices) figure-of accepts in
-      let (same-jobs, same-bounds) = jobs-of (call .levelBytes) (call .jobBytes) site read jobs is-jobs in
+  plan-of-jobs : (jobs : List Job) → readJobs (call .jobBytes) ≡ answer jobs → (marks : List ℕ) → readMarks (call .markBytes) ≡ answer marks
+      → IsPlan jobs (boundsWith marks jobs) (call .plan)
+  plan-of-jobs jobs is-jobs marks are-marks =
+      let (site, read, checked) = check-reads (call .levelBytes) (call .jobBytes) (call .markBytes) (call .plan) (call .prices) figure-of accepts in
+      let (same-jobs, same-bounds) = jobs-of (call .levelBytes) (call .jobBytes) (call .markBytes) site read jobs is-jobs marks are-marks in
       rw (same-jobs, same-bounds) at (check-accepts site (call .plan) (call .prices) figure-of .0 checked .0 .is-plan)
 
-  checked-again : check (call .levelBytes) (call .jobBytes) (planOut call) (call .prices)
-      ≡ check (call .levelBytes) (call .jobBytes) (call .plan) (call .prices)
+  checked-again : check (call .levelBytes) (call .jobBytes) (call .markBytes) (planOut call) (call .prices)
+      ≡ check (call .levelBytes) (call .jobBytes) (call .markBytes) (call .plan) (call .prices)
   checked-again =
-      let (site, read, checked) = check-reads (call .levelBytes) (call .jobBytes) (call .plan) (call .prices) figure-of accepts in
-      let again = accepted-again site (sites-are-valid _ _ site read) (call .plan) (call .prices) figure-of checked in
-      rw plan-out (check-read _ _ (orderedPlan (call .plan)) _ site read ∙ again ∙ sym accepts)
+      let (site, read, checked) = check-reads (call .levelBytes) (call .jobBytes) (call .markBytes) (call .plan) (call .prices) figure-of accepts in
+      let again = accepted-again site (sites-are-valid _ _ _ site read) (call .plan) (call .prices) figure-of checked in
+      rw plan-out (check-read _ _ _ (orderedPlan (call .plan)) _ site read ∙ again ∙ sym accepts)
 
-  same-energy : (site : Site) → ValidTables (call .levelBytes) (call .jobBytes) site → exactFor site (planOut call) ≡ exactFor site (call .plan)
+  same-energy : (site : Site) → ValidTables (call .levelBytes) (call .jobBytes) (call .markBytes) site → exactFor site (planOut call) ≡ exactFor site (call .plan)
   same-energy site read =
-      let checked = sym (check-read _ _ _ _ site read) ∙ accepts in
-      rw plan-out (ordered-exact site (sites-are-valid _ _ site read) (call .plan) (call .prices) figure-of checked)
+      let checked = sym (check-read _ _ _ _ _ site read) ∙ accepts in
+      rw plan-out (ordered-exact site (sites-are-valid _ _ _ site read) (call .plan) (call .prices) figure-of checked)
 
 equal-exactly-when : (one two : OrderingCall) → ComesOut one → ComesOut two → one .jobBytes ≡ two .jobBytes
-    → (jobs : List Job) → readJobs (one .jobBytes) ≡ answer jobs → (planOut one ≡ planOut two) ↔ SameCycles jobs (one .plan) (two .plan)
-equal-exactly-when one two first second same-table jobs is-jobs =
+    → (jobs : List Job) → readJobs (one .jobBytes) ≡ answer jobs
+    → one .markBytes ≡ two .markBytes → (marks : List ℕ) → readMarks (one .markBytes) ≡ answer marks
+    → (planOut one ≡ planOut two) ↔ SameCycles jobs marks (one .plan) (two .plan)
+equal-exactly-when one two first second same-table jobs is-jobs same-marks marks are-marks =
     rw (plan-out one first, plan-out two second)
-    (same-for-jobs jobs (boundsOf jobs) (one .plan) (two .plan) (plan-of-jobs one first jobs is-jobs)
-    (plan-of-jobs two second jobs (rw same-table at is-jobs)) (orderable-plan one first) (orderable-plan two second))
+    (same-for-jobs jobs (boundsWith marks jobs) (one .plan) (two .plan) (plan-of-jobs one first jobs is-jobs marks are-marks)
+    (plan-of-jobs two second jobs (rw same-table at is-jobs) marks (rw same-marks at are-marks)) (orderable-plan one first) (orderable-plan two second))
 
 pub one-spelling : OneSpelling
 one-spelling =
     record {
-      as-the-check = λ call number place e. refused-call call number place (order-as-check _ _ _ _ _ number place e);
-      too-short = λ call figure accepted short. refused-call call 12 (length (call .plan)) (order-too-short _ _ _ _ _ figure accepted short);
+      as-the-check = λ call number place e. refused-call call number place (order-as-check _ _ _ _ _ _ number place e);
+      too-short = λ call figure accepted short. refused-call call 12 (length (call .plan)) (order-too-short _ _ _ _ _ _ figure accepted short);
       written = written-call;
       only-accepted = only-accepted;
       equal-exactly-when = equal-exactly-when;
@@ -141,10 +143,11 @@ one-spelling =
       ordered-again = λ first second out is-plan out-again.
           plan-out second out-again
           ∙ (ap orderedPlan (is-plan ∙ plan-out first out) ∙ (ordered-again (first .plan) (orderable-plan first out) ∙ sym (plan-out first out)));
-      every-call = λ levelBytes jobBytes plan prices before after answered contract. (
+      every-call = λ levelBytes jobBytes markBytes plan prices before after answered contract. (
         record {
           levelBytes = levelBytes;
           jobBytes = jobBytes;
+          markBytes = markBytes;
           plan = plan;
           prices = prices;
           before = before;
@@ -152,6 +155,7 @@ one-spelling =
           answered = answered;
           contract = contract;
         },
+        refl,
         refl,
         refl,
         refl,

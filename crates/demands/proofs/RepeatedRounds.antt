@@ -10,14 +10,13 @@ use lib.Seq.{take-at}
 use borrow.Author.Tests.{lt-ltb}
 use Rattle.model.specs.declared.Job.{Job}
 use Rattle.model.specs.Outcome.{Outcome, refused, answer}
-use Rattle.model.specs.LevelTables.{readLevels}
 use Rattle.model.specs.Jobs.{readJobs, encodeJobs}
 use Rattle.model.specs.Processors.{topOf}
-use Rattle.model.specs.Sites.{Site, siteOf, readSite}
+use Rattle.model.specs.Sites.{Site}
 use Rattle.model.specs.Windows.{cyclesInside, isOverfull}
 use Rattle.model.specs.Accepted.{Accepted}
 use Rattle.model.specs.Demands.{ValidTables}
-use Rattle.model.proofs.Outcome.{andThen-answered, answer-injective}
+use Rattle.model.proofs.Outcome.{answer-injective}
 use Rattle.model.proofs.Sites.{sites-are-valid, sound-site}
 use Rattle.model.proofs.Accepted.{check-accepts, check-read}
 use Rattle.model.proofs.Hypotheses.{every-valid-table}
@@ -27,6 +26,7 @@ use Rattle.rounds.specs.declared.operation.RoundsAnswer.the-variants.{LaidOut}
 use Rattle.rounds.specs.RoundAnswers.{roundsAnswer}
 use Rattle.repeats.proofs.OverfullRepeats.{overfull-repeats}
 use Rattle.repeats.proofs.RoundsThatRepeat.{rounds-that-repeat}
+use Rattle.demands.proofs.SiteParts.{site-parts}
 use Rattle.demands.specs.RepeatedRounds.{LayOutCall, jobsWritten, Repeated, RepeatedRounds}
 
 -- The round that a call answered.
@@ -56,21 +56,18 @@ module _ (laid : LayOutCall) (length multiple : ℕ) (found : Answered laid leng
   jobs-read : readJobs (jobsWritten laid length) ≡ answer (found .round .jobs)
   jobs-read = rw written (answered-round-is (laid .taskBytes) (size (laid .before)) (found .round) (found .is) .reads-back)
 
-  same-jobs : (levelBytes : List ℕ) (site : Site) → ValidTables levelBytes (jobsWritten laid length) site → site .jobs ≡ found .round .jobs
-  unfolding readSite
-  same-jobs levelBytes site tables =
-      let (levels, levels-read, rest) = andThen-answered (readLevels levelBytes) _ tables in
-      let (jobs, read, rest) = andThen-answered (readJobs (jobsWritten laid length)) _ rest in
-      let same : siteOf levels jobs ≡ site = answer-injective rest in
-      ap (λ (s : Site). s .jobs) (sym same) ∙ answer-injective (sym read ∙ jobs-read)
+  same-jobs : (levelBytes markBytes : List ℕ) (site : Site) → ValidTables levelBytes (jobsWritten laid length) markBytes site → site .jobs ≡ found .round .jobs
+  same-jobs levelBytes markBytes site tables =
+      let (jobs, marks, read, marks-read, same-jobs, same-bounds) = site-parts levelBytes (jobsWritten laid length) markBytes site tables in
+      same-jobs ∙ answer-injective (sym read ∙ jobs-read)
 
-  repeats : (levelBytes : List ℕ) (site : Site) → ValidTables levelBytes (jobsWritten laid length) site
+  repeats : (levelBytes markBytes : List ℕ) (site : Site) → ValidTables levelBytes (jobsWritten laid length) markBytes site
       → (plan prices : List ℕ) → Accepted site plan prices → (r : ℕ) → Repeated laid multiple site plan prices r
-  repeats levelBytes site tables plan prices accepted r =
-      let same = same-jobs levelBytes site tables in
+  repeats levelBytes markBytes site tables plan prices accepted r =
+      let same = same-jobs levelBytes markBytes site tables in
       let round : Round = record { multiple = multiple; jobs = site .jobs } in
       let e : found .round ≡ round = rw (found .same-multiple, same) in
-      rounds-that-repeat (laid .taskBytes) (size (laid .before)) round (found .is ∙ ap answer e) site (sites-are-valid _ _ site tables) refl plan prices accepted r
+      rounds-that-repeat (laid .taskBytes) (size (laid .before)) round (found .is ∙ ap answer e) site (sites-are-valid _ _ _ site tables) refl plan prices accepted r
 
 -- a window whose own jobs need more than the top frequency gives there is overfull
 needs-more : (top : ℕ) (jobs : List Job) (start end : ℕ) → (end - start) * top < cyclesInside jobs start end → isOverfull top jobs start end ≡ true
@@ -81,16 +78,19 @@ pub repeated-rounds : RepeatedRounds
 repeated-rounds =
     record {
       planned = λ laid length multiple told call same site tables intervals steps energy is r.
-          repeats laid length multiple (answered-round laid length multiple told) (call .levelBytes) site (rw same at tables) _ _
+          repeats laid length multiple (answered-round laid length multiple told) (call .levelBytes) (call .markBytes) site (rw same at tables) _ _
           (call .contract .best site tables intervals steps energy is .placed-and-priced) r;
-      checked = λ laid length multiple told levelBytes plan prices figure accepted site tables r.
-          repeats laid length multiple (answered-round laid length multiple told) levelBytes site tables plan prices
-          (check-accepts site plan prices figure .0 (sym (check-read levelBytes _ plan prices site tables) ∙ accepted) .0) r;
+      checked = λ laid length multiple told levelBytes markBytes plan prices figure accepted site tables r.
+          repeats laid length multiple (answered-round laid length multiple told) levelBytes markBytes site tables plan prices
+          (check-accepts site plan prices figure .0 (sym (check-read levelBytes _ markBytes plan prices site tables) ∙ accepted) .0) r;
       overfull = λ laid length multiple told call same site tables start end spare is r some.
-          overfull-repeats site (sound-site (sites-are-valid _ _ site tables)) start end
+          overfull-repeats site (sound-site (sites-are-valid _ _ _ site tables)) start end
           (needs-more (topOf (site .processor)) (site .jobs) start end (call .contract .window site tables start end spare is .needs-more)) multiple r some;
-      every-round = λ laid length multiple told levelBytes levels read.
-          (siteOf levels _, every-valid-table levelBytes (jobsWritten laid length) levels _ read (jobs-read laid length multiple (answered-round laid length multiple told)));
+      every-round = λ laid length multiple told levelBytes markBytes levels marks read marks-read. (
+        _,
+        every-valid-table levelBytes (jobsWritten laid length) markBytes levels _ marks read
+        (jobs-read laid length multiple (answered-round laid length multiple told)) marks-read,
+      );
       every-call = λ taskBytes before after answered contract. (
         record { taskBytes = taskBytes; before = before; after = after; answered = answered; contract = contract },
         refl,

@@ -6,6 +6,7 @@ use Prim.Native.Nat.{ℕ}
 use native.Mathlib.Omega.{arith}
 use lib.ListN.{length}
 use Rattle.model.specs.Outcome.{Outcome, refused, answer}
+use Rattle.model.specs.Processors.{processorOf}
 use Rattle.model.specs.Sites.{Site, siteOf, ValidSite}
 use Rattle.model.specs.Steps.{sharesOf}
 use Rattle.model.specs.Checking.{figureOf}
@@ -16,7 +17,7 @@ use Rattle.model.proofs.LeastEnergy.{plans-are-schedules}
 use Rattle.model.proofs.Accepted.{check-accepts, check-read, check-reads}
 use Rattle.model.proofs.Demands.{long-enough-decides}
 use Rattle.model.proofs.Hypotheses.{every-valid-table}
-use Rattle.model.proofs.RefusalNumbers.{levels-by, jobs-by, setting-by, spare-by, walk-by, check-by, planning-by}
+use Rattle.model.proofs.RefusalNumbers.{levels-by, jobs-by, marks-by, setting-by, spare-by, walk-by, check-by, planning-by}
 use Rattle.planning.specs.declared.operation.PlanAnswer.{PlanAnswer}
 use Rattle.planning.specs.declared.operation.PlanAnswer.the-variants.{Plan, Overfull, Refused}
 use Rattle.planning.specs.PlanAnswers.{outcomeOf}
@@ -69,21 +70,22 @@ demand-one =
     record {
       reading-levels = levels-by;
       reading-jobs = jobs-by;
+      reading-marks = marks-by;
       setting-one = setting-by;
       spare-of-window = spare-by;
       checking = check-by;
       walking = walk-by;
-      planning = λ call number place e. planning-by _ _ _ _ _ number place (sym (call .contract .outcome) ∙ e);
+      planning = λ call number place e. planning-by _ _ _ _ _ _ number place (sym (call .contract .outcome) ∙ e);
       changes-nothing = λ call no-plan. call .contract .untouched no-plan;
       laying-out = rounds-refuse;
       lays-out-nothing = λ tasks before after answered contract number place is.
           refused-keeps before after (rounds tasks (length before)) number place (sym is ∙ contract .answer-is) (contract .buffer-is);
       ordering = order-refuses;
-      orders-nothing = λ levels jobs plan prices before after answered contract number place is.
-          unordered-keeps before after (order levels jobs plan prices (length before)) number place (sym is ∙ contract .answer-is) (contract .buffer-is);
+      orders-nothing = λ levels jobs marks plan prices before after answered contract number place is.
+          unordered-keeps before after (order levels jobs marks plan prices (length before)) number place (sym is ∙ contract .answer-is) (contract .buffer-is);
       touching = touching-refuses;
-      touches-nothing = λ jobs plan start end before after answered contract number place is.
-          unlisted-keeps before after (touching jobs plan start end before) number place (sym is ∙ contract .answer-is) (contract .lists-are);
+      touches-nothing = λ jobs marks plan start end before after answered contract number place is.
+          unlisted-keeps before after (touching jobs marks plan start end before) number place (sym is ∙ contract .answer-is) (contract .lists-are);
     }
 
 -- an accepted plan is such a plan, and its prices fit
@@ -107,21 +109,21 @@ demand-two =
     record {
       planner = λ call site tables intervals steps energy is.
           let best = call .contract .best site tables intervals steps energy is in
-          such-a-plan (sites-are-valid _ _ site tables) (best .placed-and-priced) (best .figure);
-      accepts = λ levelBytes jobBytes plan prices figure. (
+          such-a-plan (sites-are-valid _ _ _ site tables) (best .placed-and-priced) (best .figure);
+      accepts = λ levelBytes jobBytes markBytes plan prices figure. (
         λ e.
-            let (site, tables, e) = check-reads levelBytes jobBytes plan prices figure e in
+            let (site, tables, e) = check-reads levelBytes jobBytes markBytes plan prices figure e in
             let (accepted, is) = check-accepts site plan prices figure .0 e in
             record {
               site = site;
               tables = tables;
-              such-a-plan = such-a-plan (sites-are-valid _ _ site tables) accepted is;
-              prices-fit = prices-fit (sites-are-valid _ _ site tables) accepted;
+              such-a-plan = such-a-plan (sites-are-valid _ _ _ site tables) accepted is;
+              prices-fit = prices-fit (sites-are-valid _ _ _ site tables) accepted;
             },
         λ acceptable.
             let plans = acceptable .such-a-plan in
             let fits = acceptable .prices-fit in
-            check-read levelBytes jobBytes plan prices (acceptable .site) (acceptable .tables)
+            check-read levelBytes jobBytes markBytes plan prices (acceptable .site) (acceptable .tables)
             ∙ check-accepts (acceptable .site) plan prices figure .1 (
               record { is-plan = plans .is-plan; gives = plans .gives; is-price-list = fits .is-price-list; fitting = fits .fitting },
               plans .energy-figure,
@@ -137,15 +139,15 @@ demand-three =
           let best = call .contract .best site tables intervals steps energy is in
           record {
             least = best .least .least;
-            placed = such-a-plan (sites-are-valid _ _ site tables) (best .placed-and-priced) (best .figure);
-            priced = prices-fit (sites-are-valid _ _ site tables) (best .placed-and-priced);
+            placed = such-a-plan (sites-are-valid _ _ _ site tables) (best .placed-and-priced) (best .figure);
+            priced = prices-fit (sites-are-valid _ _ _ site tables) (best .placed-and-priced);
             smallest = best .smallest;
-            checked = check-read _ _ _ _ site tables ∙ call .contract .written site tables intervals steps energy is .planned .accepted;
+            checked = check-read _ _ _ _ _ site tables ∙ call .contract .written site tables intervals steps energy is .planned .accepted;
           };
       window-instead = λ call site tables long no-plan. instead call site tables long no-plan (call .answered) refl;
     }
   where
-    instead : (call : Call) (site : Site) → ValidTables (call .levelBytes) (call .jobBytes) site
+    instead : (call : Call) (site : Site) → ValidTables (call .levelBytes) (call .jobBytes) (call .markBytes) site
         → LongEnough site (length (call .before .plan)) (length (call .before .prices)) (length (call .before .shares))
         → (PlanComesOut call → ⊥) → (answered : PlanAnswer) → call .answered ≡ answered → NoPlan call site
     instead call site tables long no-plan (Plan intervals steps energy) is = absurd (no-plan (ap outcomeOf is))
@@ -162,19 +164,33 @@ demand-three =
         }
     instead call site tables long no-plan (Refused number place) is =
         absurd (long-enough-decides site _ _ _ long .no-refusal number place
-        (sym (planned-as _ _ site tables _ _ _) ∙ sym (call .contract .outcome) ∙ ap outcomeOf is))
+        (sym (planned-as _ _ _ site tables _ _ _) ∙ sym (call .contract .outcome) ∙ ap outcomeOf is))
 
 pub nothing-shut-out : NothingShutOut
 nothing-shut-out =
     record {
-      every-call = λ levelBytes jobBytes before after answered contract. (
-        record { levelBytes = levelBytes; jobBytes = jobBytes; before = before; after = after; answered = answered; contract = contract },
+      every-call = λ levelBytes jobBytes markBytes before after answered contract. (
+        record {
+          levelBytes = levelBytes;
+          jobBytes = jobBytes;
+          markBytes = markBytes;
+          before = before;
+          after = after;
+          answered = answered;
+          contract = contract;
+        },
+        refl,
         refl,
         refl,
         refl,
         refl,
         refl,
       );
-      every-table = λ levelBytes jobBytes entries jobs levels-read jobs-read.
-          (siteOf entries jobs, every-valid-table levelBytes jobBytes entries jobs levels-read jobs-read, refl, refl);
+      every-table = λ levelBytes jobBytes markBytes entries jobs marks levels-read jobs-read marks-read. (
+        siteOf (record { processor = processorOf entries; jobs = jobs }) marks,
+        every-valid-table levelBytes jobBytes markBytes entries jobs marks levels-read jobs-read marks-read,
+        refl,
+        refl,
+        refl,
+      );
     }

@@ -18,13 +18,12 @@ use Rattle.model.specs.Limits.{maxJobs}
 use Rattle.model.specs.Outcome.{answer}
 use Rattle.model.specs.Search.{passingBelow}
 use Rattle.model.specs.Jobs.{ValidJobs, jobOf}
-use Rattle.model.specs.Intervals.{boundsOf, intervalCount}
+use Rattle.model.specs.Intervals.{intervalCount, boundAt}
 use Rattle.model.specs.Windows.{isInside}
 use Rattle.model.specs.Steps.{stepCount, cellAt, stepAt}
 use Rattle.model.proofs.Numbers.{lt-or-le, both-true}
 use Rattle.model.proofs.Search.{someBelow-found, someBelow-holds, leastBelow-found, leastBelow-fails}
 use Rattle.model.proofs.Passing.{passing-all, passing-only, passing-rises}
-use Rattle.model.proofs.BoundsOf.{boundsOf-rises}
 use Rattle.model.proofs.FittingHalf.{stepping-answered}
 use Rattle.touching.specs.declared.jobs.NearestDeadline.the-variants.{At, None}
 use Rattle.touching.specs.Spans.{opensWithin, sharesTick, hasCell, jobsOpen, jobsInside, stepsTouched, nearestDeadline}
@@ -119,39 +118,40 @@ module _ (jobs : List Job) (valid : ValidJobs jobs) (start end : ℕ) where
       (λ j below e. (below, inside-ticks start end (jobOf jobs j) (valid .release-before-deadline j below) .0 e))
 
 -- a sound plan's steps stand in intervals that there are
-step-below : (jobs : List Job) (plan : List ℕ) → stepsAlone jobs plan ≡ answer tt → (s : ℕ) → s < stepCount plan
-    → cellAt plan s / maxJobs < intervalCount (boundsOf jobs)
+step-below : (jobs : List Job) (bounds plan : List ℕ) → stepsAlone jobs bounds plan ≡ answer tt → (s : ℕ) → s < stepCount plan
+    → cellAt plan s / maxJobs < intervalCount bounds
 unfolding stepAt
-step-below jobs plan sound s below = stepping-answered jobs (boundsOf jobs) plan (answer tt) sound .0 .step-interval s below
+step-below jobs bounds plan sound s below = stepping-answered jobs bounds plan (answer tt) sound .0 .step-interval s below
 
 -- the plan's steps whose interval shares a tick with the span
-module _ (jobs : List Job) (plan : List ℕ) (sound : stepsAlone jobs plan ≡ answer tt) (start end : ℕ) (some : start < end) where
-  shares : (i : ℕ) → i < intervalCount (boundsOf jobs)
-      → (sharesTick start end (boundsOf jobs) i ≡ true) ↔ ((tick : ℕ) × InSpan start end tick × InInterval (boundsOf jobs) i tick)
-  shares i below = shares-ticks start end some (boundsOf jobs) i (boundsOf-rises jobs i (omega arith))
+module _ (jobs : List Job) (bounds plan : List ℕ) (rises : (i : ℕ) → suc i < length bounds → boundAt bounds i < boundAt bounds (suc i))
+    (sound : stepsAlone jobs bounds plan ≡ answer tt) (start end : ℕ) (some : start < end) where
+  shares : (i : ℕ) → i < intervalCount bounds
+      → (sharesTick start end bounds i ≡ true) ↔ ((tick : ℕ) × InSpan start end tick × InInterval bounds i tick)
+  shares i below = shares-ticks start end some bounds i (rises i (omega arith))
 
-  pub steps-listed : Listed (stepsTouched (boundsOf jobs) plan start end) (StepSharesTick jobs start end plan)
+  pub steps-listed : Listed (stepsTouched bounds plan start end) (StepSharesTick bounds plan start end)
   unfolding stepAt
   steps-listed =
-      listed-of (intervalCount (boundsOf jobs) * maxJobs)
-      (λ cell. hasCell plan cell && sharesTick start end (boundsOf jobs) (cell / maxJobs)) (StepSharesTick jobs start end plan)
+      listed-of (intervalCount bounds * maxJobs)
+      (λ cell. hasCell plan cell && sharesTick start end bounds (cell / maxJobs)) (StepSharesTick bounds plan start end)
       passes member
     where
-      passes : (cell : ℕ) → StepSharesTick jobs start end plan cell
-          → (cell < intervalCount (boundsOf jobs) * maxJobs) × ((hasCell plan cell && sharesTick start end (boundsOf jobs) (cell / maxJobs)) ≡ true)
+      passes : (cell : ℕ) → StepSharesTick bounds plan start end cell
+          → (cell < intervalCount bounds * maxJobs) × ((hasCell plan cell && sharesTick start end bounds (cell / maxJobs)) ≡ true)
       passes cell (s, below, is, tick, in-span, in-interval) =
-          let inside : cell / maxJobs < intervalCount (boundsOf jobs) = rw is at (step-below jobs plan sound s below) in
+          let inside : cell / maxJobs < intervalCount bounds = rw is at (step-below jobs bounds plan sound s below) in
           let has : hasCell plan cell ≡ true = someBelow-holds (stepCount plan) (λ s. eqb (cellAt plan s) cell) s below (eq-eqb _ _ is) in
-          let touches : sharesTick start end (boundsOf jobs) (cell / maxJobs) ≡ true =
+          let touches : sharesTick start end bounds (cell / maxJobs) ≡ true =
           shares (cell / maxJobs) inside .1 (tick, in-span, rw is at in-interval) in
           (omega arith, rw (has, touches))
 
       found : (cell s : ℕ) → s < stepCount plan → cellAt plan s ≡ cell
-          → (tick : ℕ) × InSpan start end tick × InInterval (boundsOf jobs) (cell / maxJobs) tick → StepSharesTick jobs start end plan cell
+          → (tick : ℕ) × InSpan start end tick × InInterval bounds (cell / maxJobs) tick → StepSharesTick bounds plan start end cell
       found cell s step is (tick, in-span, in-interval) = (s, step, is, tick, in-span, rw is in-interval)
 
-      member : (cell : ℕ) → cell < intervalCount (boundsOf jobs) * maxJobs
-          → (hasCell plan cell && sharesTick start end (boundsOf jobs) (cell / maxJobs)) ≡ true → StepSharesTick jobs start end plan cell
+      member : (cell : ℕ) → cell < intervalCount bounds * maxJobs
+          → (hasCell plan cell && sharesTick start end bounds (cell / maxJobs)) ≡ true → StepSharesTick bounds plan start end cell
       member cell below e =
           let (has, touches) = both-true (hasCell plan cell) _ e in
           let (s, step, same) = someBelow-found (stepCount plan) (λ s. eqb (cellAt plan s) cell) has in

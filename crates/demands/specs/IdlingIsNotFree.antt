@@ -15,7 +15,7 @@ use Rattle.model.specs.LevelTables.{idleEntry, encodeLevels}
 use Rattle.model.specs.Processors.{Processor, workingOf, readProcessor}
 use Rattle.model.specs.Setting.{setting}
 use Rattle.model.specs.Intervals.{earliestRelease, latestDeadline}
-use Rattle.model.specs.Sites.{Site, readSite}
+use Rattle.model.specs.Sites.{Site, readTables, readSite}
 use Rattle.model.specs.Windows.{spare}
 use Rattle.model.specs.Schedules.{horizon, slotPowers}
 use Rattle.model.specs.Steps.{sharesOf}
@@ -78,13 +78,14 @@ pub record PaysBetweenRepeats (H r : ℕ) (site : Site) (plan : List ℕ) : Type
 -- prints is a function of the site and of what planning answered.
 pub record SameAnswers (one two : List ℕ) : Type 0 where
   pub processors : readProcessor one ≡ readProcessor two
-  pub sites : (jobs : List ℕ) → readSite one jobs ≡ readSite two jobs
+  pub tables : (jobs : List ℕ) → readTables one jobs ≡ readTables two jobs
+  pub sites : (jobs marks : List ℕ) → readSite one jobs marks ≡ readSite two jobs marks
   pub settings : (length load : ℕ) → setting one length load ≡ setting two length load
   pub spares : (jobs : List ℕ) (start end : ℕ) → spare one jobs start end ≡ spare two jobs start end
-  pub checks : (jobs plan prices : List ℕ) → check one jobs plan prices ≡ check two jobs plan prices
-  pub orders : (jobs plan prices : List ℕ) (room : ℕ) → order one jobs plan prices room ≡ order two jobs plan prices room
-  pub plans : (jobs : List ℕ) (before after : Buffers) (answered : PlanAnswer)
-      → PlanContract one jobs before after answered ↔ PlanContract two jobs before after answered
+  pub checks : (jobs marks plan prices : List ℕ) → check one jobs marks plan prices ≡ check two jobs marks plan prices
+  pub orders : (jobs marks plan prices : List ℕ) (room : ℕ) → order one jobs marks plan prices room ≡ order two jobs marks plan prices room
+  pub plans : (jobs marks : List ℕ) (before after : Buffers) (answered : PlanAnswer)
+      → PlanContract one jobs marks before after answered ↔ PlanContract two jobs marks before after answered
 
 pub record IdlingIsNotFree : Type 0 where
   -- "A level table may begin with a frequency 0 entry whose voltage place holds the idle draw in thousands of power units; without
@@ -94,14 +95,14 @@ pub record IdlingIsNotFree : Type 0 where
   pub point : IdlingIsAPoint
   -- both energies gain the draw, of every plan that planning writes and of every plan that the check accepts: demand 2 says of
   -- both that they are such plans
-  pub gained : (levelBytes jobBytes : List ℕ) (site : Site) → ValidTables levelBytes jobBytes site
+  pub gained : (levelBytes jobBytes markBytes : List ℕ) (site : Site) → ValidTables levelBytes jobBytes markBytes site
       → (plan : List ℕ) (figure : ℕ) → SuchAPlan site plan figure → GainsTheDraw site plan figure
   -- every schedule pays
   pub schedules-pay : (site : Site) (schedule : ScheduleFor site) → PaysForIdleSlots site schedule
   -- also between the repeats of a plan that was accepted for a round
   pub between-repeats : (laid : LayOutCall) (length multiple : ℕ) → laid .answered ≡ LaidOut length multiple
-      → (levelBytes plan prices : List ℕ) (figure : ℕ) → check levelBytes (jobsWritten laid length) plan prices ≡ answer figure
-      → (site : Site) → ValidTables levelBytes (jobsWritten laid length) site
+      → (levelBytes markBytes plan prices : List ℕ) (figure : ℕ) → check levelBytes (jobsWritten laid length) markBytes plan prices ≡ answer figure
+      → (site : Site) → ValidTables levelBytes (jobsWritten laid length) markBytes site
       → (r : ℕ) → PaysBetweenRepeats multiple r site plan
   -- a draw never drops a level that works without it; `DrawKeepsLevels` says it of any two draws
   pub keeps-levels : (draw : ℕ) (levels : List Level) → Board draw levels → (i : ℕ) → Works 0 levels i → Works (1_000 * draw) levels i

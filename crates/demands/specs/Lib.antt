@@ -1,8 +1,9 @@
 -- The three demands, for a reader who reads nothing else; rounds that repeat, idling that is not free, one spelling of a plan, the
--- running sum of the window test and what touches a span, over the calls.
+-- running sum of the window test, what touches a span and handover marks, over the calls.
 pub mod ThreeDemands
 pub mod RepeatedRounds
 pub mod IdlingIsNotFree
 pub mod OneSpelling
 pub mod RunningSums
 pub mod TouchedSpans
+pub mod HandoverMarks

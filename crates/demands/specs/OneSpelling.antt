@@ -1,7 +1,8 @@
 -- One spelling of a plan, over the calls themselves. Document 02, Change 3: "Site archives compare plans by bytes. Add a writer that
 -- is lent what the check is, gives its refusals and writes the plan's steps in cell order to a second buffer; one shorter than
 -- the plan gives 12, last. Two accepted plans for one job table come out equal exactly when every job has the same cycles in
--- every interval, and a plan already in order is unchanged." Proved in proofs/OneSpelling.antt.
+-- every interval, and a plan already in order is unchanged." Change 6: "the two plans that Change 3 compares have the same marks."
+-- Proved in proofs/OneSpelling.antt.
 use Prim.Native.Nat.{ℕ, _<_, _≤_}
 use mathlib.Core.Path.{_≡_}
 use mathlib.Core.Logic.{_↔_}
@@ -11,7 +12,8 @@ use Rattle.model.specs.declared.Job.{Job}
 use Rattle.model.specs.Outcome.{refused, answer}
 use Rattle.model.specs.Bytes.{IsBytes}
 use Rattle.model.specs.Jobs.{readJobs}
-use Rattle.model.specs.Intervals.{boundsOf, intervalCount}
+use Rattle.model.specs.Intervals.{intervalCount}
+use Rattle.model.specs.Marks.{readMarks, boundsWith}
 use Rattle.model.specs.Sites.{Site}
 use Rattle.model.specs.Steps.{sharesOf}
 use Rattle.model.specs.Checking.{check}
@@ -26,12 +28,13 @@ use Rattle.ordering.specs.OrderAnswers.{OrderContract}
 pub record OrderingCall : Type 0 where
   pub levelBytes : List ℕ
   pub jobBytes : List ℕ
+  pub markBytes : List ℕ
   pub plan : List ℕ
   pub prices : List ℕ
   pub before : List ℕ
   pub after : List ℕ
   pub answered : OrderAnswer
-  pub contract : OrderContract levelBytes jobBytes plan prices before after answered
+  pub contract : OrderContract levelBytes jobBytes markBytes plan prices before after answered
 
 -- The plan comes out: the length written is answered.
 abbrev pub ComesOut : OrderingCall → Type 0
@@ -54,45 +57,46 @@ pub record WrittenCall (call : OrderingCall) : Type 0 where
   pub rest-stays : drop (length (call .plan)) (call .after) ≡ drop (length (call .plan)) (call .before)
 
 -- "every job has the same cycles in every interval"
-abbrev pub SameCycles : List Job → (one two : List ℕ) → Type 0
-SameCycles jobs one two =
-    (i j : ℕ) → i < intervalCount (boundsOf jobs) → j < length jobs → sharesOf one i j ≡ sharesOf two i j
+abbrev pub SameCycles : List Job → (marks : List ℕ) → (one two : List ℕ) → Type 0
+SameCycles jobs marks one two =
+    (i j : ℕ) → i < intervalCount (boundsWith marks jobs) → j < length jobs → sharesOf one i j ≡ sharesOf two i j
 
 pub record OneSpelling : Type 0 where
   -- "is lent what the check is, gives its refusals"
   pub as-the-check : (call : OrderingCall) (number place : ℕ)
-      → check (call .levelBytes) (call .jobBytes) (call .plan) (call .prices) ≡ refused number place → RefusedCall call number place
+      → check (call .levelBytes) (call .jobBytes) (call .markBytes) (call .plan) (call .prices) ≡ refused number place → RefusedCall call number place
   -- "one shorter than the plan gives 12, last"
   pub too-short : (call : OrderingCall) (figure : ℕ)
-      → check (call .levelBytes) (call .jobBytes) (call .plan) (call .prices) ≡ answer figure
+      → check (call .levelBytes) (call .jobBytes) (call .markBytes) (call .plan) (call .prices) ≡ answer figure
       → length (call .before) < length (call .plan) → RefusedCall call 12 (length (call .plan))
   -- "writes the plan's steps in cell order to a second buffer"
   pub written : (call : OrderingCall) (figure : ℕ)
-      → check (call .levelBytes) (call .jobBytes) (call .plan) (call .prices) ≡ answer figure
+      → check (call .levelBytes) (call .jobBytes) (call .markBytes) (call .plan) (call .prices) ≡ answer figure
       → length (call .plan) ≤ length (call .before) → WrittenCall call
   -- and nothing else is: what comes out was accepted, and the buffer was long enough
   pub only-accepted : (call : OrderingCall) (size : ℕ) → call .answered ≡ Ordered size
-      → (figure : ℕ) × (check (call .levelBytes) (call .jobBytes) (call .plan) (call .prices) ≡ answer figure)
+      → (figure : ℕ) × (check (call .levelBytes) (call .jobBytes) (call .markBytes) (call .plan) (call .prices) ≡ answer figure)
       × (length (call .plan) ≤ length (call .before))
   -- "Two accepted plans for one job table come out equal exactly when every job has the same cycles in every interval". The level
   -- tables and the price lists that they were accepted with may differ.
   pub equal-exactly-when : (one two : OrderingCall) → ComesOut one → ComesOut two
       → one .jobBytes ≡ two .jobBytes → (jobs : List Job) → readJobs (one .jobBytes) ≡ answer jobs
-      → (planOut one ≡ planOut two) ↔ SameCycles jobs (one .plan) (two .plan)
+      → one .markBytes ≡ two .markBytes → (marks : List ℕ) → readMarks (one .markBytes) ≡ answer marks
+      → (planOut one ≡ planOut two) ↔ SameCycles jobs marks (one .plan) (two .plan)
   -- "and a plan already in order is unchanged". Each number that is lent is below 256, as every byte is.
   pub unchanged : (call : OrderingCall) → ComesOut call → IsBytes (call .plan) → InOrder (call .plan) → planOut call ≡ call .plan
   -- what comes out is accepted by the check with the same prices and the same figure
   pub accepted-again : (call : OrderingCall) → ComesOut call
-      → check (call .levelBytes) (call .jobBytes) (planOut call) (call .prices) ≡ check (call .levelBytes) (call .jobBytes) (call .plan) (call .prices)
+      → check (call .levelBytes) (call .jobBytes) (call .markBytes) (planOut call) (call .prices) ≡ check (call .levelBytes) (call .jobBytes) (call .markBytes) (call .plan) (call .prices)
   -- and has the same exact energy
-  pub same-energy : (call : OrderingCall) → ComesOut call → (site : Site) → ValidTables (call .levelBytes) (call .jobBytes) site
+  pub same-energy : (call : OrderingCall) → ComesOut call → (site : Site) → ValidTables (call .levelBytes) (call .jobBytes) (call .markBytes) site
       → exactFor site (planOut call) ≡ exactFor site (call .plan)
   -- what came out once comes out as it is. Lent the same tables and prices and enough room it does come out, by `accepted-again`
   -- and `written`.
   pub ordered-again : (first second : OrderingCall) → ComesOut first → second .plan ≡ planOut first → ComesOut second → planOut second ≡ planOut first
   -- every call is one of these, whatever it was lent
-  pub every-call : (levelBytes jobBytes plan prices before after : List ℕ) (answered : OrderAnswer)
-      → OrderContract levelBytes jobBytes plan prices before after answered
+  pub every-call : (levelBytes jobBytes markBytes plan prices before after : List ℕ) (answered : OrderAnswer)
+      → OrderContract levelBytes jobBytes markBytes plan prices before after answered
       → (call : OrderingCall)
-      × (call .levelBytes ≡ levelBytes) × (call .jobBytes ≡ jobBytes) × (call .plan ≡ plan) × (call .prices ≡ prices)
+      × (call .levelBytes ≡ levelBytes) × (call .jobBytes ≡ jobBytes) × (call .markBytes ≡ markBytes) × (call .plan ≡ plan) × (call .prices ≡ prices)
       × (call .before ≡ before) × (call .after ≡ after) × (call .answered ≡ answered)

@@ -5,16 +5,19 @@
 --
 --     read_levels bytes                  levelTable (readLevels bytes)
 --     read_jobs bytes                    jobTable (readJobs bytes)
+--     read_marks bytes                   markTable (readMarks bytes)
 --     setting levels length load         settingAnswer (setting levels length load)
 --     spare levels jobs start end        spareAnswer (spare levels jobs start end)
---     check levels jobs plan prices      checkAnswer (check levels jobs plan prices)
+--     check levels jobs marks plan       checkAnswer (check levels jobs marks plan prices)
+--       prices
 --     start, next and step_at            stepAnswer (walk plan) at the number of the step
---     plan levels jobs and the buffers   an answer that `PlanContract` holds of
+--     plan levels jobs marks and the     an answer that `PlanContract` holds of
+--       buffers
 --     rounds tasks and the buffer        roundsAnswer (rounds tasks room), with the buffer that `RoundsContract` names
---     order levels jobs plan prices      orderAnswer (order levels jobs plan prices room), with the buffer that `OrderContract`
---       and the buffer                   names
---     touching jobs plan start end       touchingAnswer (touching jobs plan start end lists), with the lists that `TouchingContract`
---       and the lists                    names
+--     order levels jobs marks plan       orderAnswer (order levels jobs marks plan prices room), with the buffer that `OrderContract`
+--       prices and the buffer            names
+--     touching jobs marks plan start     touchingAnswer (touching jobs marks plan start end lists), with the lists that
+--       end and the lists                `TouchingContract` names
 --
 -- An answer's enum has a case for each case of the outcome, with the same numbers. So what is stated here of an outcome
 -- on the right holds of what the caller gets.
@@ -29,9 +32,10 @@ use Rattle.model.specs.declared.Job.{Job}
 use Rattle.model.specs.Outcome.{answer, From, RefusesBy}
 use Rattle.model.specs.LevelTables.{readLevels, LevelNumbers}
 use Rattle.model.specs.Jobs.{readJobs}
+use Rattle.model.specs.Marks.{readMarks, boundsWith}
 use Rattle.model.specs.Processors.{workingOf, topOf, processorOf}
 use Rattle.model.specs.Setting.{setting}
-use Rattle.model.specs.Sites.{Site, SiteNumbers}
+use Rattle.model.specs.Sites.{Site, TableNumbers, SiteNumbers}
 use Rattle.model.specs.Windows.{spare}
 use Rattle.model.specs.Plans.{Gives}
 use Rattle.model.specs.Prices.{FittingPrices}
@@ -64,10 +68,11 @@ use Rattle.touching.specs.TouchingAnswers.{TouchingContract}
 pub record Call : Type 0 where
   pub levelBytes : List ℕ
   pub jobBytes : List ℕ
+  pub markBytes : List ℕ
   pub before : Buffers
   pub after : Buffers
   pub answered : PlanAnswer
-  pub contract : PlanContract levelBytes jobBytes before after answered
+  pub contract : PlanContract levelBytes jobBytes markBytes before after answered
 
 -- "a plan comes out"
 abbrev pub PlanComesOut : Call → Type 0
@@ -83,13 +88,14 @@ pricesWritten call intervals = take (2 + 5 * intervals) (call .after .prices)
 -- Demand 1. "Whoever calls an operation, with bytes of any length and content, gets a result or a numbered refusal from
 -- document 01; nothing is required of the caller first, and a refused call changes nothing lent to it." Planning, laying out a
 -- round, ordering and listing what touches a span alone are lent anything that they may change. Document 02's numbers join those of
--- document 01: `LevelNumbers` are 1 to 5, 31 and 32, and `SiteNumbers` 1 to 10, 31 and 32.
+-- document 01: `LevelNumbers` are 1 to 5, 31 and 32, `TableNumbers` 1 to 10, 31 and 32, and `SiteNumbers` these and 34.
 pub record DemandOne : Type 0 where
   pub reading-levels : (bytes : List ℕ) → RefusesBy LevelNumbers (readLevels bytes)
   pub reading-jobs : (bytes : List ℕ) → RefusesBy (From 6 10) (readJobs bytes)
+  pub reading-marks : (bytes : List ℕ) → RefusesBy (From 34 34) (readMarks bytes)
   pub setting-one : (levels : List ℕ) (length load : ℕ) → RefusesBy (λ n. LevelNumbers n ⊎ From 25 26 n) (setting levels length load)
-  pub spare-of-window : (levels jobs : List ℕ) (start end : ℕ) → RefusesBy (λ n. SiteNumbers n ⊎ From 27 27 n) (spare levels jobs start end)
-  pub checking : (levels jobs plan prices : List ℕ) → RefusesBy (λ n. SiteNumbers n ⊎ From 15 24 n) (check levels jobs plan prices)
+  pub spare-of-window : (levels jobs : List ℕ) (start end : ℕ) → RefusesBy (λ n. TableNumbers n ⊎ From 27 27 n) (spare levels jobs start end)
+  pub checking : (levels jobs marks plan prices : List ℕ) → RefusesBy (λ n. SiteNumbers n ⊎ From 15 24 n) (check levels jobs marks plan prices)
   pub walking : (plan : List ℕ) → RefusesBy (From 15 15) (walk plan)
   -- 11 is the case Overfull, with its window and spare
   pub planning : (call : Call) (number place : ℕ) → outcomeOf (call .answered) ≡ refusal number place → SiteNumbers number ⊎ From 12 14 number
@@ -97,15 +103,15 @@ pub record DemandOne : Type 0 where
   pub laying-out : (tasks : List ℕ) (room : ℕ) → RefusesBy (λ n. From 12 12 n ⊎ From 28 30 n) (rounds tasks room)
   pub lays-out-nothing : (tasks before after : List ℕ) (answered : RoundsAnswer) → RoundsContract tasks before after answered
       → (number place : ℕ) → answered ≡ Refused number place → after ≡ before
-  pub ordering : (levels jobs plan prices : List ℕ) (room : ℕ)
-      → RefusesBy (λ n. (SiteNumbers n ⊎ From 15 24 n) ⊎ From 12 12 n) (order levels jobs plan prices room)
-  pub orders-nothing : (levels jobs plan prices before after : List ℕ) (answered : OrderAnswer)
-      → OrderContract levels jobs plan prices before after answered
+  pub ordering : (levels jobs marks plan prices : List ℕ) (room : ℕ)
+      → RefusesBy (λ n. (SiteNumbers n ⊎ From 15 24 n) ⊎ From 12 12 n) (order levels jobs marks plan prices room)
+  pub orders-nothing : (levels jobs marks plan prices before after : List ℕ) (answered : OrderAnswer)
+      → OrderContract levels jobs marks plan prices before after answered
       → (number place : ℕ) → answered ≡ NotOrdered number place → after ≡ before
-  pub touching : (jobs plan : List ℕ) (start end : ℕ) (before : Lists)
-      → RefusesBy (λ n. (From 33 33 n ⊎ From 6 10 n) ⊎ (From 15 18 n ⊎ From 14 14 n)) (touching jobs plan start end before)
-  pub touches-nothing : (jobs plan : List ℕ) (start end : ℕ) (before after : Lists) (answered : TouchingAnswer)
-      → TouchingContract jobs plan start end before after answered
+  pub touching : (jobs marks plan : List ℕ) (start end : ℕ) (before : Lists)
+      → RefusesBy (λ n. (From 33 33 n ⊎ (From 6 10 n ⊎ From 34 34 n)) ⊎ (From 15 18 n ⊎ From 14 14 n)) (touching jobs marks plan start end before)
+  pub touches-nothing : (jobs marks plan : List ℕ) (start end : ℕ) (before after : Lists) (answered : TouchingAnswer)
+      → TouchingContract jobs marks plan start end before after answered
       → (number place : ℕ) → answered ≡ NotListed number place → after ≡ before
 
 -- Demand 2. "A plan gives each job exactly its cycles between release and deadline, one job at a time, by the workload and
@@ -124,19 +130,19 @@ pub record PricesFit (site : Site) (plan prices : List ℕ) : Type 0 where
   pub fitting : FittingPrices (workingOf (site .processor)) (site .jobs) (site .bounds) (sharesOf plan) (pricesOf prices)
 
 -- What the check is to accept: tables that are read as a site, such a plan, and prices that fit.
-pub record Acceptable (levelBytes jobBytes plan prices : List ℕ) (figure : ℕ) : Type 0 where
+pub record Acceptable (levelBytes jobBytes markBytes plan prices : List ℕ) (figure : ℕ) : Type 0 where
   pub site : Site
-  pub tables : ValidTables levelBytes jobBytes site
+  pub tables : ValidTables levelBytes jobBytes markBytes site
   pub such-a-plan : SuchAPlan site plan figure
   pub prices-fit : PricesFit site plan prices
 
 pub record DemandTwo : Type 0 where
   -- "The planner writes only such plans."
-  pub planner : (call : Call) (site : Site) → ValidTables (call .levelBytes) (call .jobBytes) site
+  pub planner : (call : Call) (site : Site) → ValidTables (call .levelBytes) (call .jobBytes) (call .markBytes) site
       → (intervals steps energy : ℕ) → call .answered ≡ Plan intervals steps energy → SuchAPlan site (planWritten call steps) energy
   -- "The check accepts a plan and its price list exactly when the plan is such a plan and the prices fit document 01's rules."
-  pub accepts : (levelBytes jobBytes plan prices : List ℕ) (figure : ℕ)
-      → (check levelBytes jobBytes plan prices ≡ answer figure) ↔ Acceptable levelBytes jobBytes plan prices figure
+  pub accepts : (levelBytes jobBytes markBytes plan prices : List ℕ) (figure : ℕ)
+      → (check levelBytes jobBytes markBytes plan prices ≡ answer figure) ↔ Acceptable levelBytes jobBytes markBytes plan prices figure
 
 -- Demand 3, where a plan was written. All energies are multiplied out by all gaps, and by q where a schedule is one side.
 pub record PlanComesWith (call : Call) (site : Site) (intervals steps energy : ℕ) : Type 0 where
@@ -148,8 +154,9 @@ pub record PlanComesWith (call : Call) (site : Site) (intervals steps energy : �
   pub placed : SuchAPlan site (planWritten call steps) energy
   pub priced : PricesFit site (planWritten call steps) (pricesWritten call intervals)
   pub smallest : SmallestPrices site (planWritten call steps) (pricesWritten call intervals)
-  -- "and the check, lent the same tables and exactly the bytes written, accepts them and answers the same energy figure"
-  pub checked : check (call .levelBytes) (call .jobBytes) (planWritten call steps) (pricesWritten call intervals) ≡ answer energy
+  -- "and the check, lent the same tables and exactly the bytes written, accepts them and answers the same energy figure"; "in demand
+  -- 3 the check is lent the same marks too"
+  pub checked : check (call .levelBytes) (call .jobBytes) (call .markBytes) (planWritten call steps) (pricesWritten call intervals) ≡ answer energy
 
 -- "Where no plan comes out, a window does, whose own jobs need more cycles than the top frequency gives there, and then no
 -- schedule meets all deadlines."
@@ -165,25 +172,26 @@ pub record NoPlan (call : Call) (site : Site) : Type 0 where
 -- Demand 3. "Whatever valid tables are planned, with long enough buffers, a plan comes out exactly when some schedule over
 -- the same levels meets all deadlines."
 pub record DemandThree : Type 0 where
-  pub exactly-when : (call : Call) (site : Site) → ValidTables (call .levelBytes) (call .jobBytes) site
+  pub exactly-when : (call : Call) (site : Site) → ValidTables (call .levelBytes) (call .jobBytes) (call .markBytes) site
       → LongEnough site (length (call .before .plan)) (length (call .before .prices)) (length (call .before .shares))
       → PlanComesOut call ↔ CanBeServed site
   -- with every plan that comes out
-  pub written : (call : Call) (site : Site) → ValidTables (call .levelBytes) (call .jobBytes) site
+  pub written : (call : Call) (site : Site) → ValidTables (call .levelBytes) (call .jobBytes) (call .markBytes) site
       → (intervals steps energy : ℕ) → call .answered ≡ Plan intervals steps energy → PlanComesWith call site intervals steps energy
   -- where none comes out
-  pub window-instead : (call : Call) (site : Site) → ValidTables (call .levelBytes) (call .jobBytes) site
+  pub window-instead : (call : Call) (site : Site) → ValidTables (call .levelBytes) (call .jobBytes) (call .markBytes) site
       → LongEnough site (length (call .before .plan)) (length (call .before .prices)) (length (call .before .shares))
       → (PlanComesOut call → ⊥) → NoPlan call site
 
 -- The demands' hypotheses shut nothing out. Every call is a `Call`, whatever bytes, buffers and answer planning's contract
--- holds of; and tables are valid where both are read. What the theory asks of sites, bounds, schedules and buffers is built in
+-- holds of; and tables are valid where all three are read. What the theory asks of sites, bounds, schedules and buffers is built in
 -- Hypotheses of the crate model.
 pub record NothingShutOut : Type 0 where
-  pub every-call : (levelBytes jobBytes : List ℕ) (before after : Buffers) (answered : PlanAnswer)
-      → PlanContract levelBytes jobBytes before after answered
-      → (call : Call) × (call .levelBytes ≡ levelBytes) × (call .jobBytes ≡ jobBytes) × (call .before ≡ before) × (call .after ≡ after)
-      × (call .answered ≡ answered)
-  pub every-table : (levelBytes jobBytes : List ℕ) (entries : List Level) (jobs : List Job)
-      → readLevels levelBytes ≡ answer entries → readJobs jobBytes ≡ answer jobs
-      → (site : Site) × ValidTables levelBytes jobBytes site × (site .processor ≡ processorOf entries) × (site .jobs ≡ jobs)
+  pub every-call : (levelBytes jobBytes markBytes : List ℕ) (before after : Buffers) (answered : PlanAnswer)
+      → PlanContract levelBytes jobBytes markBytes before after answered
+      → (call : Call) × (call .levelBytes ≡ levelBytes) × (call .jobBytes ≡ jobBytes) × (call .markBytes ≡ markBytes)
+      × (call .before ≡ before) × (call .after ≡ after) × (call .answered ≡ answered)
+  pub every-table : (levelBytes jobBytes markBytes : List ℕ) (entries : List Level) (jobs : List Job) (marks : List ℕ)
+      → readLevels levelBytes ≡ answer entries → readJobs jobBytes ≡ answer jobs → readMarks markBytes ≡ answer marks
+      → (site : Site) × ValidTables levelBytes jobBytes markBytes site
+      × (site .processor ≡ processorOf entries) × (site .jobs ≡ jobs) × (site .bounds ≡ boundsWith marks jobs)

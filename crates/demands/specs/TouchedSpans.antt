@@ -3,7 +3,8 @@
 -- apply), and the nearest deadline at or after its start, or none. Lists, lent as 32-bit numbers, hold job numbers or, for steps,
 -- cells, rising, each member listed and nothing else; answered are their three lengths and that deadline; a lent list too short
 -- (the first such, in this order) gives 14, last. Errors: 33 start not before end, or end above 1,000,000, before the job table
--- and then the plan are read." Proved in proofs/TouchedSpans.antt.
+-- and then the plan are read." Change 6: "Every operation that cuts intervals takes the marks and follows the new bounds .. Errors: 34
+-- .. after the job table's own." Proved in proofs/TouchedSpans.antt.
 use Prim.Native.Nat.{ℕ, suc, _<_, _≤_}
 use mathlib.Core.Path.{_≡_}
 use mathlib.Core.Logic.{_↔_, _⊎_}
@@ -14,7 +15,8 @@ use Rattle.model.specs.declared.Job.{Job}
 use Rattle.model.specs.Outcome.{Outcome, refused, answer, From}
 use Rattle.model.specs.LevelTables.{readLevels}
 use Rattle.model.specs.Jobs.{jobOf, readJobs}
-use Rattle.model.specs.Intervals.{boundsOf, boundAt}
+use Rattle.model.specs.Intervals.{boundAt}
+use Rattle.model.specs.Marks.{readMarks, boundsWith}
 use Rattle.model.specs.Steps.{stepCount, cellAt, stepAt}
 use Rattle.model.specs.Checking.{stepping, check}
 use Rattle.touching.specs.declared.jobs.NearestDeadline.{NearestDeadline}
@@ -27,13 +29,14 @@ use Rattle.touching.specs.TouchingAnswers.{TouchingContract}
 -- One call: what it was lent, what it left in the lists, and its answer, with the contract that holds of every call.
 pub record TouchingCall : Type 0 where
   pub jobBytes : List ℕ
+  pub markBytes : List ℕ
   pub plan : List ℕ
   pub start : ℕ
   pub end : ℕ
   pub before : Lists
   pub after : Lists
   pub answered : TouchingAnswer
-  pub contract : TouchingContract jobBytes plan start end before after answered
+  pub contract : TouchingContract jobBytes markBytes plan start end before after answered
 
 -- The call is refused so, and all three lists are as they were.
 pub record RefusedCall (call : TouchingCall) (number place : ℕ) : Type 0 where
@@ -47,15 +50,16 @@ WrongSpan call = (call .end ≤ call .start) ⊎ (1_000_000 < call .end)
 abbrev pub RightSpan : TouchingCall → Type 0
 RightSpan call = (call .start < call .end) × (call .end ≤ 1_000_000)
 
--- "15 to 18 apply": a plan's steps for these jobs are refused, or are sound.
-abbrev pub stepsAlone : List Job → (plan : List ℕ) → Outcome (Unit {0})
-stepsAlone jobs plan = stepping jobs (boundsOf jobs) plan (answer tt)
+-- "15 to 18 apply": a plan's steps for these jobs and bounds are refused, or are sound.
+abbrev pub stepsAlone : List Job → (bounds plan : List ℕ) → Outcome (Unit {0})
+stepsAlone jobs bounds plan = stepping jobs bounds plan (answer tt)
 
--- Nothing is wrong with what a call reads: its span, its job table, and the steps of its plan.
-pub record SoundCall (call : TouchingCall) (jobs : List Job) : Type 0 where
+-- Nothing is wrong with what a call reads: its span, its job table, its marks, and the steps of its plan.
+pub record SoundCall (call : TouchingCall) (jobs : List Job) (marks : List ℕ) : Type 0 where
   pub right-span : RightSpan call
   pub jobs-read : readJobs (call .jobBytes) ≡ answer jobs
-  pub steps-sound : stepsAlone jobs (call .plan) ≡ answer tt
+  pub marks-read : readMarks (call .markBytes) ≡ answer marks
+  pub steps-sound : stepsAlone jobs (boundsWith marks jobs) (call .plan) ≡ answer tt
 
 -- A tick lies in a span, which goes from its start up to, not including, its end; in the time in which a job may run; in an interval.
 abbrev pub InSpan : (start end tick : ℕ) → Type 0
@@ -76,11 +80,11 @@ module _ (jobs : List Job) (start end : ℕ) where
   abbrev pub WhollyInside : (job : ℕ) → Type 0
   WhollyInside j = (j < length jobs) × ((tick : ℕ) → InWindow (jobOf jobs j) tick → InSpan start end tick)
 
-  -- "the plan's steps whose interval shares a tick with it", each by its cell
-  abbrev pub StepSharesTick : (plan : List ℕ) → (cell : ℕ) → Type 0
-  StepSharesTick plan cell =
-      (s : ℕ) × (s < stepCount plan) × (cellAt plan s ≡ cell)
-      × (tick : ℕ) × InSpan start end tick × InInterval (boundsOf jobs) (stepAt plan s .interval) tick
+-- "the plan's steps whose interval shares a tick with it", each by its cell
+abbrev pub StepSharesTick : (bounds plan : List ℕ) → (start end : ℕ) → (cell : ℕ) → Type 0
+StepSharesTick bounds plan start end cell =
+    (s : ℕ) × (s < stepCount plan) × (cellAt plan s ≡ cell)
+    × (tick : ℕ) × InSpan start end tick × InInterval bounds (stepAt plan s .interval) tick
 
 -- "rising, each member listed and nothing else"
 pub record Listed (list : List ℕ) (Member : ℕ → Type 0) : Type 0 where
@@ -90,10 +94,10 @@ pub record Listed (list : List ℕ) (Member : ℕ → Type 0) : Type 0 where
 
 -- Lists that are what a call is to list: "the jobs open somewhere in it, the jobs wholly inside it, the plan's steps whose interval
 -- shares a tick with it".
-pub record Wanted (call : TouchingCall) (jobs : List Job) (lists : Lists) : Type 0 where
+pub record Wanted (call : TouchingCall) (jobs : List Job) (marks : List ℕ) (lists : Lists) : Type 0 where
   pub open-jobs : Listed (lists .openJobs) (OpenSomewhere jobs (call .start) (call .end))
   pub inside-jobs : Listed (lists .insideJobs) (WhollyInside jobs (call .start) (call .end))
-  pub steps : Listed (lists .steps) (StepSharesTick jobs (call .start) (call .end) (call .plan))
+  pub steps : Listed (lists .steps) (StepSharesTick (boundsWith marks jobs) (call .plan) (call .start) (call .end))
 
 -- "the nearest deadline at or after its start, or none"
 pub record IsNearest (jobs : List Job) (start : ℕ) (deadline : NearestDeadline) : Type 0 where
@@ -131,42 +135,47 @@ pub record TouchedSpans : Type 0 where
   pub wrong-span : (call : TouchingCall) → WrongSpan call → RefusedCall call 33 0
   -- and for no other span
   pub only-wrong-span : (call : TouchingCall) (place : ℕ) → call .answered ≡ Refused 33 place → WrongSpan call
-  -- the job table's own refusals
+  -- the job table's own refusals, and then 34
   pub job-table : (call : TouchingCall) (number place : ℕ) → RightSpan call → readJobs (call .jobBytes) ≡ refused number place
       → RefusedCall call number place
+  pub mark-table : (call : TouchingCall) (jobs : List Job) (number place : ℕ) → RightSpan call → readJobs (call .jobBytes) ≡ answer jobs
+      → readMarks (call .markBytes) ≡ refused number place → RefusedCall call number place
   -- "15 to 18 apply"
-  pub plan-steps : (call : TouchingCall) (jobs : List Job) (number place : ℕ) → RightSpan call → readJobs (call .jobBytes) ≡ answer jobs
-      → stepsAlone jobs (call .plan) ≡ refused number place → RefusedCall call number place
-  -- as in the check, number and place, whatever level table that can be read, and whatever prices, the check is lent
-  pub as-the-check : (call : TouchingCall) (jobs : List Job) → RightSpan call → readJobs (call .jobBytes) ≡ answer jobs
+  pub plan-steps : (call : TouchingCall) (jobs : List Job) (marks : List ℕ) (number place : ℕ) → RightSpan call
+      → readJobs (call .jobBytes) ≡ answer jobs → readMarks (call .markBytes) ≡ answer marks
+      → stepsAlone jobs (boundsWith marks jobs) (call .plan) ≡ refused number place → RefusedCall call number place
+  -- as in the check with the same marks, number and place, whatever level table that can be read, and whatever prices, the check is lent
+  pub as-the-check : (call : TouchingCall) (jobs : List Job) (marks : List ℕ) → RightSpan call
+      → readJobs (call .jobBytes) ≡ answer jobs → readMarks (call .markBytes) ≡ answer marks
       → (levelBytes prices : List ℕ) (entries : List Level) → readLevels levelBytes ≡ answer entries
       → (number place : ℕ) → From 15 18 number
-      → (call .answered ≡ Refused number place) ↔ (check levelBytes (call .jobBytes) (call .plan) prices ≡ refused number place)
+      → (call .answered ≡ Refused number place) ↔ (check levelBytes (call .jobBytes) (call .markBytes) (call .plan) prices ≡ refused number place)
   -- what is to be listed is there, and is one thing only
-  pub wanted-exist : (call : TouchingCall) (jobs : List Job) → SoundCall call jobs → (wanted : Lists) × Wanted call jobs wanted
-  pub wanted-is-one : (call : TouchingCall) (jobs : List Job) (wanted other : Lists) → Wanted call jobs wanted → Wanted call jobs other → wanted ≡ other
+  pub wanted-exist : (call : TouchingCall) (jobs : List Job) (marks : List ℕ) → SoundCall call jobs marks → (wanted : Lists) × Wanted call jobs marks wanted
+  pub wanted-is-one : (call : TouchingCall) (jobs : List Job) (marks : List ℕ) (wanted other : Lists)
+      → Wanted call jobs marks wanted → Wanted call jobs marks other → wanted ≡ other
   -- "a lent list too short (the first such, in this order) gives 14, last", with the length wanted as its place
-  pub open-too-short : (call : TouchingCall) (jobs : List Job) → SoundCall call jobs → (wanted : Lists) → Wanted call jobs wanted
+  pub open-too-short : (call : TouchingCall) (jobs : List Job) (marks : List ℕ) → SoundCall call jobs marks → (wanted : Lists) → Wanted call jobs marks wanted
       → length (call .before .openJobs) < length (wanted .openJobs)
       → RefusedCall call 14 (length (wanted .openJobs))
-  pub inside-too-short : (call : TouchingCall) (jobs : List Job) → SoundCall call jobs → (wanted : Lists) → Wanted call jobs wanted
+  pub inside-too-short : (call : TouchingCall) (jobs : List Job) (marks : List ℕ) → SoundCall call jobs marks → (wanted : Lists) → Wanted call jobs marks wanted
       → Fits (wanted .openJobs) (call .before .openJobs)
       → length (call .before .insideJobs) < length (wanted .insideJobs)
       → RefusedCall call 14 (length (wanted .insideJobs))
-  pub steps-too-short : (call : TouchingCall) (jobs : List Job) → SoundCall call jobs → (wanted : Lists) → Wanted call jobs wanted
+  pub steps-too-short : (call : TouchingCall) (jobs : List Job) (marks : List ℕ) → SoundCall call jobs marks → (wanted : Lists) → Wanted call jobs marks wanted
       → Fits (wanted .openJobs) (call .before .openJobs) → Fits (wanted .insideJobs) (call .before .insideJobs)
       → length (call .before .steps) < length (wanted .steps)
       → RefusedCall call 14 (length (wanted .steps))
   -- in every other case the three lists, their lengths and the nearest deadline come out
-  pub comes-out : (call : TouchingCall) (jobs : List Job) → SoundCall call jobs → (wanted : Lists) → Wanted call jobs wanted
+  pub comes-out : (call : TouchingCall) (jobs : List Job) (marks : List ℕ) → SoundCall call jobs marks → (wanted : Lists) → Wanted call jobs marks wanted
       → AllFit wanted (call .before) → AnsweredCall call jobs wanted
   -- and in no other case does anything come out
   pub only-then : (call : TouchingCall) (openJobs insideJobs steps : ℕ) (deadline : NearestDeadline)
       → call .answered ≡ Touching openJobs insideJobs steps deadline
-      → (jobs : List Job) × (wanted : Lists) × SoundCall call jobs × Wanted call jobs wanted × AllFit wanted (call .before)
+      → (jobs : List Job) × (marks : List ℕ) × (wanted : Lists) × SoundCall call jobs marks × Wanted call jobs marks wanted × AllFit wanted (call .before)
   -- no call is shut out: whatever it was lent, it is such a call
-  pub every-call : (jobBytes plan : List ℕ) (start end : ℕ) (before after : Lists) (answered : TouchingAnswer)
-      → TouchingContract jobBytes plan start end before after answered
+  pub every-call : (jobBytes markBytes plan : List ℕ) (start end : ℕ) (before after : Lists) (answered : TouchingAnswer)
+      → TouchingContract jobBytes markBytes plan start end before after answered
       → (call : TouchingCall)
-      × (call .jobBytes ≡ jobBytes) × (call .plan ≡ plan) × (call .start ≡ start) × (call .end ≡ end)
+      × (call .jobBytes ≡ jobBytes) × (call .markBytes ≡ markBytes) × (call .plan ≡ plan) × (call .start ≡ start) × (call .end ≡ end)
       × (call .before ≡ before) × (call .after ≡ after) × (call .answered ≡ answered)

@@ -1,0 +1,35 @@
+-- Tables that are read as the same site have the same answers: planning's contract, the check and ordering look at the site alone.
+-- Assumes nothing.
+use mathlib.Core.Path.{_≡_, sym, _∙_}
+use mathlib.Core.List.{List}
+use Prim.Native.Nat.{ℕ}
+use Rattle.model.specs.Sites.{readSite}
+use Rattle.model.specs.Checking.{check}
+use Rattle.model.specs.Planning.{planning}
+use Rattle.planning.specs.declared.operation.PlanAnswer.{PlanAnswer}
+use Rattle.planning.specs.MadePlans.{Buffers}
+use Rattle.planning.specs.PlanAnswers.{PlanContract}
+use Rattle.ordering.specs.Ordering.{order}
+
+module _ {levels jobs marks otherLevels otherJobs otherMarks : List ℕ} (same : readSite levels jobs marks ≡ readSite otherLevels otherJobs otherMarks) where
+  pub contract-kept : (before after : Buffers) (answered : PlanAnswer) → PlanContract levels jobs marks before after answered
+      → PlanContract otherLevels otherJobs otherMarks before after answered
+  unfolding planning
+  contract-kept before after answered contract =
+      record {
+        outcome = rw (← same) (contract .outcome);
+        untouched = contract .untouched;
+        written = λ site read. contract .written site (same ∙ read);
+        best = λ site read. contract .best site (same ∙ read);
+        window = λ site read. contract .window site (same ∙ read);
+        never-served = λ site read. contract .never-served site (same ∙ read);
+        exactly-when-served = λ site read. contract .exactly-when-served site (same ∙ read);
+      }
+
+  pub checks-kept : (plan prices : List ℕ) → check levels jobs marks plan prices ≡ check otherLevels otherJobs otherMarks plan prices
+  unfolding check
+  checks-kept plan prices = rw same
+
+  pub orders-kept : (plan prices : List ℕ) (room : ℕ) → order levels jobs marks plan prices room ≡ order otherLevels otherJobs otherMarks plan prices room
+  unfolding order
+  orders-kept plan prices room = rw (checks-kept plan prices)
