@@ -9,8 +9,9 @@ Overfull where no schedule meets all deadlines. A number that has no room in the
 from typing import NamedTuple
 
 from . import archive, tables
-from .refusals import Call, entries_of, interval_spans, overfull, refused
-from .tables import check_room
+from .calls import Call, interval_spans
+from .refusals import overfull, refused
+from .tables import check_room, entries_of
 
 
 class Planned(NamedTuple):

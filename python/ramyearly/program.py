@@ -5,8 +5,9 @@ import subprocess
 import tempfile
 
 from . import archive, tables
+from .calls import Call, inside
 from .errors import Trouble
-from .refusals import Call, Overfull, inside, refused
+from .refusals import Overfull, refused
 
 
 def listing(site):

@@ -9,7 +9,8 @@ from typing import NamedTuple
 
 from . import operations, tables
 from .errors import SiteError, TableError
-from .refusals import Overfull, Refused, listed, ticks
+from .reasons import listed, ticks
+from .refusals import Overfull, Refused
 from .terminal import NAME
 
 

@@ -225,6 +225,11 @@ def from_bytes(data, table, name):
     return sizes, entries
 
 
+def entries_of(data, table):
+    """The entries of a table in bytes that has no fault in its length."""
+    return from_bytes(data, table, table.name)[1]
+
+
 def split_cells(entries):
     """A plan's steps with the interval and the job of their cells."""
     return [(cell // JOBS_IN_A_CELL, cell % JOBS_IN_A_CELL, cycles) for cell, cycles in entries]

@@ -7,7 +7,7 @@ import unittest
 
 import ramyearly
 from ramyearly import archive, operations, tables
-from ramyearly.refusals import Call
+from ramyearly.calls import Call
 from support import PAIR, PLAN, PRICES, TWO_JOBS
 
 T = [(2, 10), (4, 20)]

@@ -4,7 +4,8 @@ import os
 import unittest
 
 import ramyearly
-from ramyearly import refusals, tables
+from ramyearly import reasons, refusals, tables
+from ramyearly.calls import Call
 from support import PAIR, PLAN, PRICES, TWO_JOBS, InFolder
 
 T = "2 10\n4 20\n"
@@ -197,11 +198,11 @@ class Numbers(unittest.TestCase):
     def test_buffers(self):
         """The package asks for the lengths wanted, so that these are never seen."""
         for number, what in ((12, "a buffer"), (13, "a buffer"), (14, "a shares table or a list")):
-            refusal = refusals.refused(number, 22, refusals.Call())
+            refusal = refusals.refused(number, 22, Call())
             self.assertEqual(str(refusal), f"{what} is too short (refusal {number}, length wanted 22)")
 
     def test_every_refusal_has_words(self):
-        self.assertEqual(sorted([*refusals.REASONS, 11]), list(range(1, 34)))
+        self.assertEqual(sorted([*reasons.REASONS, 11]), list(range(1, 34)))
 
 
 if __name__ == "__main__":

@@ -8,9 +8,9 @@ from fractions import Fraction
 from xml.etree import ElementTree
 
 from ramyearly import operations, report, tables
-from ramyearly.refusals import entries_of
 from ramyearly.report import figures, pictures
 from ramyearly.report.wording import mixed, thousands
+from ramyearly.tables import entries_of
 
 from samples import EXAMPLES, HOSTILE, LEVELS, MADE, ROOT, Samples, outcome_of, page_of
 

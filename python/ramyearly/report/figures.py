@@ -8,7 +8,8 @@ from fractions import Fraction
 from typing import NamedTuple
 
 from .. import operations, tables
-from ..refusals import Call, entries_of, inside
+from ..calls import Call, inside
+from ..tables import entries_of
 
 NO_JOBS = tables.to_bytes([], tables.JOBS)
 MOST_WINDOWS = 10

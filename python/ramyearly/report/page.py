@@ -5,8 +5,9 @@ The page is a function of the site and of what planning it gave, so it is the sa
 
 from .. import tables
 from ..errors import SiteError
-from ..refusals import Overfull, Refused, entries_of, own_jobs
+from ..refusals import Overfull, Refused, own_jobs
 from ..sites import explain
+from ..tables import entries_of
 from . import figures, page_tables, pictures
 from .markup import element, joined
 from .page_parts import document, facts, folding, paragraph, picture, sections, verdict

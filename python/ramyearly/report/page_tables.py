@@ -3,7 +3,8 @@
 from typing import NamedTuple
 
 from .. import tables
-from ..refusals import entries_of, listed
+from ..reasons import listed
+from ..tables import entries_of
 from .markup import element
 from .wording import counted, mixed, percent, signed, thousands
 

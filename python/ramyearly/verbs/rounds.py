@@ -2,8 +2,9 @@
 
 from .. import convert, tables
 from ..errors import TableError
-from ..refusals import entries_of, ticks
+from ..reasons import ticks
 from ..sites import explained, lay_out, read_site
+from ..tables import entries_of
 from .folders import check_folder, on_site, parser_of
 
 USAGE = ("rounds DIR [OUT]", "tasks to the jobs of one round")

@@ -4,8 +4,10 @@ import os
 
 from .. import tables
 from ..operations import check_span, touching_tables
-from ..refusals import Refused, entries_of, listed
+from ..reasons import listed
+from ..refusals import Refused
 from ..sites import explained, lay_out, read_planned
+from ..tables import entries_of
 from ..terminal import say
 from .folders import REFUSED, TASK_LIST, on_sites, parser_of
 
