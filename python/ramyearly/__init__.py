@@ -3,10 +3,12 @@
     >>> import ramyearly
     >>> ramyearly.plan(levels=[(2, 10), (4, 20)], jobs=[(0, 4, 6), (2, 3, 4)]).energy
     2200
+    >>> ramyearly.plan(levels=[(2, 10), (4, 20)], jobs=[(0, 4, 6), (2, 3, 4)], marks=[1]).spans
+    [(0, 1), (1, 2), (2, 3), (3, 4)]
 
 plan, check, order, touching, setting, spare and rounds take plain values and answer plain values; refusals are exceptions
-with number, place and words. Levels that begin with (0, 5) are those of a board that draws 5,000 while it idles. Every
-answer is the archive's: the package decides nothing.
+with number, place and words. Levels that begin with (0, 5) are those of a board that draws 5,000 while it idles. The first
+four take handover marks, which cut intervals, by name. Every answer is the archive's: the package decides nothing.
 """
 
 from .errors import Trouble

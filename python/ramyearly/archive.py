@@ -75,13 +75,13 @@ BUFFER = (ctypes.c_void_p, ctypes.c_size_t)
 
 # For each function what it answers and what it is lent, as in the header.
 FUNCTIONS = {
-    "ramyearly_check": (CheckAnswer, TABLE * 4),
+    "ramyearly_check": (CheckAnswer, TABLE * 5),
     "ramyearly_setting": (SettingAnswer, TABLE + (ctypes.c_uint32, ctypes.c_uint64)),
     "ramyearly_spare": (SpareAnswer, TABLE * 2 + (ctypes.c_uint32, ctypes.c_uint32)),
-    "ramyearly_plan": (PlanAnswer, TABLE * 2 + BUFFER * 3),
+    "ramyearly_plan": (PlanAnswer, TABLE * 3 + BUFFER * 3),
     "ramyearly_rounds": (RoundsAnswer, TABLE + BUFFER),
-    "ramyearly_order": (OrderAnswer, TABLE * 4 + BUFFER),
-    "ramyearly_touching": (TouchingAnswer, TABLE * 2 + (ctypes.c_uint32, ctypes.c_uint32) + BUFFER * 3),
+    "ramyearly_order": (OrderAnswer, TABLE * 5 + BUFFER),
+    "ramyearly_touching": (TouchingAnswer, TABLE * 3 + (ctypes.c_uint32, ctypes.c_uint32) + BUFFER * 3),
 }
 
 
@@ -118,8 +118,8 @@ def tables(*tables_in_bytes):
     return [word for data in tables_in_bytes for word in (data, len(data))]
 
 
-def check(levels, jobs, plan, prices):
-    return library().ramyearly_check(*tables(levels, jobs, plan, prices))
+def check(levels, jobs, marks, plan, prices):
+    return library().ramyearly_check(*tables(levels, jobs, marks, plan, prices))
 
 
 def setting(levels, length, load):
@@ -163,9 +163,9 @@ def shorter_than_wanted(answer, kinds, lengths):
     return [which for which, (number, _) in enumerate(kinds) if number == answer.number and lengths[which] < answer.place]
 
 
-def plan(levels, jobs):
+def plan(levels, jobs, marks):
     """Plans: the answer, and the buffers of plan, prices and shares."""
-    return call(library().ramyearly_plan, tables(levels, jobs), PLAN_BUFFERS)
+    return call(library().ramyearly_plan, tables(levels, jobs, marks), PLAN_BUFFERS)
 
 
 def rounds(tasks):
@@ -173,11 +173,11 @@ def rounds(tasks):
     return call(library().ramyearly_rounds, tables(tasks), ROUNDS_BUFFERS)
 
 
-def order(levels, jobs, plan, prices):
+def order(levels, jobs, marks, plan, prices):
     """Orders a plan's steps: the answer, and the buffer of the ordered plan."""
-    return call(library().ramyearly_order, tables(levels, jobs, plan, prices), ORDER_BUFFERS)
+    return call(library().ramyearly_order, tables(levels, jobs, marks, plan, prices), ORDER_BUFFERS)
 
 
-def touching(jobs, plan, start, end):
+def touching(jobs, marks, plan, start, end):
     """Lists what touches a span: the answer, and the lists of open jobs, of jobs inside and of the steps' cells."""
-    return call(library().ramyearly_touching, [*tables(jobs, plan), start, end], TOUCHING_BUFFERS)
+    return call(library().ramyearly_touching, [*tables(jobs, marks, plan), start, end], TOUCHING_BUFFERS)

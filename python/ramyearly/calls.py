@@ -11,6 +11,7 @@ class Call(NamedTuple):
 
     levels: bytes = b""
     jobs: bytes = b""
+    marks: bytes = tables.NO_MARKS
     plan: bytes = b""
     prices: bytes = b""
     tasks: bytes = b""
@@ -30,11 +31,11 @@ def inside(call, start, end):
     return [number for number, job in enumerate(entries_of(call.jobs, tables.JOBS)) if spare([job]) < empty]
 
 
-def interval_spans(jobs):
-    """From and to of each interval that jobs make. The archive says where intervals end: jobs of one cycle each always have
-    a plan on this level, and its price list has the ends."""
+def interval_spans(jobs, marks):
+    """From and to of each interval that jobs and marks make. The archive says where intervals end: jobs of one cycle each
+    always have a plan on this level, and its price list has the ends."""
     entries = [(release, deadline, 1) for release, deadline, _ in entries_of(jobs, tables.JOBS)]
     level = tables.to_bytes([(1000, 1)], tables.LEVELS)
-    answer, _, prices, _ = archive.plan(level, tables.to_bytes(entries, tables.JOBS))
+    answer, _, prices, _ = archive.plan(level, tables.to_bytes(entries, tables.JOBS), marks)
     written = bytes(prices)[: tables.PRICES.length(answer.intervals)]
     return tables.spans(entries, entries_of(written, tables.PRICES))

@@ -39,12 +39,22 @@ idling draws in thousands of power units. On a board that draws 5,000 while it i
 
 Without an idle entry idling draws nothing.
 
-In place of the job list it may hold a task list. In each period a task releases a job at its
-phase, and the deadline counts from there. The jobs are laid out over the least common multiple of
-the periods, and their plan may be repeated any number of times:
+Readers are docked at handover and reload their plan there. A mark list beside the job list has the
+ticks of the handovers: at most 8, rising. Each one strictly between the earliest release and the
+latest deadline bounds intervals as these do, and others have no effect; the least energy is the
+same. A missing mark list, or an empty marks.tbl, means that there are no marks.
+
+  marks.txt  or marks.csv    a tick to a line
+  marks.tbl                  the same in bytes
+
+In place of the job list the folder may hold a task list. In each period a task releases a job at
+its phase, and the deadline counts from there. The jobs are laid out over the least common multiple
+of the periods, and their plan may be repeated any number of times:
 
   tasks.txt  or tasks.csv    phase, period, deadline and cycles, a task to a line
   tasks.tbl                  the same in bytes
+
+The marks of such a site are ticks of one round.
 
 Where a table is there in text and in bytes, the text is used: people edit the text, and the
 bytes are made from it. A table in bytes that can't be read counts as empty.

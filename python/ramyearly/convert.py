@@ -41,7 +41,10 @@ def decode(folder, csv):
     made = []
     for table, path in paths.items():
         with open(path, "rb") as file:
-            sizes, entries = tables.from_bytes(file.read(), table, path)
+            data = file.read()
+        if table is tables.MARKS and not data:
+            data = tables.NO_MARKS
+        sizes, entries = tables.from_bytes(data, table, path)
         made.append((table, tables.to_text(sizes, entries, table, csv)))
     if not made:
         names = ", ".join(table.name + ".tbl" for table in tables.ALL_TABLES)
@@ -61,6 +64,6 @@ def write_decoded(made, out, csv):
 
 
 def write_laid_out(site, out):
-    """Writes the tables of a site whose jobs are laid out, as far as they could be read."""
-    sources = [(table, site.sources[table]) for table in (tables.JOBS, tables.LEVELS)]
+    """Writes the tables of a site whose jobs are laid out, as far as they could be read. Marks are ticks of one round."""
+    sources = [(table, site.sources[table]) for table in tables.LENT_TO_PLAN]
     write_tables([(table, source.data) for table, source in sources if not source.trouble], out)

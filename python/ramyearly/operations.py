@@ -2,8 +2,10 @@
 
 A level is (frequency, voltage), a job (release, deadline, cycles), a task (phase, period, deadline, cycles), a step
 (interval, job, cycles) and a price (end, price). Jobs and intervals are numbered from 0. Levels may begin with the idle
-entry (0, draw): idling then draws 1,000 x draw in each tick, and without it nothing. A refusal is raised as Refused, or as
-Overfull where no schedule meets all deadlines. A number that has no room in the tables is a ValueError.
+entry (0, draw): idling then draws 1,000 x draw in each tick, and without it nothing. Marks are the ticks of handovers, rising:
+each one strictly between the earliest release and the latest deadline bounds intervals as these do, and others have no
+effect. A refusal is raised as Refused, or as Overfull where no schedule meets all deadlines. A number that has no room in the
+tables is a ValueError.
 """
 
 from typing import NamedTuple
@@ -27,8 +29,8 @@ class Planned(NamedTuple):
 
 
 class Ordered(NamedTuple):
-    """A plan with its steps in cell order. Two plans for the same jobs come out equal exactly where every job has the same
-    cycles in every interval."""
+    """A plan with its steps in cell order. Two plans for the same jobs and the same marks come out equal exactly where every
+    job has the same cycles in every interval."""
 
     steps: list  # (interval, job, cycles), interval by interval and within it by job
     plan_bytes: bytes  # the same plan as the kernel loads it
@@ -69,20 +71,25 @@ def job_table(jobs):
     return tables.to_bytes(jobs, tables.JOBS)
 
 
+def mark_table(marks):
+    return tables.to_bytes([(tick,) for tick in marks], tables.MARKS)
+
+
 def plan_table(intervals, steps):
     return tables.to_bytes(tables.join_cells(steps), tables.PLAN, sizes=(intervals,))
 
 
-def plan(levels, jobs):
+def plan(levels, jobs, *, marks=()):
     """A plan that no schedule beats which meets all deadlines, with the prices that show it. Levels may begin with
-    (0, draw); every schedule pays the draw where it idles, and the energy figure has it for the whole time."""
-    return plan_tables(level_table(levels), job_table(jobs))
+    (0, draw); every schedule pays the draw where it idles, and the energy figure has it for the whole time. Marks cut
+    intervals, and the least energy is the same with them as without."""
+    return plan_tables(level_table(levels), job_table(jobs), mark_table(marks))
 
 
-def plan_tables(levels, jobs):
+def plan_tables(levels, jobs, marks):
     """Plans a site whose tables are bytes."""
-    answer, plan_buffer, price_buffer, shares = archive.plan(levels, jobs)
-    call = Call(levels=levels, jobs=jobs)
+    answer, plan_buffer, price_buffer, shares = archive.plan(levels, jobs, marks)
+    call = Call(levels, jobs, marks)
     if answer.number == 11:
         raise overfull(answer, call)
     if answer.number:
@@ -103,10 +110,10 @@ def plan_tables(levels, jobs):
     )
 
 
-def check(levels, jobs, steps, prices):
-    """The energy figure of a plan that is accepted with its prices. A plan has as many intervals as there are prices.
-    Levels may begin with (0, draw)."""
-    return check_tables(level_table(levels), job_table(jobs), *plan_and_prices(steps, prices))
+def check(levels, jobs, steps, prices, *, marks=()):
+    """The energy figure of a plan that is accepted with its prices. A plan has as many intervals as there are prices, and
+    its marks are those that it was made with. Levels may begin with (0, draw)."""
+    return check_tables(level_table(levels), job_table(jobs), mark_table(marks), *plan_and_prices(steps, prices))
 
 
 def plan_and_prices(steps, prices):
@@ -114,54 +121,56 @@ def plan_and_prices(steps, prices):
     return plan_table(len(prices), steps), tables.to_bytes(prices, tables.PRICES)
 
 
-def check_tables(levels, jobs, plan_bytes, price_bytes):
+def check_tables(levels, jobs, marks, plan_bytes, price_bytes):
     """Checks a plan and its price list that are bytes."""
-    answer = archive.check(levels, jobs, plan_bytes, price_bytes)
+    answer = archive.check(levels, jobs, marks, plan_bytes, price_bytes)
     if answer.number:
-        raise refused(answer.number, answer.place, Call(levels, jobs, plan_bytes, price_bytes))
+        raise refused(answer.number, answer.place, Call(levels, jobs, marks, plan_bytes, price_bytes))
     return answer.energy
 
 
-def order(levels, jobs, steps, prices):
+def order(levels, jobs, steps, prices, *, marks=()):
     """A plan that is accepted with its prices, with its steps in cell order; the prices are those of the ordered plan too.
-    A plan has as many intervals as there are prices. Levels may begin with (0, draw)."""
-    return order_tables(level_table(levels), job_table(jobs), *plan_and_prices(steps, prices))
+    A plan has as many intervals as there are prices, and its marks are those that it was made with. Levels may begin with
+    (0, draw)."""
+    return order_tables(level_table(levels), job_table(jobs), mark_table(marks), *plan_and_prices(steps, prices))
 
 
-def order_tables(levels, jobs, plan_bytes, price_bytes):
+def order_tables(levels, jobs, marks, plan_bytes, price_bytes):
     """Orders a plan that is bytes, as is its price list."""
-    answer, buffer = archive.order(levels, jobs, plan_bytes, price_bytes)
+    answer, buffer = archive.order(levels, jobs, marks, plan_bytes, price_bytes)
     if answer.number:
-        raise refused(answer.number, answer.place, Call(levels, jobs, plan_bytes, price_bytes))
+        raise refused(answer.number, answer.place, Call(levels, jobs, marks, plan_bytes, price_bytes))
     ordered_bytes = bytes(buffer)[: answer.length]
     return Ordered(tables.split_cells(entries_of(ordered_bytes, tables.PLAN)), ordered_bytes)
 
 
-def touching(jobs, plan, start, end):
+def touching(jobs, plan, start, end, *, marks=()):
     """What touches the span of ticks from start up to, not including, end. A plan is (intervals, steps): how many intervals
-    it has, and its steps, in any order. What its steps add to is no matter here."""
+    it has, and its steps, in any order. What its steps add to is no matter here. Its marks are those that it was made
+    with."""
     span = check_room(start, "start", 32), check_room(end, "end", 32)
-    return touching_tables(job_table(jobs), plan_table(*plan), *span)
+    return touching_tables(job_table(jobs), mark_table(marks), plan_table(*plan), *span)
 
 
-def touching_tables(jobs, plan_bytes, start, end):
-    """What touches a span, of jobs and a plan that are bytes."""
-    answer, open_jobs, inside_jobs, cells = archive.touching(jobs, plan_bytes, start, end)
+def touching_tables(jobs, marks, plan_bytes, start, end):
+    """What touches a span, of jobs, marks and a plan that are bytes."""
+    answer, open_jobs, inside_jobs, cells = archive.touching(jobs, marks, plan_bytes, start, end)
     if answer.number:
-        raise refused(answer.number, answer.place, Call(jobs=jobs, plan=plan_bytes, start=start, end=end))
+        raise refused(answer.number, answer.place, Call(jobs=jobs, marks=marks, plan=plan_bytes, start=start, end=end))
     cycles = dict(entries_of(plan_bytes, tables.PLAN))
     return Touched(
         open_jobs=open_jobs[: answer.open],
         inside_jobs=inside_jobs[: answer.inside],
         steps=tables.split_cells([(cell, cycles[cell]) for cell in cells[: answer.steps]]),
-        spans=interval_spans(jobs),
+        spans=interval_spans(jobs, marks),
         deadline=answer.deadline or None,  # no deadline is 0
     )
 
 
 def check_span(start, end):
     """Refuses a wrong span. The archive does so before it reads a table, and so without one."""
-    answer, *_ = archive.touching(b"", b"", start, end)
+    answer, *_ = archive.touching(b"", b"", b"", start, end)
     if answer.number == 33:
         raise refused(answer.number, answer.place, Call(start=start, end=end))
 

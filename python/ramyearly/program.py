@@ -1,6 +1,5 @@
 """The listing of a site, by the proved listing program."""
 
-import os
 import subprocess
 import tempfile
 
@@ -12,7 +11,7 @@ from .refusals import Overfull, refused
 
 def listing(site):
     """The listing's text, and the refusal that it shows or None."""
-    call = Call(levels=site.data(tables.LEVELS), jobs=site.data(tables.JOBS))
+    call = Call(*map(site.data, tables.LENT_TO_PLAN))
     text = run(call)
     word, *rest = text.splitlines()[0].split()
     if word == "refused":
@@ -28,9 +27,9 @@ def run(call):
     """What the program prints in a folder with these tables alone."""
     program = archive.listing_program()
     with tempfile.TemporaryDirectory() as folder:
-        for name, data in (("levels.tbl", call.levels), ("jobs.tbl", call.jobs)):
-            with open(os.path.join(folder, name), "wb") as file:
-                file.write(data)
+        for table in tables.LENT_TO_PLAN:
+            with open(tables.path_of(folder, table), "wb") as file:
+                file.write(getattr(call, table.name))
         ended = subprocess.run([program], cwd=folder, stdin=subprocess.DEVNULL, stdout=subprocess.PIPE)
     if ended.returncode or not ended.stdout:
         raise Trouble(f"{program}: the listing program ended with status {ended.returncode} and {len(ended.stdout)} bytes")

@@ -66,7 +66,7 @@ def idle_draw(call, place):
 
 
 def count_of_jobs(call, place):
-    return f"{tables.sizes_of(call.jobs, tables.JOBS)[0]} jobs, but a table has at most 64"
+    return table_fault(call.jobs, tables.JOBS, 64)
 
 
 def window(call, place):
@@ -84,12 +84,36 @@ def cycles_out_of_range(value):
     return f"cycles {value} are not in range (1 to 1,000,000,000)"
 
 
+def table_fault(data, table, most):
+    """Why bytes are no table of at most so many entries, or None where the fault is in an entry."""
+    if len(data) >= table.head():
+        count = tables.sizes_of(data, table)[-1]
+        if count > most:
+            return f"{count} {table.sizes[-1]}, but a table has at most {most}"
+    return tables.length_fault(data, table)
+
+
 def too_short(call, place):
     return "a buffer is too short"
 
 
 def list_too_short(call, place):
     return "a shares table or a list is too short"
+
+
+# Marks.
+
+
+def mark_table_fault(call):
+    return table_fault(call.marks, tables.MARKS, 8)
+
+
+def mark(call, place):
+    fault = mark_table_fault(call)
+    if fault:
+        return fault
+    (before,), (tick,) = entries_of(call.marks, tables.MARKS)[place - 1 : place + 1]
+    return f"mark {tick} is not above {before} before it"
 
 
 # Plans.
@@ -99,9 +123,14 @@ def steps_of(call):
     return tables.split_cells(entries_of(call.plan, tables.PLAN))
 
 
+def intervals_of(call):
+    return interval_spans(call.jobs, call.marks)
+
+
 def number_of_intervals(call, place):
     count = tables.sizes_of(call.plan, tables.PLAN)[0]
-    return f"{count} interval{'' if count == 1 else 's'}, but the jobs make {len(interval_spans(call.jobs))}"
+    cut_by = "jobs" if call.marks == tables.NO_MARKS else "jobs and the marks"
+    return f"{count} interval{'' if count == 1 else 's'}, but the {cut_by} make {len(intervals_of(call))}"
 
 
 def cell(call, place):
@@ -146,14 +175,14 @@ def price_list(call, place):
 
 def end_or_price(call, place):
     end, price = entries_of(call.prices, tables.PRICES)[place]
-    _, true_end = interval_spans(call.jobs)[place]
+    _, true_end = intervals_of(call)[place]
     if end != true_end:
         return f"interval {place} ends at {true_end}, not at {end}"
     return f"price {price} of interval {place} is not the number of a band"
 
 
 def price_and_load(call, place):
-    start, end = interval_spans(call.jobs)[place]
+    start, end = intervals_of(call)[place]
     load = load_of(call, place)
     price = entries_of(call.prices, tables.PRICES)[place][1]
     band = archive.setting(call.levels, end - start, load).band
@@ -171,12 +200,7 @@ def dearer(call, place):
 
 
 def task_table_fault(call):
-    """Why the bytes are no task table, or None where the fault is in an entry."""
-    if len(call.tasks) >= tables.TASKS.head():
-        count = tables.sizes_of(call.tasks, tables.TASKS)[0]
-        if count > 16:
-            return f"{count} tasks, but a table has at most 16"
-    return tables.length_fault(call.tasks, tables.TASKS)
+    return table_fault(call.tasks, tables.TASKS, 16)
 
 
 def task(call, place):
@@ -246,6 +270,14 @@ def faulty_task(call, place):
     return None if task_table_fault(call) else place
 
 
+def faulty_mark(call, place):
+    """The first mark that is not above the one before it. The refusal names no place."""
+    if mark_table_fault(call):
+        return None
+    marks = entries_of(call.marks, tables.MARKS)
+    return next(entry for entry in range(1, len(marks)) if marks[entry] <= marks[entry - 1])
+
+
 def task_that_gives(number):
     """The first task with which this refusal comes. The archive says which."""
 
@@ -290,4 +322,5 @@ REASONS = {
     31: (tables.LEVELS, idle_entry_alone, at_place),
     32: (tables.LEVELS, idle_draw, at_place),
     33: (None, span, no_entry),
+    34: (tables.MARKS, mark, faulty_mark),
 }

@@ -1,6 +1,7 @@
 """A site's folder: its tables as bytes, each with the file and the lines that they came from.
 
-A task list may stand in place of the job list. The archive lays it out, and the jobs that come out are the site's.
+A task list may stand in place of the job list. The archive lays it out, and the jobs that come out are the site's. A mark
+list may stand beside either, and a site without one has no marks.
 """
 
 import contextlib
@@ -20,7 +21,7 @@ class Source(NamedTuple):
     path: str
     data: bytes
     lines: list = None  # where the file is text, the line of each entry
-    trouble: str = None  # why the file can't be read, and counts as empty
+    trouble: str = None  # why the file can't be read, and counts as empty; or why it means no marks
     tasks: list = None  # where jobs were laid out from tasks, the task of each
 
 
@@ -35,11 +36,20 @@ class Site(NamedTuple):
         return self.sources[table].data
 
     def files(self):
-        """The sources that are files of their own."""
-        return {table: source for table, source in self.sources.items() if source.tasks is None}
+        """The sources that are files of their own. A mark list that is missing is none."""
+        return {
+            table: source
+            for table, source in self.sources.items()
+            if source.tasks is None and not (table is tables.MARKS and is_missing(source))
+        }
 
     def adding(self, sources):
         return self._replace(sources={**self.sources, **sources})
+
+    def counts(self):
+        """How many jobs there are and, where there are any, how many marks."""
+        jobs, marks = (tables.sizes_of(self.data(table), table)[0] for table in (tables.JOBS, tables.MARKS))
+        return f"jobs {jobs}" + (f", marks {marks}" if marks else "")
 
     def repeats(self):
         """What is said behind the figures of a site with tasks."""
@@ -47,12 +57,12 @@ class Site(NamedTuple):
 
 
 def read_site(folder):
-    """The two tables of a site. Text that is no table is an error; bytes of any content are not."""
+    """The tables of a site. Text that is no table is an error; bytes of any content are not."""
     sources = {table: read_source(folder, table) for table in (tables.LEVELS, tables.work_table(folder))}
     if all(map(is_missing, sources.values())):
         names = "jobs.txt or tasks.txt, levels.txt"
         raise SiteError(f"{folder}: no job list, no task list and no level list ({names}; --help says more)")
-    return Site(folder, sources)
+    return Site(folder, {**sources, tables.MARKS: read_marks(folder)})
 
 
 def is_missing(source):
@@ -60,14 +70,15 @@ def is_missing(source):
 
 
 def read_planned(folder):
-    """The jobs or the tasks of a site, and its plan, without levels. A site that has no plan is to be planned first."""
+    """The jobs or the tasks of a site, its marks and its plan, without levels. A site that has no plan is to be planned
+    first."""
     work = tables.work_table(folder)
     sources = {work: read_source(folder, work), tables.PLAN: read_bytes(folder, tables.PLAN)}
     if is_missing(sources[work]):
         raise SiteError(f"{folder}: no job list and no task list (jobs.txt or tasks.txt; --help says more)")
     if is_missing(sources[tables.PLAN]):
         raise SiteError(f"{sources[tables.PLAN].path}: there is no plan; plan first ({NAME} plan {folder})")
-    return Site(folder, sources)
+    return Site(folder, {**sources, tables.MARKS: read_marks(folder)})
 
 
 def read_plan(site):
@@ -107,6 +118,12 @@ def read_bytes(folder, table):
             return Source(path, file.read(table.length(tables.MOST_ENTRIES) + 1))
     except OSError as error:
         return Source(path, b"", trouble=error.strerror)
+
+
+def read_marks(folder):
+    """The marks of a site. A file in bytes that is missing, unreadable or empty means none, as in the listing program."""
+    source = read_source(folder, tables.MARKS)
+    return source if source.data else source._replace(data=tables.NO_MARKS, trouble=source.trouble or "empty")
 
 
 def place_in(source, entries):

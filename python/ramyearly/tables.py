@@ -2,13 +2,16 @@
 
 A site is a folder. In text its tables are jobs.txt or jobs.csv, and levels.txt or
 levels.csv; in bytes they are jobs.tbl and levels.tbl. A task list, as tasks.txt,
-tasks.csv or tasks.tbl, may stand in place of the job list.
+tasks.csv or tasks.tbl, may stand in place of the job list. A mark list, as marks.txt,
+marks.csv or marks.tbl, may stand beside either; a missing one means that there are no
+marks, and so does an empty marks.tbl.
 
 A line of text is an entry. A job has a release, a deadline and cycles; a task has a
-phase, a period, a deadline and cycles; a level has a frequency and a voltage. Spaces or
-commas stand between the numbers. Blank lines count for nothing, and neither does what
-follows a '#'. The first line may be the names of the columns. A number is digits, with
-'_' between them where that is easier to read: 1_000_000.
+phase, a period, a deadline and cycles; a level has a frequency and a voltage; a mark has
+a tick, at which there is a handover. Spaces or commas stand between the numbers. Blank
+lines count for nothing, and neither does what follows a '#'. The first line may be the
+names of the columns. A number is digits, with '_' between them where that is easier to
+read: 1_000_000.
 
 The first entry of a level list may be the idle entry: frequency 0 and, in the place of the voltage, what
 idling draws in thousands of power units. With '0 5' idling draws 5,000; without an idle
@@ -57,6 +60,7 @@ LEVELS = Table("levels", "level", ("levels",), ((("frequency", 16),), (("voltage
 # The idle entry, with which a level table may begin, has what idling draws in the place of the voltage.
 IDLE = LEVELS._replace(entry="first entry of frequency 0", arrays=((("frequency", 16),), (("idle draw", 16),)))
 JOBS = Table("jobs", "job", ("jobs",), ((("release", 32), ("deadline", 32)), (("cycles", 32),)))
+MARKS = Table("marks", "mark", ("marks",), ((("tick", 32),),))
 TASKS = Table("tasks", "task", ("tasks",), ((("phase", 32), ("period", 32)), (("deadline", 32), ("cycles", 32))))
 PLAN = Table("plan", "step", ("intervals", "steps"), ((("cell", 16),), (("cycles", 32),)))
 PRICES = Table("prices", "interval", ("intervals",), ((("end", 32),), (("price", 8),)))
@@ -65,10 +69,14 @@ ORDERED = PLAN._replace(name="ordered")
 
 # What stands in place of what: a site has one of the two.
 IN_PLACE_OF = {TASKS: JOBS, JOBS: TASKS}
-SITE_TABLES = (TASKS, JOBS, LEVELS)
+SITE_TABLES = (TASKS, JOBS, MARKS, LEVELS)
 ALL_TABLES = (*SITE_TABLES, PLAN, PRICES, ORDERED)
-# What checking and ordering are lent, in their order.
-LENT_TO_CHECK = (LEVELS, JOBS, PLAN, PRICES)
+# What planning is lent, checking and ordering, and what touches a span, in their order.
+LENT_TO_PLAN = (LEVELS, JOBS, MARKS)
+LENT_TO_CHECK = (LEVELS, JOBS, MARKS, PLAN, PRICES)
+LENT_TO_TOUCHING = (JOBS, MARKS, PLAN)
+# A mark table without marks. A file of marks without bytes means the same.
+NO_MARKS = bytes(SIZE_BYTES)
 
 
 def named(table, place, is_zero):

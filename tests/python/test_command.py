@@ -153,6 +153,7 @@ class Verbs(InFolder):
             self.assertIn(f"usage: ramyearly {verb}", of_verb.stdout)
             self.assertIn("exit status", of_verb.stdout)
             self.assert_tasks_are_named(of_verb.stdout)
+            self.assert_marks_are_named(of_verb.stdout)
             if verb == "span":
                 # It reads no levels, and says nothing of them but that.
                 self.assertNotIn("idle entry", of_verb.stdout)
@@ -161,6 +162,7 @@ class Verbs(InFolder):
         for words in (["--help"], [".", "--help"]):
             shown = self.run_command(*words).stdout
             self.assert_tasks_are_named(shown)
+            self.assert_marks_are_named(shown)
             self.assert_idling_is_named(shown)
             self.assertIn("0 5", shown)
         self.expect(["--version"], 0, "ramyearly 1.0.0\n")
@@ -168,6 +170,11 @@ class Verbs(InFolder):
     def assert_tasks_are_named(self, text):
         """The help says that there are task lists, and which columns they have."""
         for word in ("tasks.txt", "tasks.csv", "tasks.tbl", "phase", "period", "deadline", "cycles"):
+            self.assertIn(word, text)
+
+    def assert_marks_are_named(self, text):
+        """The help says that there are mark lists."""
+        for word in ("marks.txt", "marks.csv", "marks.tbl", "tick"):
             self.assertIn(word, text)
 
     def assert_idling_is_named(self, text):

@@ -2,10 +2,10 @@
 
 import random
 import unittest
-from fractions import Fraction
 
 import ramyearly
 from ramyearly import tables
+from definitions import energies_by_definition, random_levels, working_by_definition
 from support import InFolder
 
 T = [(2, 10), (4, 20)]
@@ -15,39 +15,6 @@ DRAWING = [(0, 5), *PAIR]
 JOBS = [(0, 10, 600), (4, 8, 500), (30, 40, 700)]
 STEPS = [(0, 0, 400), (1, 1, 500), (2, 0, 200), (4, 2, 700)]
 PRICES = [(4, 1), (8, 2), (10, 1), (30, 1), (40, 1)]
-
-
-def working_by_definition(levels):
-    """Idling and the levels that work, as frequency and power."""
-    idle = 1000 * levels[0][1] if levels[0][0] == 0 else 0
-    points = [(0, idle), *((f, f * v * v) for f, v in levels if f)]
-
-    def drops(b):
-        lower, higher = [a for a in points if a < b], [c for c in points if c > b]
-        return any((b[1] - a[1]) * (c[0] - a[0]) >= (c[1] - a[1]) * (b[0] - a[0]) for a in lower for c in higher)
-
-    return [point for point in points if not drops(point)]
-
-
-def energies_by_definition(levels, planned):
-    """The figure and the exact energy of a plan, by band and over all intervals."""
-    points = working_by_definition(levels)
-    lengths = [end - start for start, end in planned.spans]
-    figure = exact = sum(lengths) * points[0][1]
-    for (low, less), (high, more) in zip(points, points[1:]):
-        loads = zip(lengths, map(sum, planned.shares))
-        cycles = sum(min(max(load - length * low, 0), length * (high - low)) for length, load in loads)
-        exact += Fraction(cycles * (more - less), high - low)
-        figure += cycles * (more - less) // (high - low)
-    return figure, exact
-
-
-def random_levels(draw, running):
-    """So many levels with an idle entry before them, whose draw is as large as it may be or smaller."""
-    frequencies = sorted(draw.sample(range(1, 1001), running))
-    levels = list(zip(frequencies, sorted(draw.randint(1, 500) for _ in frequencies)))
-    most = min((levels[0][0] * levels[0][1] ** 2 - 1) // 1000, 65535)
-    return [(0, draw.choice((0, most, draw.randint(0, most)))), *levels]
 
 
 class Answers(unittest.TestCase):

@@ -8,6 +8,7 @@ import unittest
 import ramyearly
 from ramyearly import archive, operations, tables
 from ramyearly.calls import Call
+from definitions import random_jobs
 from support import PAIR, PLAN, PRICES, TWO_JOBS
 
 T = [(2, 10), (4, 20)]
@@ -21,10 +22,7 @@ def random_site(draw):
     frequencies = sorted(draw.sample(range(1, 50), draw.randint(1, 5)))
     levels = list(zip(frequencies, sorted(draw.randint(1, 500) for _ in frequencies)))
     while True:
-        jobs = []
-        for _ in range(draw.randrange(9)):
-            release = draw.randrange(20)
-            jobs.append((release, release + draw.randint(1, 20), draw.randint(1, 60)))
+        jobs = random_jobs(draw)
         try:
             return levels, jobs, ramyearly.plan(levels, jobs)
         except ramyearly.Overfull:
@@ -105,7 +103,7 @@ def prices_of(*entries):
     return {"prices": tables.to_bytes(entries, tables.PRICES)}
 
 
-SOUND = Call(PAIR, TWO_JOBS, PLAN, PRICES)
+SOUND = Call(levels=PAIR, jobs=TWO_JOBS, plan=PLAN, prices=PRICES)
 # For each refusal of the check what is replaced in the sound call.
 FAULTS = {
     1: {"levels": b"\1"},
@@ -138,7 +136,7 @@ class Refusals(unittest.TestCase):
         """The same numbers, places and words."""
         self.assertEqual(list(FAULTS), [*range(1, 11), *range(15, 25), 31, 32])
         for number, fault in FAULTS.items():
-            lent = SOUND._replace(**fault)[:4]
+            lent = SOUND._replace(**fault)[:5]
             with self.assertRaises(ramyearly.Refused) as checked:
                 operations.check_tables(*lent)
             with self.assertRaises(ramyearly.Refused) as refused:
@@ -150,7 +148,7 @@ class Refusals(unittest.TestCase):
         """Bytes of any content: refused as by the check, or accepted and ordered."""
         draw, refused = random.Random(5), 0
         for _ in range(5000):
-            lent = [bytearray(table) for table in SOUND[:4]]
+            lent = [bytearray(table) for table in SOUND[:5]]
             for _ in range(draw.randint(1, 2)):
                 table = draw.choice(lent)
                 table[draw.randrange(len(table))] = draw.choice((0, 1, 2, 3, 4, 64, draw.randrange(256)))
@@ -159,7 +157,7 @@ class Refusals(unittest.TestCase):
             self.assertEqual((ordered.number, ordered.place), (checked.number, checked.place))
             refused += checked.number != 0
             if not checked.number:
-                steps = tables.from_bytes(lent[2], tables.PLAN, "")[1]
+                steps = tables.from_bytes(lent[3], tables.PLAN, "")[1]
                 self.assertEqual(bytes(buffer), tables.to_bytes(sorted(steps), tables.PLAN, sizes=(3,)))
         self.assertTrue(1000 < refused < 5000)
 
@@ -184,27 +182,27 @@ class Buffers(unittest.TestCase):
 
     def test_lengths(self):
         """Too short by one byte nothing is written, and in a longer one nothing behind the plan."""
-        spelled = SOUND._replace(**plan_of(*STEPS[::-1]))[:4]
+        spelled = SOUND._replace(**plan_of(*STEPS[::-1]))[:5]
         for length in (0, 1, 4, len(PLAN) - 1, len(PLAN), len(PLAN) + 1, 1000):
             written = PLAN if length >= len(PLAN) else b""
             fields = (0, 0, len(PLAN)) if written else (12, len(PLAN), 0)
             self.assertEqual(self.call(spelled, length), (fields, written + b"\xa5" * (1001 - len(written))))
 
     def test_a_plan_without_steps(self):
-        lent = SOUND._replace(jobs=b"\0\0", plan=bytes(4), prices=b"\0\0")[:4]
+        lent = SOUND._replace(jobs=b"\0\0", plan=bytes(4), prices=b"\0\0")[:5]
         self.assertEqual(self.call(lent, 3), ((12, 4, 0), b"\xa5" * 1001))
         self.assertEqual(self.call(lent, 4), ((0, 0, 4), bytes(4) + b"\xa5" * 997))
 
     def test_refused(self):
         """A short buffer is said last, and none is written to."""
         for number, fault in FAULTS.items():
-            lent = SOUND._replace(**fault)[:4]
+            lent = SOUND._replace(**fault)[:5]
             place = archive.check(*lent).place
             for length in (0, 1000):
                 self.assertEqual(self.call(lent, length), ((number, place, 0), b"\xa5" * 1001))
 
     def test_the_package_asks_for_the_length(self):
-        answer, buffer = archive.order(*SOUND[:4])
+        answer, buffer = archive.order(*SOUND[:5])
         self.assertEqual((answer.number, answer.length, bytes(buffer)), (0, len(PLAN), PLAN))
 
 

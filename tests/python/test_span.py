@@ -8,6 +8,7 @@ import unittest
 import ramyearly
 from ramyearly import archive, operations, tables
 from ramyearly.calls import Call
+from definitions import random_jobs, random_steps, spans_of, touched_by_definition
 from support import PAIR, PLAN, PRICES, TWO_JOBS
 
 JOBS = [(0, 4, 6), (2, 3, 4)]
@@ -15,40 +16,6 @@ STEPS = [(0, 0, 4), (1, 1, 4), (2, 0, 2)]
 SPANS = [(0, 2), (2, 3), (3, 4)]
 LIMIT = 1_000_000
 MOST = 2**32 - 1
-
-
-def spans_of(jobs):
-    """The intervals, by document 01: between the releases and deadlines, in order, each taken once."""
-    bounds = sorted({bound for release, deadline, _ in jobs for bound in (release, deadline)})
-    return list(zip(bounds, bounds[1:]))
-
-
-def by_definition(jobs, steps, start, end):
-    """What touches a span, tick by tick."""
-    span, spans = set(range(start, end)), spans_of(jobs)
-    windows = [set(range(release, deadline)) for release, deadline, _ in jobs]
-    return (
-        [number for number, window in enumerate(windows) if window & span],
-        [number for number, window in enumerate(windows) if window <= span],
-        sorted(step for step in steps if set(range(*spans[step[0]])) & span),
-        spans,
-        min((deadline for _, deadline, _ in jobs if deadline >= start), default=None),
-    )
-
-
-def random_plan(draw):
-    """Jobs, and any steps of a plan that 15 to 18 let pass. They need not add to the jobs' cycles."""
-    jobs = []
-    for _ in range(draw.randrange(9)):
-        release = draw.randrange(20)
-        jobs.append((release, release + draw.randint(1, 20), draw.randint(1, 60)))
-    cells = itertools.product(enumerate(spans_of(jobs)), enumerate(jobs))
-    steps = [
-        (interval, number, draw.randint(1, cycles))
-        for (interval, (start, end)), (number, (release, deadline, cycles)) in cells
-        if release <= start and end <= deadline and draw.random() < 0.5
-    ]
-    return jobs, draw.sample(steps, len(steps))
 
 
 class Answers(unittest.TestCase):
@@ -81,12 +48,13 @@ class Answers(unittest.TestCase):
     def test_by_definition(self):
         draw, lengths = random.Random(5), set()
         for _ in range(300):
-            jobs, steps = random_plan(draw)
+            jobs = random_jobs(draw)
+            steps = random_steps(draw, jobs)
             for _ in range(5):
                 start = draw.randrange(45)
                 end = start + draw.choice((1, 2, draw.randint(1, 45)))
                 touched = ramyearly.touching(jobs, (len(spans_of(jobs)), steps), start, end)
-                self.assertEqual(touched, by_definition(jobs, steps, start, end))
+                self.assertEqual(touched, touched_by_definition(jobs, steps, start, end))
                 lengths.add(tuple(map(len, touched[:3])))
         # The lists are of many lengths.
         self.assertGreater(len(lengths), 50)
@@ -117,7 +85,7 @@ class Answers(unittest.TestCase):
         self.assertEqual(len(steps), 4096)
         for start, end in ((0, 128), (63, 65), (63, 64), (64, 65), (0, 1), (127, 128), (30, 100)):
             touched = ramyearly.touching(jobs, (127, steps[::-1]), start, end)
-            self.assertEqual(touched, by_definition(jobs, steps, start, end))
+            self.assertEqual(touched, touched_by_definition(jobs, steps, start, end))
         self.assertEqual(len(ramyearly.touching(jobs, (127, steps), 0, 128).steps), 4096)
 
     def test_a_plan_that_was_made(self):
@@ -152,13 +120,13 @@ FAULTS = {
 
 def ask(call):
     """The archive's answer to a call, with lists as long as it wants them."""
-    return archive.touching(call.jobs, call.plan, call.start, call.end)[0]
+    return archive.touching(call.jobs, call.marks, call.plan, call.start, call.end)[0]
 
 
 class Refusals(unittest.TestCase):
     def expect(self, call, number, place, said):
         with self.assertRaises(ramyearly.Refused) as caught:
-            operations.touching_tables(call.jobs, call.plan, call.start, call.end)
+            operations.touching_tables(call.jobs, call.marks, call.plan, call.start, call.end)
         refusal = caught.exception
         self.assertEqual((refusal.number, refusal.place, str(refusal)), (number, place, said))
 
@@ -221,7 +189,7 @@ class Refusals(unittest.TestCase):
                 table = draw.choice(lent)
                 table[draw.randrange(len(table))] = draw.choice((0, 1, 2, 3, 4, 64, draw.randrange(256)))
             call = SOUND._replace(jobs=bytes(lent[0]), plan=bytes(lent[1]))
-            checked, answer = archive.check(PAIR, call.jobs, call.plan, PRICES), ask(call)
+            checked, answer = archive.check(PAIR, call.jobs, call.marks, call.plan, PRICES), ask(call)
             of_steps = (checked.number, checked.place) if checked.number <= 18 else (0, 0)
             self.assertEqual((answer.number, answer.place), of_steps)
             refused += answer.number != 0
@@ -250,7 +218,7 @@ class Lists(unittest.TestCase):
         """The answer's numbers, and three lists of 100 numbers of which so many are lent."""
         lists = [(ctypes.c_uint32 * 100)(*[self.FILL] * 100) for _ in lengths]
         lent = [word for numbers, length in zip(lists, lengths) for word in (ctypes.addressof(numbers), length)]
-        answer = archive.library().ramyearly_touching(*archive.tables(call.jobs, call.plan), call.start, call.end, *lent)
+        answer = archive.library().ramyearly_touching(*archive.tables(call.jobs, call.marks, call.plan), call.start, call.end, *lent)
         return tuple(getattr(answer, name) for name, _ in answer._fields_), [list(numbers) for numbers in lists]
 
     def untouched(self, written=((), (), ())):
@@ -289,10 +257,10 @@ class Lists(unittest.TestCase):
             (TWO_JOBS, plan_of((1, 0, 1), (1, 1, 1))["plan"], (2, 3)),
             (TWO_JOBS, plan_of((1, 1, 1), (0, 0, 1), (1, 0, 1), (2, 0, 1))["plan"], (0, 4)),
         ):
-            answer, *lists = archive.touching(jobs, plan, *span)
+            answer, *lists = archive.touching(jobs, tables.NO_MARKS, plan, *span)
             steps = tables.split_cells(tables.from_bytes(plan, tables.PLAN, "")[1])
             entries = tables.from_bytes(jobs, tables.JOBS, "")[1]
-            open_jobs, inside_jobs, touched, _, deadline = by_definition(entries, steps, *span)
+            open_jobs, inside_jobs, touched, _, deadline = touched_by_definition(entries, steps, *span)
             cells = [cell for cell, _ in tables.join_cells(touched)]
             self.assertEqual((answer.number, answer.place, answer.deadline), (0, 0, deadline))
             members = [numbers[:length] for numbers, length in zip(lists, (answer.open, answer.inside, answer.steps))]

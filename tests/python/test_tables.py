@@ -81,7 +81,7 @@ class Encoding(InFolder):
         both = self.site(jobs_txt="", jobs_csv="")
         binary = self.site(jobs_txt=b"0 4 6\n\xff\xfe\n")
         none = self.site()
-        names = "tasks.txt, tasks.csv, jobs.txt, jobs.csv, levels.txt, levels.csv"
+        names = "tasks.txt, tasks.csv, jobs.txt, jobs.csv, marks.txt, marks.csv, levels.txt, levels.csv"
         for site, said in (
             (both, f"ramyearly: {both}/jobs.csv: jobs.txt is there too; keep one of them\n"),
             (binary, f"ramyearly: {binary}/jobs.txt line 2: this is not text\n"),
@@ -131,7 +131,7 @@ class Decoding(InFolder):
     def test_nothing_to_decode(self):
         site = self.site(jobs_txt="0 4 6\n")
         ended = self.run_command("decode", site)
-        names = "tasks.tbl, jobs.tbl, levels.tbl, plan.tbl, prices.tbl, ordered.tbl"
+        names = "tasks.tbl, jobs.tbl, marks.tbl, levels.tbl, plan.tbl, prices.tbl, ordered.tbl"
         said = f"ramyearly: {site}: no table in bytes ({names})\n"
         self.assertEqual((ended.returncode, ended.stderr), (1, said))
 

@@ -132,7 +132,7 @@ def outcome_of(folder):
     try:
         site = sites.read_site(folder)
         site = sites.lay_out(site)
-        return site, operations.plan_tables(site.data(tables.LEVELS), site.data(tables.JOBS))
+        return site, operations.plan_tables(*map(site.data, tables.LENT_TO_PLAN))
     except (Refused, SiteError) as error:
         return site, error
 

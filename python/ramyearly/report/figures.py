@@ -148,7 +148,7 @@ def full_setting(levels, frequency):
 
 def energy_of(levels, ticks, cycles):
     """The energy figure of one job alone."""
-    return operations.plan_tables(levels, tables.to_bytes([(0, ticks, cycles)], tables.JOBS)).energy
+    return operations.plan_tables(levels, tables.to_bytes([(0, ticks, cycles)], tables.JOBS), tables.NO_MARKS).energy
 
 
 def idle_power(levels):

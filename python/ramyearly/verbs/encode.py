@@ -7,7 +7,8 @@ USAGE = ("encode DIR [OUT]", "tables in text to tables in bytes")
 
 
 def run(arguments, _prepare):
-    parser = parser_of("encode", tables.__doc__ + "\nencode writes jobs.tbl or tasks.tbl, and levels.tbl.")
+    does = "\nencode writes jobs.tbl or tasks.tbl, marks.tbl and levels.tbl, each where its text is there."
+    parser = parser_of("encode", tables.__doc__ + does)
     parser.add_argument("out", metavar="OUT", nargs="?", help="the folder to write to (DIR if left out)")
     options = parser.parse_args(arguments)
 

@@ -13,8 +13,9 @@ def run(arguments, prepare):
     parser = parser_of(
         "order",
         "Writes ordered.tbl: the plan of plan.tbl with its steps in cell order, interval by interval and within\n"
-        "an interval by job. Two plans for the same jobs are then the same bytes exactly when every job has the\n"
-        "same cycles in every interval, and cmp compares them. What check refuses is refused here too.\n"
+        "an interval by job. Two plans for the same jobs and marks are then the same bytes exactly when every\n"
+        "job has the same cycles in every interval, and cmp compares them. What check refuses is refused here\n"
+        "too.\n"
         "\n"
         "plan.tbl and prices.tbl stay as they are. ordered.tbl may stand in place of plan.tbl, with the same\n"
         "prices and the same energy figure. It is written whole or not at all, over an older one; a site that\n"
@@ -34,9 +35,9 @@ def run(arguments, prepare):
             ordered = order_tables(*map(site.data, tables.LENT_TO_CHECK)).plan_bytes
         path = tables.path_of(out, tables.ORDERED)
         write_file(path, ordered)
-        jobs = tables.sizes_of(site.data(tables.JOBS), tables.JOBS)[0]
         intervals, steps = tables.sizes_of(ordered, tables.ORDERED)
         stood = ", in order already" if ordered == site.data(tables.PLAN) else ""
-        return f"{folder}: jobs {jobs}, intervals {intervals}, steps {steps}{stood}{site.repeats()}; wrote {path}\n", None
+        sizes = f"{site.counts()}, intervals {intervals}, steps {steps}"
+        return f"{folder}: {sizes}{stood}{site.repeats()}; wrote {path}\n", None
 
     return on_sites(options.folders, work)

@@ -29,11 +29,10 @@ def run(arguments, prepare):
         with explained(site):
             site = lay_out(site)
         with explained(site):
-            planned = plan_tables(site.data(tables.LEVELS), site.data(tables.JOBS))
+            planned = plan_tables(*map(site.data, tables.LENT_TO_PLAN))
         paths = [tables.path_of(out, table) for table in (tables.PLAN, tables.PRICES)]
         write_files(zip(paths, (planned.plan_bytes, planned.price_bytes)))
-        jobs = tables.sizes_of(site.data(tables.JOBS), tables.JOBS)[0]
-        sizes = f"jobs {jobs}, intervals {len(planned.spans)}, steps {len(planned.steps)}, energy {planned.energy}"
+        sizes = f"{site.counts()}, intervals {len(planned.spans)}, steps {len(planned.steps)}, energy {planned.energy}"
         return f"{folder}: {sizes}{site.repeats()}; wrote {paths[0]} and {paths[1]}\n", None
 
     return on_sites(options.folders, work)

@@ -30,7 +30,7 @@ def run(arguments, prepare):
         try:
             site = read_site(folder)
             site = lay_out(site)
-            outcome = plan_tables(site.data(tables.LEVELS), site.data(tables.JOBS))
+            outcome = plan_tables(*map(site.data, tables.LENT_TO_PLAN))
         except Refused as refusal:
             outcome, message = refusal, explain(refusal, site)
         except TableError as error:

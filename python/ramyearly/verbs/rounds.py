@@ -16,7 +16,8 @@ def run(arguments, prepare):
         "Lays out the tasks of a site, tasks.txt, tasks.csv or tasks.tbl with phase, period, deadline (counted\n"
         "from the release) and cycles, as the jobs of one round, which takes the least common multiple of the\n"
         "periods. Prints them; with OUT it writes jobs.tbl and levels.tbl there, a site without tasks. A level\n"
-        "list that begins with an idle entry (frequency 0 and the idle draw) is written with it.",
+        "list that begins with an idle entry (frequency 0 and the idle draw) is written with it. The marks of\n"
+        "the site, marks.txt, marks.csv or marks.tbl, are ticks of one round, and are written as marks.tbl.",
     )
     parser.add_argument("out", metavar="OUT", nargs="?", help="the folder to write to (standard output if left out)")
     options = parser.parse_args(arguments)

@@ -9,7 +9,7 @@ from ..refusals import Refused
 from ..sites import explained, lay_out, read_planned
 from ..tables import entries_of
 from ..terminal import say
-from .folders import REFUSED, TASK_LIST, on_sites, parser_of
+from .folders import MARK_LIST, REFUSED, TASK_LIST, on_sites, parser_of
 
 USAGE = ("span START END DIR...", "say what touches a span of ticks")
 
@@ -30,7 +30,7 @@ def run(arguments, prepare):
         "with it, and the nearest deadline at or after its start, be it in the span or past its end.\n"
         "\n"
         "A site is planned first: the plan is read from plan.tbl. Levels have no part in what is said, and\n"
-        "no file is written. Jobs are numbered from 0 in the order of their list." + TASK_LIST + OF_ONE_ROUND,
+        "no file is written. Jobs are numbered from 0 in the order of their list." + MARK_LIST + TASK_LIST + OF_ONE_ROUND,
         several=True,
         ticks=TICKS,
     )
@@ -48,7 +48,7 @@ def run(arguments, prepare):
         with explained(site):
             site = lay_out(site)
         with explained(site):
-            touched = touching_tables(site.data(tables.JOBS), site.data(tables.PLAN), options.start, options.end)
+            touched = touching_tables(*map(site.data, tables.LENT_TO_TOUCHING), options.start, options.end)
         between_sites = "\n" if len(options.folders) > 1 else ""
         return page(site, touched, options.start, options.end) + between_sites, None
 
