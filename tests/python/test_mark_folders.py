@@ -57,6 +57,7 @@ class MarkFolders(InFolder):
         self.assertEqual((touched.returncode, touched.stderr), (0, ""))
         self.assertIn("  from  to  job  cycles\n     1   2    0       2\n", touched.stdout)
         self.expect(["report", site], 0, f"{site}: wrote {site}/report.html\n")
+        self.assertIn(b"handover at 1<", read(os.path.join(site, "report.html")))
 
 
 class Verbs(MarkFolders):

@@ -7,21 +7,10 @@ from ramyearly import tables
 from ramyearly.report import figures
 from ramyearly.report.wording import mixed
 
-from pages import HTML, WithSamples, rows_of, text_of, verdict_of
+from pages import HTML, WithSamples, facts_of, rows_of, terms_of, text_of, verdict_of
 from samples import IDLE_LEVELS
 
 NOTHING = "\u2013"
-
-
-def facts_of(page):
-    """The facts of a page by name, each as its value and its remark."""
-    facts = next(group for group in page.iter(f"{HTML}dl") if group.get("class") == "facts")
-    return {text_of(name): [*value.itertext()] for name, value in facts}
-
-
-def terms_of(page):
-    terms = next(group for group in page.iter(f"{HTML}dl") if group.get("class") == "terms")
-    return {text_of(name): text_of(meaning) for name, meaning in terms}
 
 
 class Idling(WithSamples):

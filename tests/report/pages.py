@@ -9,6 +9,7 @@ from xml.etree import ElementTree
 
 from ramyearly import operations, report, tables
 from ramyearly.report import figures, pictures
+from ramyearly.report.timeline import scale
 from ramyearly.report.wording import mixed, thousands
 from ramyearly.tables import entries_of
 
@@ -33,6 +34,17 @@ def rows_of(page, name):
         if box.get("aria-labelledby") == f"{name}-caption":
             return [[text_of(cell) for cell in row] for row in box.find(f"{HTML}table/{HTML}tbody")]
     return None
+
+
+def facts_of(page):
+    """The facts of a page by name, each as its value and its remark."""
+    facts = next(group for group in page.iter(f"{HTML}dl") if group.get("class") == "facts")
+    return {text_of(name): [*value.itertext()] for name, value in facts}
+
+
+def terms_of(page):
+    terms = next(group for group in page.iter(f"{HTML}dl") if group.get("class") == "terms")
+    return {text_of(name): text_of(meaning) for name, meaning in terms}
 
 
 class WithSamples(unittest.TestCase):
@@ -112,9 +124,9 @@ class Pages(WithSamples):
         self.assertEqual(text_of(root.find(f".//{HTML}h1")), "<b>&\"x' \ufffd\ufffd<i>")
 
     def test_the_largest_site_is_quick(self):
-        for name in ("large", "crowded"):
+        for name, intervals in (("large", 127), ("crowded", 127), ("handovers, large", 135), ("handovers, crowded", 135)):
             site, outcome = outcome_of(self.samples.folder(name))
-            self.assertEqual((len(site.sources[tables.JOBS].lines), len(outcome.spans)), (64, 127))
+            self.assertEqual((len(site.sources[tables.JOBS].lines), len(outcome.spans)), (64, intervals))
             began = time.monotonic()
             report.page(name, site, outcome)
             self.assertLess(time.monotonic() - began, 2)
@@ -260,20 +272,21 @@ class Pictures(WithSamples):
     def guard_round(self):
         site, planned = outcome_of(os.path.join(EXAMPLES, "guard-round"))
         entries = entries_of(site.data(tables.JOBS), tables.JOBS)
-        return entries, figures.intervals(site.data(tables.LEVELS), planned), figures.level_list(site.data(tables.LEVELS))
+        time, levels = scale(entries, planned.spans), site.data(tables.LEVELS)
+        return time, entries, figures.intervals(levels, planned), figures.level_list(levels)
 
     def test_each_is_a_document(self):
-        entries, intervals, levels = self.guard_round()
+        time, entries, intervals, levels = self.guard_round()
         for svg in (
-            pictures.jobs(entries, intervals),
-            pictures.clock(entries, intervals, levels),
-            pictures.load(entries, intervals),
+            pictures.jobs(time, entries, intervals),
+            pictures.clock(time, intervals, levels),
+            pictures.load(time, intervals),
         ):
             self.assertEqual(ElementTree.fromstring(svg).tag, f"{SVG}svg")
 
     def test_the_picture_in_the_readme(self):
-        entries, intervals, _ = self.guard_round()
-        svg = pictures.jobs(entries, intervals) + "\n"
+        time, entries, intervals, _ = self.guard_round()
+        svg = pictures.jobs(time, entries, intervals) + "\n"
         if os.environ.get("WRITE_PICTURE"):
             with open(PICTURE, "w", encoding="utf-8") as file:
                 file.write(svg)

@@ -75,6 +75,24 @@ TASKS = {
     "too many tasks": [(0, 1, 1, 1)] * 17,
     "no tasks": [],
 }
+# Marks beside jobs.
+MARKED = {
+    "handovers": (OVERFULL[:3], [20, 60, 110]),
+    "handovers, overfull": (OVERFULL, [60, 110, 160]),
+    "handovers, large": (many_jobs(), [450 * mark + 230 for mark in range(8)]),
+    "handovers, crowded": (crowded_jobs(), [500_000 + mark for mark in range(8)]),
+    "handovers, overfull and large": (
+        [(release, deadline, 9 * cycles) for release, deadline, cycles in many_jobs()],
+        [450 * mark + 230 for mark in range(8)],
+    ),
+    "handovers at both ends": ([(0, 1_000_000, 1_000_000)], [1, 2, 999_998, 999_999]),
+    "handovers on bounds": ([(0, 40, 9000), (40, 200, 21000), (100, 120, 8500)], [40, 100, 120]),
+    "marks outside": (OVERFULL[:3], [0, 200, 10**6, 2**32 - 1]),
+    "marks of all kinds": ([(10, 40, 9000), (40, 200, 21000)], [5, 10, 40, 60, 200, 201]),
+    "marks, no jobs": ([], [480, 960]),
+    "marks that fall": (OVERFULL, [10, 50, 40, 60]),
+    "too many marks": (OVERFULL, [*range(9)]),
+}
 HOSTILE = b'<b>&"x\' \xff\x1b<i>'
 
 
@@ -96,6 +114,9 @@ class Samples:
             self.make(name, **{"levels.txt": lines(levels), "jobs.txt": "# a line before the first\n" + lines(jobs)})
         for name, tasks in TASKS.items():
             self.make(name, **{"levels.txt": lines(LEVELS), "tasks.txt": lines(tasks)})
+        for name, (jobs, marks) in MARKED.items():
+            files = {"levels.txt": lines(LEVELS), "jobs.txt": lines(jobs)}
+            self.make(name, **files, **{"marks.txt": "# a line before the first\n" + lines((mark,) for mark in marks)})
         self.make(os.fsdecode(HOSTILE), **{"levels.txt": lines(LEVELS), "jobs.txt": lines(OVERFULL[:2])})
         self.make("no level list", **{"jobs.txt": lines(OVERFULL)})
         self.make("no job list", **{"levels.txt": lines(LEVELS)})
@@ -108,6 +129,14 @@ class Samples:
             self.make(name, **{"levels.txt": lines(IDLE_LEVELS), "tasks.txt": lines(tasks)})
         idle = tables.to_bytes(IDLE_LEVELS, tables.LEVELS)
         self.make("idle draw in bytes", **{"levels.tbl": idle, "jobs.txt": lines(OVERFULL[:2])})
+        self.make("handovers, tasks", **{"levels.txt": lines(LEVELS), "tasks.txt": lines(three), "marks.txt": "30\n60\n"})
+        for name, marks in (("marks in bytes", [20, 60]), ("no marks in bytes", []), ("marks that fall, in bytes", [20, 20])):
+            data = tables.to_bytes([(mark,) for mark in marks], tables.MARKS)
+            self.make(name, **{"levels.txt": lines(LEVELS), "jobs.txt": lines(OVERFULL[:3]), "marks.tbl": data})
+        for name, data in (("empty marks", b""), ("short marks", b"\x02\x00\x05")):
+            self.make(name, **{"levels.txt": lines(LEVELS), "jobs.txt": lines([]), "marks.tbl": data})
+        self.make("marks that can't be read", **{"levels.txt": lines(LEVELS), "jobs.txt": lines([])})
+        os.mkdir(os.path.join(self.room, "marks that can't be read", "marks.tbl"))
         self.make("two lists", **{"levels.txt": lines(LEVELS), "jobs.txt": lines(OVERFULL), "tasks.txt": lines(three)})
         self.make("nothing")
         examples = [os.path.join(EXAMPLES, name) for name in sorted(os.listdir(EXAMPLES))]

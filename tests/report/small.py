@@ -44,24 +44,28 @@ class Wording(unittest.TestCase):
         self.assertEqual(wording.signed(-2500), "\u22122,500")
 
 
+def bounds_of(jobs):
+    return sorted({time for release, deadline, _ in jobs for time in (release, deadline)})
+
+
 class Timelines(unittest.TestCase):
     def test_to_scale_where_the_shortest_can_be_seen(self):
-        time = timeline([(10, 20, 1), (20, 110, 1)], 50, 1000)
+        time = timeline([10, 20, 110], 50, 1000)
         self.assertTrue(time.to_scale)
         self.assertEqual([time.at(moment) for moment in (10, 20, 60, Fraction(121, 2), 110)], [50, 150, 550, 555, 1050])
 
     def test_every_interval_is_seen(self):
-        short = [(0, 1, 1), (1, 1_000_000, 1)]
-        for jobs in (short, many_jobs(), crowded_jobs()):
-            time = timeline(jobs, 50, 1000)
+        short = [0, 1, 1_000_000]
+        for bounds in (short, bounds_of(many_jobs()), bounds_of(crowded_jobs())):
+            time = timeline(bounds, 50, 1000)
             widths = [right - left for left, right in zip(time.places, time.places[1:])]
             self.assertGreaterEqual(min(widths), 1000 / 2 / len(widths) - 0.001 if len(widths) > 31 else 15.999)
             self.assertAlmostEqual(time.right, 1050)
         self.assertFalse(timeline(short, 50, 1000).to_scale)
 
     def test_labels_keep_apart(self):
-        for jobs in (many_jobs(), crowded_jobs(), [(999_998, 999_999, 1)], [(0, 1, 1), (1, 1_000_000, 1)]):
-            time = timeline(jobs, 50, 1000)
+        for bounds in (bounds_of(many_jobs()), bounds_of(crowded_jobs()), [999_998, 999_999], [0, 1, 1_000_000]):
+            time = timeline(bounds, 50, 1000)
             labels = time.labels(wanted=[time.bounds[1]])
             self.assertEqual([labels[0], labels[-1]], [time.bounds[0], time.bounds[-1]])
             for one, other in zip(labels, labels[1:]):
@@ -78,6 +82,7 @@ class Contrast(unittest.TestCase):
             (drawing.MUTED, "#ffffff"),
             (drawing.ALARM, "#ffffff"),
             (drawing.ALARM, "#f3f6f8"),
+            (drawing.HANDOVER, "#ffffff"),
         ):
             self.assertGreaterEqual(contrast(text, ground), 4.5)
 

@@ -1,23 +1,25 @@
 """The picture of the clock over time."""
 
+from . import handovers
 from .drawing import FRAME, STRONG, TINT, Drawing, hint
-from .timeline import AXIS, draw_axis, draw_grid, scale
+from .timeline import AXIS, draw_axis, draw_grid
 from .wording import from_to, mixed, thousands
 
+TOP = 10
 HEIGHT = 170
 LABELS_APART = 13
 
 
-def clock(entries, intervals, levels, name="clock"):
+def clock(time, intervals, levels, name="clock"):
     """The frequency over time, with a line for each level."""
-    time = scale(entries)
-    top, bottom = 10, 10 + HEIGHT
+    top = TOP + handovers.row(time)
+    bottom = top + HEIGHT
     highest = levels[-1].frequency
     drawing = Drawing(
         name,
         "The clock over time",
         "In each interval the clock is on the upper one of two neighbouring levels first, then on the lower one. "
-        "The lines across are the levels, labelled with their frequencies in cycles per tick.",
+        "The lines across are the levels, labelled with their frequencies in cycles per tick." + handovers.words_for(time),
     )
 
     def height(frequency):
@@ -32,6 +34,7 @@ def clock(entries, intervals, levels, name="clock"):
         left, right = time.at(interval.start), time.at(interval.end)
         said = f"interval {interval.number} ({from_to(interval.start, interval.end)}): {clock_words(interval)}"
         drawing.box(left, top, right - left, HEIGHT, hint(said), fill="#ffffff", fill_opacity=0)
+    handovers.draw(drawing, time, TOP, bottom)
     draw_axis(drawing, time, bottom)
     return drawing.svg(bottom + AXIS)
 

@@ -14,6 +14,7 @@ TINT = "#d6e4f0"
 MIDDLE = "#8fb3d3"
 STRONG = "#1f4e79"
 ALARM = "#8c1d18"
+HANDOVER = "#7a4300"
 
 # The widest digits among the fonts above take 0.64 of the font's size; marks between them are narrow in all of them.
 DIGIT_WIDTH = 0.64

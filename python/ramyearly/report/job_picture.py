@@ -1,32 +1,37 @@
 """The picture of the jobs: their windows, and the cycles that run in each interval."""
 
+from . import handovers
 from .drawing import ALARM, FRAME, INK, MARGIN, MUTED, STRONG, TINT, Drawing, hint, width_of
-from .timeline import AXIS, draw_axis, draw_grid, draw_labels, scale
+from .timeline import AXIS, draw_axis, draw_grid, draw_labels
 from .wording import counted, from_to, thousands
 
 ROW = 23  # the height of a job
 BAR = 19
-STRIP = 4  # the height of the mark that shows when a job runs
+STRIP = 4  # the height of the strip that shows when a job runs
 HEAD = 20  # the height of a row of words above the jobs
 LABELS_ABOVE = 12  # with more rows than these the labels of time stand above them too
 
 
-def jobs(entries, intervals=(), overfull=None, rows=None, name="jobs"):
+def jobs(time, entries, intervals=(), overfull=None, rows=None, name="jobs"):
     """A row for each job, or for those in rows: its window and, in each interval of a plan in which it runs, the cycles.
     Without a plan an overfull window is marked."""
     rows = range(len(entries)) if rows is None else rows
-    time = scale(entries)
-    drawing = Drawing(name, *job_words(entries, rows, overfull))
+    title, description = job_words(entries, rows, overfull)
+    drawing = Drawing(name, title, description + handovers.words_for(time))
     wanted = (overfull.start, overfull.end) if overfull else ()
     top = HEAD
     if len(rows) > LABELS_ABOVE:
         draw_labels(drawing, time, 14, wanted)
         top += HEAD
+    said_at = top - 7
+    if overfull and time.handovers:
+        # The words of the overfull window stand above those of the handovers.
+        top += HEAD
     bottom = top + ROW * len(rows)
     drawing.text(MARGIN, top - 6, "job", fill=MUTED)
     drawing.text(time.left - 8, top - 6, "cycles", text_anchor="end", fill=MUTED)
     if overfull:
-        draw_overfull(drawing, time, overfull, top, bottom)
+        draw_overfull(drawing, time, overfull, top, bottom, said_at)
     draw_grid(drawing, time, top, bottom)
     for row, job in enumerate(rows):
         draw_row(drawing, time, job, entries[job], top + ROW * row, overfull)
@@ -34,6 +39,7 @@ def jobs(entries, intervals=(), overfull=None, rows=None, name="jobs"):
         for run in interval.runs():
             if run.job in rows:
                 draw_run(drawing, time, interval, run, top + ROW * rows.index(run.job))
+    handovers.draw(drawing, time, top - 6, bottom)
     draw_axis(drawing, time, bottom, wanted)
     return drawing.svg(bottom + AXIS)
 
@@ -83,12 +89,12 @@ def draw_run(drawing, time, interval, run, y):
     drawing.fitting_text(left, top + 11.5, right - left, thousands(run.cycles), pointer_events="none")
 
 
-def draw_overfull(drawing, time, overfull, top, bottom):
-    """The overfull window behind the rows, with its label above them."""
+def draw_overfull(drawing, time, overfull, top, bottom, said_at):
+    """The overfull window behind the rows, with its label above them, whose base line is at said_at."""
     left, right = time.at(overfull.start), time.at(overfull.end)
     hatching = drawing.hatching("#d9a5a1")
     drawing.box(left, top - 2, right - left, bottom - top + 2, fill=hatching, stroke=ALARM, stroke_width=1.5)
     said = f"overfull: {from_to(overfull.start, overfull.end)}, {counted(-overfull.spare, 'cycle')} too many"
     half = width_of(said, 12) / 2
     middle = min(max((left + right) / 2, time.left + half), time.right - half)
-    drawing.text(middle, top - 7, said, text_anchor="middle", font_size=12, font_weight="bold", fill=ALARM)
+    drawing.text(middle, said_at, said, text_anchor="middle", font_size=12, font_weight="bold", fill=ALARM)

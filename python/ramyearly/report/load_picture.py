@@ -2,33 +2,35 @@
 
 from itertools import groupby
 
+from . import handovers
 from .drawing import FRAME, MIDDLE, MUTED, STRONG, Drawing, hint, width_of
-from .timeline import AXIS, draw_axis, draw_grid, scale
+from .timeline import AXIS, draw_axis, draw_grid
 from .wording import from_to, percent, thousands
 
+TOP = 6
 HEIGHT = 120
 STRIP = 18  # the height of the bands, and of the prices
 LYING, STANDING = 18, 32  # the height of the percentages, which stand upright where they are many
 SMALL = 9  # the size of those that stand
 
 
-def load(entries, intervals, name="load"):
+def load(time, intervals, name="load"):
     """A bar for each interval: its load against what the top frequency gives. Under it band and price."""
-    time = scale(entries)
     drawing = Drawing(
         name,
         "Load of each interval against the top frequency, with band and price",
         "A full bar is the top frequency all the time. Above each bar stands its load in percent of that; under it stand "
-        "the band and the price. A full interval is filled dark.",
+        "the band and the price. A full interval is filled dark." + handovers.words_for(time),
     )
     lying = all(fits(time, interval) for interval in intervals)
-    top = 6 + (LYING if lying else STANDING)
+    top = TOP + handovers.row(time) + (LYING if lying else STANDING)
     bottom = top + HEIGHT
     draw_shares(drawing, time, top, bottom)
     draw_grid(drawing, time, top, bottom)
     for interval in intervals:
         draw_bar(drawing, time, interval, top, bottom)
         draw_percent(drawing, time, interval, top - 7, lying)
+    handovers.draw(drawing, time, TOP + 5, bottom)
     draw_axis(drawing, time, bottom)
     drawing.text(time.left - 8, top - 10, "load %", text_anchor="end", font_weight="bold")
     below = bottom + AXIS

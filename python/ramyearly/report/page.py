@@ -4,11 +4,12 @@ The page is a function of the site and of what planning it gave, so it is the sa
 """
 
 from .. import tables
+from ..calls import interval_spans
 from ..errors import SiteError
 from ..refusals import Overfull, Refused, own_jobs
 from ..sites import explain
 from ..tables import entries_of
-from . import figures, page_tables, pictures
+from . import figures, handovers, page_tables, pictures
 from .markup import element, joined
 from .page_parts import document, facts, folding, paragraph, picture, sections, verdict
 from .timeline import scale
@@ -40,22 +41,28 @@ def planned_body(site, planned):
     levels, jobs = site.data(tables.LEVELS), site.data(tables.JOBS)
     entries, level_list = entries_of(jobs, tables.JOBS), figures.level_list(levels)
     intervals, windows = figures.intervals(levels, planned), figures.tightest(levels, jobs)
+    time = scale(entries, planned.spans, handovers.marks_of(site))
     steps = page_tables.step_table(planned.steps, intervals)
     return [
         verdict("Planned", planned_sentence(site)),
-        planned_facts(site, planned, entries, windows[0]),
+        planned_facts(site, planned, time, windows[0]),
         sections(
-            ("jobs", "Jobs", job_pictures(entries, JOB_WORDS, intervals=intervals)),
-            ("clock", "Clock", clock_picture(entries, intervals, level_list)),
-            ("load", "Load", load_picture(entries, intervals)),
+            ("jobs", "Jobs", job_pictures(time, entries, JOB_WORDS, intervals=intervals)),
+            ("clock", "Clock", clock_picture(time, intervals, level_list)),
+            ("load", "Load", load_picture(time, intervals)),
             ("windows", "Tightest windows", page_tables.window_table(windows)),
             ("intervals", "Intervals", page_tables.interval_table(intervals)),
             ("steps", "Steps", folding(f"The {counted(len(planned.steps), 'step')} of the plan", steps)),
-            *site_sections(site, entries, level_list, intervals),
-            with_tasks=has_tasks(site),
-            with_draw=idle_power(site) > 0,
+            *site_sections(site, time, entries, level_list, intervals),
+            **kinds_of(site),
         ),
     ]
+
+
+def kinds_of(site):
+    """What a site has beyond jobs and levels, as the sections take it."""
+    marks = len(handovers.marks_of(site)) > 0
+    return {"with_tasks": has_tasks(site), "with_draw": idle_power(site) > 0, "with_marks": marks}
 
 
 def has_tasks(site):
@@ -76,12 +83,13 @@ def planned_sentence(site):
     )
 
 
-def planned_facts(site, planned, entries, window):
+def planned_facts(site, planned, time, window):
     return facts(
         ("Energy figure", thousands(planned.energy), *(["of one round"] if has_tasks(site) else [])),
-        *draw_facts(site, entries),
-        time_fact(site, entries),
-        job_fact(site, entries),
+        *draw_facts(site, time),
+        time_fact(site, time),
+        job_fact(site),
+        *handovers.mark_facts(site, time),
         ("Intervals", thousands(len(planned.spans))),
         ("Steps", thousands(len(planned.steps))),
         *level_facts(site.data(tables.LEVELS)),
@@ -89,9 +97,9 @@ def planned_facts(site, planned, entries, window):
     )
 
 
-def draw_facts(site, entries):
+def draw_facts(site, time):
     """What idling draws, where it draws power: in the time of the plan and, where rounds repeat, between two of them."""
-    power, (start, end) = idle_power(site), span(entries)
+    power, (start, end) = idle_power(site), span(time)
     if power == 0:
         return []
     found = [("Idle draw", thousands(power * (end - start)), f"{thousands(power)} in each tick, part of the figure")]
@@ -102,23 +110,23 @@ def draw_facts(site, entries):
     return found
 
 
-def span(entries):
+def span(time):
     """The earliest release and the latest deadline."""
-    bounds = scale(entries).bounds
-    return bounds[0], bounds[-1]
+    return time.bounds[0], time.bounds[-1]
 
 
-def time_fact(site, entries):
-    start, end = span(entries)
+def time_fact(site, time):
+    start, end = span(time)
     repeats = f", repeats every {thousands(site.multiple)}" if has_tasks(site) else ""
     return "Time", from_to(start, end), counted(end - start, "tick") + repeats
 
 
-def job_fact(site, entries, *remarks):
+def job_fact(site, *remarks):
     if has_tasks(site):
         count = tables.sizes_of(site.data(tables.TASKS), tables.TASKS)[0]
         remarks = (f"from {counted(count, 'task')}", *remarks)
-    return "Jobs", thousands(len(entries)), *([", ".join(remarks)] if remarks else [])
+    count = tables.sizes_of(site.data(tables.JOBS), tables.JOBS)[0]
+    return "Jobs", thousands(count), *([", ".join(remarks)] if remarks else [])
 
 
 def level_facts(levels):
@@ -136,56 +144,62 @@ JOB_WORDS = (
 )
 
 
-def job_pictures(entries, words, **shown):
+def job_pictures(time, entries, words, **shown):
     """The picture of the jobs, in several parts where there are many."""
     count = -(-len(entries) // MOST_ROWS)
     bounds = [len(entries) * part // count for part in range(count + 1)]
     found = []
     for part, (first, end) in enumerate(zip(bounds, bounds[1:])):
         label = f"Jobs {first} to {end - 1}" if count > 1 else "Jobs"
-        svg = pictures.jobs(entries, rows=range(first, end), name=f"jobs-{part}", **shown)
-        caption = f"{words} {scale_words(entries)}" if part == count - 1 else f"{label}."
+        svg = pictures.jobs(time, entries, rows=range(first, end), name=f"jobs-{part}", **shown)
+        caption = f"{words} {time_words(time)}" if part == count - 1 else f"{label}."
         found.append(picture(svg, label, caption))
     return joined(found)
 
 
-def clock_picture(entries, intervals, level_list):
+def clock_picture(time, intervals, level_list):
     words = (
         "The frequency in cycles per tick. In each interval the clock is on the upper one of two neighbouring levels "
         "first, then on the lower one. "
     )
     if not all(level.works for level in level_list):
         words += "A level in brackets is never used: a mix of others costs no more. "
-    svg = pictures.clock(entries, intervals, level_list)
-    return picture(svg, "Clock", words + scale_words(entries))
+    svg = pictures.clock(time, intervals, level_list)
+    return picture(svg, "Clock", words + time_words(time))
 
 
-def load_picture(entries, intervals):
+def load_picture(time, intervals):
     words = (
         "A bar up to 100 is the top frequency all the time; it is then filled dark. Above each bar stands the load in "
         "percent, under it the band that the load ends in and the price, where they fit (the intervals have them all). "
     )
-    return picture(pictures.load(entries, intervals), "Load", words + scale_words(entries))
+    return picture(pictures.load(time, intervals), "Load", words + time_words(time))
 
 
-def scale_words(entries):
-    if scale(entries).to_scale:
-        return "Time is to scale."
-    return (
+def time_words(time):
+    scaled = (
         "Time is not to scale: so that the shortest intervals can be seen, each interval gets a part of its width for its "
         "length and an equal part for itself."
     )
+    return ("Time is to scale." if time.to_scale else scaled) + handovers.words_for(time)
 
 
-def site_sections(site, entries, level_list, intervals=()):
+def site_sections(site, time, entries, level_list, intervals=()):
     """The tables of a site that has no fault."""
     jobs, levels = site.sources[tables.JOBS], site.sources[tables.LEVELS]
     tasks = [("task-list", "Task list", task_content(site))] if has_tasks(site) else []
     return [
         *tasks,
         ("job-list", "Job list", page_tables.job_table(jobs, entries, intervals)),
+        *mark_sections(site, entries, time),
         ("level-list", "Level list", page_tables.level_table(levels, level_list, idle_power(site))),
     ]
+
+
+def mark_sections(site, entries, time=None):
+    """The mark list of a site that has marks, with what each of them does."""
+    effects = [handovers.effect(mark, entries, time) for mark in handovers.marks_of(site)]
+    return [("mark-list", "Mark list", page_tables.mark_table(site.sources[tables.MARKS], effects))] if effects else []
 
 
 def task_content(site):
@@ -203,6 +217,7 @@ def overfull_body(site, refusal):
     levels, jobs = site.data(tables.LEVELS), site.data(tables.JOBS)
     entries, level_list = entries_of(jobs, tables.JOBS), figures.level_list(levels)
     window = figures.window(levels, jobs, refusal.start, refusal.end)
+    time = scale(entries, interval_spans(jobs, site.data(tables.MARKS)), handovers.marks_of(site))
     own = page_tables.own_job_table(site.sources[tables.JOBS], entries, refusal.inside)
     words = (
         "An outlined bar is a job's window; at the left stand its cycles. The hatched stretch is the overfull window; its "
@@ -210,14 +225,13 @@ def overfull_body(site, refusal):
     )
     return [
         verdict("Overfull", overfull_sentence(window), alarm=True),
-        overfull_facts(site, window, entries),
+        overfull_facts(site, window, time),
         sections(
             ("overfull", "The overfull window", joined([overfull_words(window, explain(refusal, site)), own])),
-            ("jobs", "Jobs", job_pictures(entries, words, overfull=refusal)),
+            ("jobs", "Jobs", job_pictures(time, entries, words, overfull=refusal)),
             ("windows", "Tightest windows", page_tables.window_table(figures.tightest(levels, jobs))),
-            *site_sections(site, entries, level_list),
-            with_tasks=has_tasks(site),
-            with_draw=idle_power(site) > 0,
+            *site_sections(site, time, entries, level_list),
+            **kinds_of(site),
         ),
     ]
 
@@ -227,14 +241,15 @@ def overfull_sentence(window):
     return f"No schedule meets every deadline: from {from_to(window.start, window.end)} {own_jobs(window.inside)} {more}."
 
 
-def overfull_facts(site, window, entries):
+def overfull_facts(site, window, time):
     return facts(
         ("Overfull window", from_to(window.start, window.end), counted(window.end - window.start, "tick")),
         ("Its jobs need", counted(window.need, "cycle")),
         ("The top frequency gives", counted(window.capacity, "cycle")),
         ("Spare", signed(window.spare), "cycles"),
-        time_fact(site, entries),
-        job_fact(site, entries, f"{len(window.inside)} inside the window"),
+        time_fact(site, time),
+        job_fact(site, f"{len(window.inside)} inside the window"),
+        *handovers.mark_facts(site, time),
         *level_facts(site.data(tables.LEVELS)),
     )
 
@@ -265,11 +280,13 @@ def refused_body(site, refusal):
 def empty_body(site):
     level_list, power = figures.level_list(site.data(tables.LEVELS)), idle_power(site)
     kind = tables.TASKS if has_tasks(site) else tables.JOBS
+    marks = [part for _, heading, content in mark_sections(site, []) for part in (element("h2", heading), content)]
     # The figure has what idling draws from the earliest release on, and there is none.
     idles = "no time is planned" if power else "the clock idles"
     return [
         verdict("Nothing to run", f"The {kind.entry} list is empty: {idles}, and the energy figure is 0."),
         facts(("Energy figure", 0), ("Jobs", 0), *level_facts(site.data(tables.LEVELS))),
+        *marks,
         element("h2", "Level list"),
         page_tables.level_table(site.sources[tables.LEVELS], level_list, power),
         element("h2", "Files"),

@@ -6,9 +6,21 @@ from .page_style import STYLE
 # The page may use its own style and nothing else.
 POLICY = "default-src 'none'; style-src 'unsafe-inline'"
 
-TERMS = (
+WINDOW_TERMS = (
     ("Window", "The time from a job's release up to its deadline. The job may run there, and may be interrupted."),
+)
+INTERVAL_TERMS = (
     ("Interval", "The time between two neighbouring releases or deadlines. The plan gives each interval its cycles."),
+)
+# Where there are marks.
+MARK_TERMS = (
+    (
+        "Interval",
+        "The time between two neighbouring releases, deadlines or handovers. The plan gives each interval its cycles.",
+    ),
+    ("Handover", "The tick of a mark, at which readers are docked and reload their plan. It makes no plan dearer."),
+)
+TERMS = (
     ("Load, capacity", "The cycles that run in an interval, and those that the top frequency gives there."),
     ("Band", "The step from one working level to the next, or from idling to the lowest. A load ends in one of them."),
     ("Price", "The number of the band that sets what a cycle costs in an interval. A job runs where it is smallest."),
@@ -66,9 +78,10 @@ def facts(*entries):
     return element("dl", *found, class_="facts")
 
 
-def sections(*entries, with_tasks=False, with_draw=False):
+def sections(*entries, with_tasks=False, with_draw=False, with_marks=False):
     """Sections as name, heading and content, with links to them before the first one."""
-    meanings = TERMS + (DRAW_TERMS if with_draw else FIGURE_TERMS) + (TASK_TERMS if with_tasks else ())
+    meanings = WINDOW_TERMS + (MARK_TERMS if with_marks else INTERVAL_TERMS) + TERMS
+    meanings += (DRAW_TERMS if with_draw else FIGURE_TERMS) + (TASK_TERMS if with_tasks else ())
     entries = [*entries, ("terms", "Words on this page", terms(meanings))]
     links = [element("a", heading, href=f"#{name}") for name, heading, _ in entries]
     found = [element("section", element("h2", heading), content, id=name) for name, heading, content in entries]

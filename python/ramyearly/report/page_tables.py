@@ -153,6 +153,18 @@ def runs_of(job, intervals):
     return "; ".join(f"{number}:\u00a0{thousands(cycles)}" for number, cycles in runs)
 
 
+def mark_table(source, effects):
+    """The mark list, with what each mark does."""
+    columns = numbers("Mark") + origin_column(source) + numbers("Tick") + long_words("Effect")
+    entries = enumerate(entries_of(source.data, tables.MARKS))
+    rows = [[number, *origin_cell(source, number), tick, effects[number]] for number, (tick,) in entries]
+    caption = file_words(source, tables.MARKS) + (
+        " At each mark there is a handover: readers are docked, and reload their plan. A mark strictly between the earliest "
+        "release and the latest deadline bounds intervals as these do. The least energy is the same without marks."
+    )
+    return table("mark-table", caption, columns, rows)
+
+
 def task_table(source, jobs):
     """The task list, with the jobs that were laid out from each task."""
     columns = numbers("Task") + origin_column(source) + numbers("Phase", "Period", "Deadline", "Cycles")
@@ -222,7 +234,7 @@ def source_table(site):
     for kind, source in site.files().items():
         state = counted(len(source.data), "byte") if source.lines is None else count_words(source, kind)
         if source.trouble:
-            state = f"{source.trouble}: counts as empty"
+            state = f"{source.trouble}: {'no marks' if kind is tables.MARKS else 'counts as empty'}"
         rows.append([kind.name.capitalize(), source.path, state])
     columns = words("Table") + long_words("File", "State")
     return table("source-table", "The files that were read.", columns, rows)

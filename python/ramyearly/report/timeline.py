@@ -21,6 +21,7 @@ class Timeline(NamedTuple):
     bounds: list  # the times that bound the intervals
     places: list  # where each of them stands
     to_scale: bool  # whether the scale is the same in all intervals
+    handovers: tuple = ()  # the marks among the bounds
 
     @property
     def left(self):
@@ -37,10 +38,10 @@ class Timeline(NamedTuple):
         return left + (right - left) * float((time - start) / (end - start))
 
     def labels(self, wanted=()):
-        """The bounds that get a label, so that no two labels touch: the first and the last, those that are wanted, then
-        as many others as there is room for."""
+        """The bounds that get a label, so that no two labels touch: the first and the last, those that are wanted, the
+        handovers, then as many others as there is room for."""
         kept = []
-        for bound in (self.bounds[0], self.bounds[-1], *wanted, *self.bounds):
+        for bound in (self.bounds[0], self.bounds[-1], *wanted, *self.handovers, *self.bounds):
             if all(self.apart(bound, other) for other in kept):
                 kept.append(bound)
         return sorted(kept)
@@ -54,10 +55,9 @@ def label_width(time):
     return width_of(thousands(time), LABEL_SIZE)
 
 
-def timeline(jobs, left, width):
-    """The scale for these jobs. Where the shortest interval would be too narrow, each interval gets a part of its width
+def timeline(bounds, left, width):
+    """The scale for these bounds. Where the shortest interval would be too narrow, each interval gets a part of its width
     for its length and an equal part for itself: as little of the second as the shortest one needs."""
-    bounds = sorted({time for release, deadline, _ in jobs for time in (release, deadline)})
     lengths = [end - start for start, end in zip(bounds, bounds[1:])]
     count, whole, shortest = len(lengths), bounds[-1] - bounds[0], min(lengths)
     even = 0.0
@@ -70,12 +70,14 @@ def timeline(jobs, left, width):
     return Timeline(bounds, places, even == 0)
 
 
-def scale(jobs):
-    """The scale of all pictures for these jobs. On the left it leaves room for the jobs' cycles beside their names, on
-    the right for half of the last label."""
+def scale(jobs, spans, marks=()):
+    """The scale of all pictures for these jobs, with from and to of each interval. On the left it leaves room for the jobs'
+    cycles beside their names, on the right for half of the last label. Of the marks those between the first and the last
+    bound are bounds themselves, and handovers in the pictures."""
     left = NAMES + max(width_of(thousands(cycles), LABEL_SIZE) for _, _, cycles in jobs)
-    last = max(deadline for _, deadline, _ in jobs)
-    return timeline(jobs, left, WIDTH - left - label_width(last) / 2 - MARGIN)
+    bounds = [spans[0][0], *(end for _, end in spans)]
+    time = timeline(bounds, left, WIDTH - left - label_width(bounds[-1]) / 2 - MARGIN)
+    return time._replace(handovers=tuple(mark for mark in marks if mark in bounds[1:-1]))
 
 
 def draw_grid(drawing, time, top, bottom):
