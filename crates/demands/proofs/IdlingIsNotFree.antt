@@ -85,11 +85,11 @@ same-answers one two same tables =
       sites = sites;
       settings = λ length load. rw same;
       spares = λ jobs start end. rw (tables jobs);
-      checks = λ jobs marks. checks-kept (sites jobs marks);
-      orders = λ jobs marks. orders-kept (sites jobs marks);
+      checks = λ jobs marks. checks-kept one jobs marks two jobs marks (sites jobs marks);
+      orders = λ jobs marks. orders-kept one jobs marks two jobs marks (sites jobs marks);
       plans = λ jobs marks before after answered. (
-        contract-kept (sites jobs marks) before after answered,
-        contract-kept (sym (sites jobs marks)) before after answered,
+        contract-kept one jobs marks two jobs marks (sites jobs marks) before after answered,
+        contract-kept two jobs marks one jobs marks (sym (sites jobs marks)) before after answered,
       );
     }
   where

@@ -11,7 +11,7 @@ use Rattle.planning.specs.MadePlans.{Buffers}
 use Rattle.planning.specs.PlanAnswers.{PlanContract}
 use Rattle.ordering.specs.Ordering.{order}
 
-module _ {levels jobs marks otherLevels otherJobs otherMarks : List ℕ} (same : readSite levels jobs marks ≡ readSite otherLevels otherJobs otherMarks) where
+module _ (levels jobs marks otherLevels otherJobs otherMarks : List ℕ) (same : readSite levels jobs marks ≡ readSite otherLevels otherJobs otherMarks) where
   pub contract-kept : (before after : Buffers) (answered : PlanAnswer) → PlanContract levels jobs marks before after answered
       → PlanContract otherLevels otherJobs otherMarks before after answered
   unfolding planning
