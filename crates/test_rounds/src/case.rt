@@ -1,7 +1,7 @@
 // A case: the task table of its line in bytes, and what laying out its rounds answers and writes.
 use crate::print;
 use rounds::RoundsAnswer;
-use test_support::buffers::MARK;
+use test_support::buffers::UNWRITTEN;
 use test_support::buffers::kept;
 use test_support::encode::ROOM;
 use test_support::encode::encode;
@@ -11,7 +11,7 @@ use test_support::text::number;
 
 pub(crate) fn case(line: &[u8]) {
     show::words_to(line, 0);
-    case_in(&mut [0; ROOM], &mut [MARK; ROOM], line);
+    case_in(&mut [0; ROOM], &mut [UNWRITTEN; ROOM], line);
     show::end();
 }
 

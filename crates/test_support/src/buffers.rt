@@ -1,19 +1,19 @@
-// Buffers that are lent to be written, filled with a mark that shows what was written.
+// Buffers that are lent to be written, filled with a value that shows what was written.
 ghost use Rattle.io.specs.Counts.{Counts};
 
-// Room for the longest plan, and for bytes after it: a site of 64 jobs and 127 intervals has at most 4096 open pairs.
-pub const PLAN_ROOM: usize = 24_600;
+// Room for the longest plan, and for bytes after it: a site of 64 jobs and 135 intervals has at most 4,608 open pairs.
+pub const PLAN_ROOM: usize = 27_672;
 
-pub const MARK: u8 = 165;
+pub const UNWRITTEN: u8 = 165;
 
 // More than any number that an operation writes: a job's cycles, a job number, a cell.
-pub const NUMBER_MARK: u32 = 2_779_096_485;
+pub const UNWRITTEN_NUMBER: u32 = 2_779_096_485;
 
-// Whether all bytes from a place on have the mark.
+// Whether no byte from a place on was written.
 pub fn kept(bytes: &[u8], start: usize) -> bool {
     let mut i = start;
     while i < bytes.len() {
-        if bytes[i] != MARK {
+        if bytes[i] != UNWRITTEN {
             return false;
         }
         i += 1;
@@ -21,11 +21,11 @@ pub fn kept(bytes: &[u8], start: usize) -> bool {
     true
 }
 
-// Whether all numbers from a place on have the mark.
+// Whether no number from a place on was written.
 pub fn numbers_kept(numbers: &[u32], start: usize) -> bool {
     let mut i = start;
     while i < numbers.len() {
-        if numbers[i] != NUMBER_MARK {
+        if numbers[i] != UNWRITTEN_NUMBER {
             return false;
         }
         i += 1;

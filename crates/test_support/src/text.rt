@@ -3,6 +3,9 @@ ghost use Prim.Native.Nat.{_<_, _≤_};
 ghost use lib.ListN.{length};
 ghost use Rattle.io.specs.Counts.{Counts};
 
+// Room for the text of a program whose cases are longer than the kit's large buffer.
+pub const TEXT_ROOM: usize = 131_072;
+
 // The first place from a start on that has the byte, or the end of the text.
 pub fn find(text: &[u8], start: usize, byte: u8) -> usize
     requires { ⌜ start ≤ length (now text) ⌝ }

@@ -1,4 +1,4 @@
--- `encode::encode_tables` meets its contract: each length is one that `encode` or `count` answered. Assumes nothing.
+-- `encode::encode_tables` meets its contract: each length is one that `encode_site` or `count` answered. Assumes nothing.
 use borrow.Author.Needs.{needs}
 use Rattle.test_support.proofs.encode.encode_tables.Statement.{statement}
 use Rattle.test_support.proofs.encode.encode_tables.Tie as tie
@@ -9,17 +9,14 @@ next-requires c κs = search needs
 next-requires-2 : tie.Need-next-requires-2
 next-requires-2 c κs = search needs
 
+encode-site-requires : tie.Need-encode-site-requires
+encode-site-requires c κs = search needs
+
 encode-requires : tie.Need-encode-requires
 encode-requires c κs = search needs
 
 encode-requires-2 : tie.Need-encode-requires-2
 encode-requires-2 c κs = search needs
-
-encode-requires-3 : tie.Need-encode-requires-3
-encode-requires-3 c κs = search needs
-
-encode-requires-4 : tie.Need-encode-requires-4
-encode-requires-4 c κs = search needs
 
 number-requires : tie.Need-number-requires
 number-requires c κs = search needs
@@ -51,8 +48,12 @@ same-length-3 c = search needs
 same-length-4 : tie.Need-same-length-4
 same-length-4 c = search needs
 
+same-length-5 : tie.Need-same-length-5
+same-length-5 c = search needs
+
 returns : tie.Need-returns
-returns c = ((c .before .before .before .before .before .before .before .before .before .before .before .before .before .before .before .before .before .before .before .before .encode .ensures .0, search needs), ((search needs, search needs), search needs))
+returns c =
+    (c .before .before .before .before .before .before .before .before .before .before .before .before .before .before .before .before .before .before .before .before .encode-site .ensures .0, ((c .before .before .before .before .before .before .before .before .before .before .before .before .before .before .before .before .before .before .before .before .encode-site .ensures .1 .0, search needs), (search needs, search needs)))
 
 pub encode-tables-spec : {M : Type 1} → statement M
 encode-tables-spec =
@@ -60,10 +61,9 @@ encode-tables-spec =
     (tie.spec
     next-requires
     next-requires-2
+    encode-site-requires
     encode-requires
     encode-requires-2
-    encode-requires-3
-    encode-requires-4
     number-requires
     cast-count
     count-requires
@@ -74,4 +74,5 @@ encode-tables-spec =
     same-length-2
     same-length-3
     same-length-4
+    same-length-5
     returns)
