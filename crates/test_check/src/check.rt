@@ -15,6 +15,7 @@ pub(crate) fn case(line: &[u8], kind: usize)
         &mut [0; ROOM],
         &mut [0; ROOM],
         &mut [0; ROOM],
+        &mut [0; ROOM],
         line,
         next(line, kind),
     );
@@ -24,6 +25,7 @@ pub(crate) fn case(line: &[u8], kind: usize)
 fn case_in(
     level_bytes: &mut [u8],
     job_bytes: &mut [u8],
+    mark_bytes: &mut [u8],
     plan_bytes: &mut [u8],
     price_bytes: &mut [u8],
     line: &[u8],
@@ -34,6 +36,7 @@ fn case_in(
     let tables = encode_tables(
         level_bytes,
         job_bytes,
+        mark_bytes,
         plan_bytes,
         price_bytes,
         line,
@@ -41,11 +44,13 @@ fn case_in(
     );
     let levels = tables.levels;
     let jobs = tables.jobs;
+    let marks = tables.marks;
     let plan = tables.plan;
     let prices = tables.prices;
     print(audit::check(
         &level_bytes[..levels],
         &job_bytes[..jobs],
+        &mark_bytes[..marks],
         &plan_bytes[..plan],
         &price_bytes[..prices],
     ));

@@ -3,13 +3,17 @@ use crate::order::ORDERED_ROOM;
 use crate::order::order;
 use crate::print;
 use check::same;
-use test_support::buffers::MARK;
+use test_support::buffers::UNWRITTEN;
 use test_support::show;
 use test_support::text::next;
 
 pub(crate) fn case(line: &[u8]) {
     show::words_to(line, 0);
-    case_in(&mut [MARK; ORDERED_ROOM], &mut [MARK; ORDERED_ROOM], line);
+    case_in(
+        &mut [UNWRITTEN; ORDERED_ROOM],
+        &mut [UNWRITTEN; ORDERED_ROOM],
+        line,
+    );
     show::end();
 }
 

@@ -3,7 +3,7 @@ ghost use Prim.Native.Nat.{_≤_};
 ghost use lib.ListN.{length};
 use crate::print;
 use check::same;
-use test_support::buffers::MARK;
+use test_support::buffers::UNWRITTEN;
 use test_support::buffers::kept;
 use test_support::encode::ROOM;
 use test_support::encode::encode_tables;
@@ -24,6 +24,7 @@ pub(crate) fn order(ordered: &mut [u8], line: &[u8], room: usize) -> usize
         &mut [0; ROOM],
         &mut [0; ROOM],
         &mut [0; ROOM],
+        &mut [0; ROOM],
         line,
         room,
         ordered,
@@ -34,6 +35,7 @@ pub(crate) fn order(ordered: &mut [u8], line: &[u8], room: usize) -> usize
 fn tables_in(
     level_bytes: &mut [u8],
     job_bytes: &mut [u8],
+    mark_bytes: &mut [u8],
     plan_bytes: &mut [u8],
     price_bytes: &mut [u8],
     line: &[u8],
@@ -46,6 +48,7 @@ fn tables_in(
     let tables = encode_tables(
         level_bytes,
         job_bytes,
+        mark_bytes,
         plan_bytes,
         price_bytes,
         line,
@@ -53,11 +56,13 @@ fn tables_in(
     );
     let levels = tables.levels;
     let jobs = tables.jobs;
+    let marks = tables.marks;
     let plan = tables.plan;
     let prices = tables.prices;
     order_plan(
         &level_bytes[..levels],
         &job_bytes[..jobs],
+        &mark_bytes[..marks],
         &plan_bytes[..plan],
         &price_bytes[..prices],
         ordered,
@@ -70,40 +75,56 @@ fn tables_in(
 fn order_plan(
     levels: &[u8],
     jobs: &[u8],
+    marks: &[u8],
     plan: &[u8],
     prices: &[u8],
     ordered: &mut [u8],
     room: u32,
 ) {
     let lent = io::count(room as isize, ordered);
-    let length = order_into(levels, jobs, plan, prices, &mut ordered[..lent]);
+    let length = order_into(levels, jobs, marks, plan, prices, &mut ordered[..lent]);
     let written = io::count(length as isize, ordered);
     show::words(b" given");
-    print::checked(audit::check(levels, jobs, plan, prices));
+    print::checked(audit::check(levels, jobs, marks, plan, prices));
     show::rest(kept(ordered, written));
     if written > 0 {
         print_written(
             levels,
             jobs,
+            marks,
             &ordered[..written],
             prices,
-            &mut [MARK; ORDERED_ROOM],
+            &mut [UNWRITTEN; ORDERED_ROOM],
         );
     }
 }
 
 // The bytes that were written: the check of them, what ordering them again answers, and their numbers.
-fn print_written(levels: &[u8], jobs: &[u8], plan: &[u8], prices: &[u8], again: &mut [u8]) {
+fn print_written(
+    levels: &[u8],
+    jobs: &[u8],
+    marks: &[u8],
+    plan: &[u8],
+    prices: &[u8],
+    again: &mut [u8],
+) {
     show::words(b" written");
-    print::checked(audit::check(levels, jobs, plan, prices));
+    print::checked(audit::check(levels, jobs, marks, plan, prices));
     show::words(b" again");
-    order_into(levels, jobs, plan, prices, again);
+    order_into(levels, jobs, marks, plan, prices, again);
     print::plan(plan);
 }
 
 // Prints what ordering answers, and whether the plan comes out as it was. Answers how many bytes are written.
-fn order_into(levels: &[u8], jobs: &[u8], plan: &[u8], prices: &[u8], ordered: &mut [u8]) -> u32 {
-    let length = print::answer(ordering::order(levels, jobs, plan, prices, ordered));
+fn order_into(
+    levels: &[u8],
+    jobs: &[u8],
+    marks: &[u8],
+    plan: &[u8],
+    prices: &[u8],
+    ordered: &mut [u8],
+) -> u32 {
+    let length = print::answer(ordering::order(levels, jobs, marks, plan, prices, ordered));
     let written = io::count(length as isize, ordered);
     if written > 0 {
         print::unchanged(same(plan, &ordered[..written]));

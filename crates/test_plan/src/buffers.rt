@@ -1,9 +1,10 @@
-// The buffers that are lent to planning, filled with a mark that shows what was written.
+// The buffers that are lent to planning, filled with a value that shows what was written.
 ghost use Rattle.io.specs.Counts.{Counts};
 
-pub(crate) const PRICE_ROOM: usize = 640;
+// Room for the longest price list and the largest shares table, of 64 jobs and 135 intervals, and for more after them.
+pub(crate) const PRICE_ROOM: usize = 680;
 
-pub(crate) const SHARE_ROOM: usize = 8_130;
+pub(crate) const SHARE_ROOM: usize = 8_656;
 
 // How long a part of each buffer is: in bytes, and in numbers for the shares.
 pub struct Lengths {

@@ -8,12 +8,12 @@ use crate::buffers::within_bytes;
 use crate::print;
 use crate::written;
 use planning::PlanAnswer;
-use test_support::buffers::MARK;
-use test_support::buffers::NUMBER_MARK;
 use test_support::buffers::PLAN_ROOM;
+use test_support::buffers::UNWRITTEN;
+use test_support::buffers::UNWRITTEN_NUMBER;
 use test_support::buffers::within_numbers;
 use test_support::encode::ROOM;
-use test_support::encode::encode;
+use test_support::encode::encode_site;
 use test_support::show;
 use test_support::text::next;
 use test_support::text::number;
@@ -25,6 +25,7 @@ pub(crate) fn case(line: &[u8]) {
         tables_in(
             &mut [0; ROOM],
             &mut [0; ROOM],
+            &mut [0; ROOM],
             line,
             next(line, word),
             line[word],
@@ -34,26 +35,34 @@ pub(crate) fn case(line: &[u8]) {
 }
 
 // The tables in bytes, and the buffers. The lengths of the parts that are lent stand before the tables.
-fn tables_in(level_bytes: &mut [u8], job_bytes: &mut [u8], line: &[u8], place: usize, word: u8)
+fn tables_in(
+    level_bytes: &mut [u8],
+    job_bytes: &mut [u8],
+    mark_bytes: &mut [u8],
+    line: &[u8],
+    place: usize,
+    word: u8,
+)
     requires { ⌜ place ≤ length (now line) ⌝ }
 {
     let second = next(line, place);
     let third = next(line, second);
-    let levels = encode(level_bytes, 2, line, next(line, third));
-    let jobs = encode(job_bytes, 4, line, levels.end);
-    let level_length = levels.length;
-    let job_length = jobs.length;
+    let tables = encode_site(level_bytes, job_bytes, mark_bytes, line, next(line, third));
+    let levels = tables.levels;
+    let jobs = tables.jobs;
+    let marks = tables.marks;
     let lent = Lengths {
         plan: number(line, place) as usize,
         prices: number(line, second) as usize,
         shares: number(line, third) as usize,
     };
     site(
-        &level_bytes[..level_length],
-        &job_bytes[..job_length],
-        &mut [MARK; PLAN_ROOM],
-        &mut [MARK; PRICE_ROOM],
-        &mut [NUMBER_MARK; SHARE_ROOM],
+        &level_bytes[..levels],
+        &job_bytes[..jobs],
+        &mark_bytes[..marks],
+        &mut [UNWRITTEN; PLAN_ROOM],
+        &mut [UNWRITTEN; PRICE_ROOM],
+        &mut [UNWRITTEN_NUMBER; SHARE_ROOM],
         lent,
         word,
     );
@@ -63,6 +72,7 @@ fn tables_in(level_bytes: &mut [u8], job_bytes: &mut [u8], line: &[u8], place: u
 fn site(
     levels: &[u8],
     jobs: &[u8],
+    marks: &[u8],
     plan: &mut [u8],
     prices: &mut [u8],
     shares: &mut [u32],
@@ -75,6 +85,7 @@ fn site(
     let answer = planning::plan(
         levels,
         jobs,
+        marks,
         &mut plan[..plan_length],
         &mut prices[..price_length],
         &mut shares[..share_length],
@@ -86,7 +97,17 @@ fn site(
             energy,
         } => {
             print::plan(intervals, energy);
-            written::print(levels, jobs, plan, prices, shares, intervals, steps, word);
+            written::print(
+                levels,
+                jobs,
+                marks,
+                plan,
+                prices,
+                shares,
+                intervals,
+                steps,
+                word,
+            );
         }
         PlanAnswer::Overfull { start, end, spare } => {
             print::overfull(start, end, spare);

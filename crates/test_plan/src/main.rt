@@ -2,8 +2,8 @@
 // energy figure, the overfull window and its spare, or the refusal; what the check answers for exactly the bytes written;
 // whether the rest of the buffers is kept, and whether the shares are those of the plan's steps.
 // The cases are the lines of the file stdin: a name, a word, the lengths of the three buffers that are lent, and after a
-// word each the numbers of a level table and of a job table. A table's numbers are the count, and then the frequencies
-// and the voltages, or the windows and the cycles.
+// word each the numbers of a level table, of a job table and of a mark table; where the mark table is left out, there are no
+// marks. A table's numbers are the count, and then the frequencies and the voltages, the windows and the cycles, or the marks.
 // The word says what is printed besides. It is steps where the plan of least energy is unique: the steps in cell order
 // and the prices. It is prices where all plans of least energy have the same smallest prices, and figure otherwise.
 mod buffers;

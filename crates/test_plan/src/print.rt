@@ -26,7 +26,7 @@ pub(crate) fn checked(answer: CheckAnswer) {
     }
 }
 
-// Whether each buffer past what was written has the mark.
+// Whether each buffer past what was written is as it was.
 pub(crate) fn rest(plan: &[u8], prices: &[u8], shares: &[u32], written: Lengths) {
     let plan_kept = kept(plan, written.plan);
     let prices_kept = kept(prices, written.prices);

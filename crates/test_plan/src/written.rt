@@ -12,6 +12,7 @@ use walking::step_at;
 pub(crate) fn print(
     levels: &[u8],
     jobs: &[u8],
+    marks: &[u8],
     plan: &[u8],
     prices: &[u8],
     shares: &[u32],
@@ -30,7 +31,13 @@ pub(crate) fn print(
         prices: price_length,
         shares: share_length,
     };
-    print::checked(audit::check(levels, jobs, &plan[..plan_length], &prices[..price_length]));
+    print::checked(audit::check(
+        levels,
+        jobs,
+        marks,
+        &plan[..plan_length],
+        &prices[..price_length],
+    ));
     print::rest(plan, prices, shares, written);
     print::shares(agree(
         &plan[..plan_length],

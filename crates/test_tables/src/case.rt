@@ -12,24 +12,23 @@ pub(crate) fn case(line: &[u8]) {
         match line[0] {
             b'f' => built_in::first(),
             b's' => built_in::second(),
-            b'l' => table_in(&mut [0; ROOM], line, true),
-            _ => table_in(&mut [0; ROOM], line, false),
+            kind => table_in(&mut [0; ROOM], line, kind),
         }
     }
 }
 
 // Prints the kind, the name, and what is answered for the table's first bytes, or the table with zeros after it.
-fn table_in(bytes: &mut [u8], line: &[u8], levels: bool) {
+fn table_in(bytes: &mut [u8], line: &[u8], kind: u8) {
     let name = next(line, 0);
     let length = next(line, name);
     let width = next(line, length);
     encode(bytes, number(line, width) as usize, line, width);
     show::words_to(line, name);
     let count = io::count(number(line, length) as isize, bytes);
-    if levels {
-        read::levels(&bytes[..count]);
-    } else {
-        read::jobs(&bytes[..count]);
+    match kind {
+        b'l' => read::levels(&bytes[..count]),
+        b'm' => read::marks(&bytes[..count]),
+        _ => read::jobs(&bytes[..count]),
     }
     show::end();
 }

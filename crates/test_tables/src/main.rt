@@ -1,8 +1,8 @@
-// Reads tables that lie at a limit of document 01 or just past it, and prints what each reading answers, one line a case:
+// Reads tables that lie at a limit of the documents or just past it, and prints what each reading answers, one line a case:
 // the table's kind, the case's name, and the entries or the refusal.
 // The cases are the lines of the file stdin: kind and name, how many bytes are read, the width of the numbers, the count,
-// and the numbers, which are the frequencies and then the voltages, or the windows and then the cycles. The lines `first`
-// and `second` ask for a built-in table.
+// and the numbers, which are the frequencies and then the voltages, the windows and then the cycles, or the marks. The lines
+// `first` and `second` ask for a built-in table.
 mod built_in;
 mod case;
 mod read;

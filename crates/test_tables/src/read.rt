@@ -1,6 +1,7 @@
 // Reads bytes as a table, and prints what the reading answers.
 use model::MAX_JOBS;
 use model::MAX_LEVELS;
+use model::MAX_MARKS;
 use tables::Reading;
 use test_support::show;
 
@@ -27,6 +28,16 @@ pub(crate) fn jobs(bytes: &[u8]) {
     }
 }
 
+pub(crate) fn marks(bytes: &[u8]) {
+    let table = tables::read_marks(bytes);
+    let reading = table.reading;
+    let marks = table.marks;
+    match reading {
+        Reading::Entries(count) => mark_entries(count, &marks),
+        Reading::Refused { number, place } => show::refusal(number, place),
+    }
+}
+
 pub(crate) fn entries(count: u64) {
     show::words(b" entries");
     show::number(count);
@@ -39,6 +50,17 @@ fn level_entries(count: usize, frequencies: &[u64; MAX_LEVELS], voltages: &[u64;
         if i < count {
             show::number(frequencies[i]);
             show::number(voltages[i]);
+        }
+        i += 1;
+    }
+}
+
+fn mark_entries(count: usize, marks: &[u64; MAX_MARKS]) {
+    entries(count as u64);
+    let mut i = 0;
+    while i < MAX_MARKS {
+        if i < count {
+            show::number(marks[i]);
         }
         i += 1;
     }

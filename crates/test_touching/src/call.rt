@@ -3,7 +3,7 @@ ghost use Prim.Native.Nat.{_≤_};
 ghost use lib.ListN.{length};
 use crate::print;
 use crate::print::Lengths;
-use test_support::buffers::NUMBER_MARK;
+use test_support::buffers::UNWRITTEN_NUMBER;
 use test_support::buffers::within_numbers;
 use test_support::show;
 use test_support::text::next;
@@ -14,10 +14,17 @@ use touching::touching;
 // Room for the longest lists, and for numbers after them.
 const JOB_ROOM: usize = 80;
 
-const STEP_ROOM: usize = 4_112;
+const STEP_ROOM: usize = 4_624;
 
 // Makes the call whose name stands at a place of the line and whose span starts at another, and answers the place after it.
-pub(crate) fn call(jobs: &[u8], plan: &[u8], line: &[u8], name: usize, start: usize) -> usize
+pub(crate) fn call(
+    jobs: &[u8],
+    marks: &[u8],
+    plan: &[u8],
+    line: &[u8],
+    name: usize,
+    start: usize,
+) -> usize
     requires { ⌜ (name ≤ length (now line)) × (start ≤ length (now line)) ⌝ }
     ensures { λ r. ⌜ (start ≤ r) × (r ≤ length (now (line .entry))) ⌝ }
 {
@@ -28,6 +35,7 @@ pub(crate) fn call(jobs: &[u8], plan: &[u8], line: &[u8], name: usize, start: us
     print::names(line, name);
     call_with(
         jobs,
+        marks,
         plan,
         number(line, start),
         number(line, end),
@@ -36,9 +44,9 @@ pub(crate) fn call(jobs: &[u8], plan: &[u8], line: &[u8], name: usize, start: us
             inside_jobs: number(line, inside_jobs) as usize,
             steps: number(line, steps) as usize,
         },
-        &mut [NUMBER_MARK; JOB_ROOM],
-        &mut [NUMBER_MARK; JOB_ROOM],
-        &mut [NUMBER_MARK; STEP_ROOM],
+        &mut [UNWRITTEN_NUMBER; JOB_ROOM],
+        &mut [UNWRITTEN_NUMBER; JOB_ROOM],
+        &mut [UNWRITTEN_NUMBER; STEP_ROOM],
     );
     next(line, steps)
 }
@@ -46,6 +54,7 @@ pub(crate) fn call(jobs: &[u8], plan: &[u8], line: &[u8], name: usize, start: us
 // Lends a part of each list, and prints what is then in the whole of them.
 fn call_with(
     jobs: &[u8],
+    marks: &[u8],
     plan: &[u8],
     start: u32,
     end: u32,
@@ -59,6 +68,7 @@ fn call_with(
     let step_room = within_numbers(lent.steps, step_list);
     let answer = touching(
         jobs,
+        marks,
         plan,
         start,
         end,

@@ -50,7 +50,7 @@ pub(crate) fn deadline(nearest: NearestDeadline) {
     }
 }
 
-// Whether each list past what was written has the mark.
+// Whether each list past what was written is as it was.
 pub(crate) fn rest(open_jobs: &[u32], inside_jobs: &[u32], steps: &[u32], written: Lengths) {
     let open_kept = numbers_kept(open_jobs, written.open_jobs);
     let inside_kept = numbers_kept(inside_jobs, written.inside_jobs);

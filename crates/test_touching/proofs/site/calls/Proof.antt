@@ -8,10 +8,10 @@ use Rattle.test_touching.proofs.site.calls.Statement.{statement}
 use Rattle.test_touching.proofs.site.calls.Tie as tie
 
 abbrev Inv-loop : tie.InvT-loop
-Inv-loop jobs plan line first place₀ place = place ≤ length line
+Inv-loop jobs marks plan line first place₀ place = place ≤ length line
 
 abbrev μ-loop : tie.MeasureT-loop
-μ-loop jobs plan line first place₀ place = length line - place
+μ-loop jobs marks plan line first place₀ place = length line - place
 
 loop-holds : tie.Need-loop-holds Inv-loop μ-loop
 loop-holds c = search needs
