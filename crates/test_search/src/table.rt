@@ -5,7 +5,7 @@ ghost use lib.ListN.{length};
 ghost use Rattle.io.specs.Counts.{Counts};
 use test_support::encode::put;
 
-// How many numbers a column has room for: eight levels, or the windows of four jobs.
+// How many numbers a column has room for: eight levels, the windows of four jobs, or eight marks.
 pub const COLUMN: usize = 8;
 
 pub const MOST_JOBS: usize = 4;
@@ -23,6 +23,19 @@ pub struct JobColumns {
     pub count: u32,
     pub windows: [u32; COLUMN],
     pub cycles: [u32; COLUMN],
+}
+
+// Entries past the count are not used.
+pub struct MarkColumn {
+    pub count: u32,
+    pub ticks: [u32; COLUMN],
+}
+
+pub fn no_marks() -> MarkColumn {
+    MarkColumn {
+        count: 0,
+        ticks: [0; COLUMN],
+    }
 }
 
 pub fn at_most(number: u32, most: u32) -> u32
@@ -80,6 +93,16 @@ pub fn put_jobs(bytes: &mut [u8], jobs: JobColumns) -> usize
     let first = put(bytes, 0, 2, count);
     let second = put_column(bytes, first, 4, &windows, 2 * count);
     put_column(bytes, second, 4, &cycles, count)
+}
+
+// Puts the mark table in bytes, and answers its length.
+pub fn put_marks(bytes: &mut [u8], marks: MarkColumn) -> usize
+    ensures { λ r. ⌜ Counts r (now (bytes .exit)) ⌝ }
+{
+    let ticks = marks.ticks;
+    let count = marks.count;
+    let first = put(bytes, 0, 2, count);
+    put_column(bytes, first, 4, &ticks, count)
 }
 
 // Puts the first numbers of a column at a place, and answers the place after them.

@@ -12,8 +12,10 @@ use test_search::search::energy_of;
 use test_search::search::least_energy;
 use test_search::table::JobColumns;
 use test_search::table::LevelColumns;
+use test_search::table::MarkColumn;
 use test_search::table::put_jobs;
 use test_search::table::put_levels;
+use test_search::table::put_marks;
 use test_support::encode::ROOM;
 use walking::StepAnswer;
 
@@ -24,15 +26,17 @@ pub(crate) struct Outcome {
     pub energy: u64,
 }
 
-pub(crate) fn compare(levels: LevelColumns, jobs: JobColumns) -> Outcome {
-    let intervals = intervals_of(jobs);
+pub(crate) fn compare(levels: LevelColumns, jobs: JobColumns, marks: MarkColumn) -> Outcome {
+    let intervals = intervals_of(jobs, marks);
     let energies = energies_of(levels, intervals);
     let least = least_energy(jobs, intervals, &energies);
     compare_in(
         &mut [0; ROOM],
         &mut [0; ROOM],
+        &mut [0; ROOM],
         levels,
         jobs,
+        marks,
         &energies,
         least,
     )
@@ -42,19 +46,23 @@ pub(crate) fn compare(levels: LevelColumns, jobs: JobColumns) -> Outcome {
 fn compare_in(
     level_bytes: &mut [u8],
     job_bytes: &mut [u8],
+    mark_bytes: &mut [u8],
     levels: LevelColumns,
     jobs: JobColumns,
+    marks: MarkColumn,
     energies: &[u32; ENERGIES],
     least: u64,
 ) -> Outcome {
     let level_length = put_levels(level_bytes, levels);
     let job_length = put_jobs(job_bytes, jobs);
+    let mark_length = put_marks(mark_bytes, marks);
     compare_plan(
         &mut [0; ROOM],
         &mut [0; ROOM],
         &mut [0u32; ROOM],
         &level_bytes[..level_length],
         &job_bytes[..job_length],
+        &mark_bytes[..mark_length],
         energies,
         least,
     )
@@ -67,10 +75,11 @@ fn compare_plan(
     shares: &mut [u32],
     levels: &[u8],
     jobs: &[u8],
+    marks: &[u8],
     energies: &[u32; ENERGIES],
     least: u64,
 ) -> Outcome {
-    let answer = planning::plan(levels, jobs, plan, prices, shares);
+    let answer = planning::plan(levels, jobs, marks, plan, prices, shares);
     match answer {
         PlanAnswer::Plan {
             intervals,
@@ -81,7 +90,14 @@ fn compare_plan(
             let price_length = io::count((2 + 5 * intervals as usize) as isize, prices);
             let written = &plan[..plan_length];
             let exact = energy_of(energies, loads_of(written));
-            let accepted = accepts(levels, jobs, written, &prices[..price_length], energy);
+            let accepted = accepts(
+                levels,
+                jobs,
+                marks,
+                written,
+                &prices[..price_length],
+                energy,
+            );
             Outcome {
                 planned: true,
                 agrees: agrees(exact, least, energy, accepted),
@@ -127,8 +143,15 @@ fn agrees(exact: u64, least: u64, figure: u64, accepted: bool) -> bool {
 }
 
 // Whether the check accepts the plan and answers the same figure.
-fn accepts(levels: &[u8], jobs: &[u8], plan: &[u8], prices: &[u8], figure: u64) -> bool {
-    match audit::check(levels, jobs, plan, prices) {
+fn accepts(
+    levels: &[u8],
+    jobs: &[u8],
+    marks: &[u8],
+    plan: &[u8],
+    prices: &[u8],
+    figure: u64,
+) -> bool {
+    match audit::check(levels, jobs, marks, plan, prices) {
         CheckAnswer::Accepted { energy } => energy == figure,
         CheckAnswer::Refused {
             number: _,
@@ -137,11 +160,11 @@ fn accepts(levels: &[u8], jobs: &[u8], plan: &[u8], prices: &[u8], figure: u64) 
     }
 }
 
-// The loads of a written plan. Its steps are those of four jobs in seven intervals at most.
+// The loads of a written plan. Its steps are those of four jobs in eight intervals at most.
 fn loads_of(plan: &[u8]) -> u64 {
     let mut loads = 0;
     let mut position = 0;
-    while position < 28 {
+    while position < 32 {
         loads = wrapping_add_u64(loads, step_load(walking::step_at(plan, position)));
         position += 1;
     }

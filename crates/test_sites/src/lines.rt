@@ -13,6 +13,9 @@ use test_search::table::with_idle_entry;
 use test_support::encode::ROOM;
 use test_support::show;
 
+// A mark table without marks.
+const NO_MARKS: [u8; 2] = [0, 0];
+
 // All five levels work in both tables; the first one with a job 0 1 of 401 cycles.
 pub(crate) fn built_in() {
     working(
@@ -177,6 +180,7 @@ fn plan_in(level_bytes: &mut [u8], job_bytes: &mut [u8], levels: LevelColumns, j
     print(planning::plan(
         &level_bytes[..level_length],
         &job_bytes[..job_length],
+        &NO_MARKS,
         &mut [0; ROOM],
         &mut [0; ROOM],
         &mut [0u32; ROOM],

@@ -5,10 +5,10 @@ use Rattle.test_sites.proofs.compare.loads_of.Statement.{statement}
 use Rattle.test_sites.proofs.compare.loads_of.Tie as tie
 
 abbrev Inv-loop : tie.InvT-loop
-Inv-loop plan loads₀ position₀ loads position = position ≤ 28
+Inv-loop plan loads₀ position₀ loads position = position ≤ 32
 
 abbrev μ-loop : tie.MeasureT-loop
-μ-loop plan loads₀ position₀ loads position = 28 - position
+μ-loop plan loads₀ position₀ loads position = 32 - position
 
 loop-holds : tie.Need-loop-holds Inv-loop μ-loop
 loop-holds c = search needs

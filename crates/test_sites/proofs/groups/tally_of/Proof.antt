@@ -5,10 +5,10 @@ use Rattle.test_sites.proofs.groups.tally_of.Statement.{statement}
 use Rattle.test_sites.proofs.groups.tally_of.Tie as tie
 
 abbrev Inv-loop : tie.InvT-loop
-Inv-loop form state₀ planned₀ agreeing₀ energy₀ n₀ state planned agreeing energy n = (n ≤ 80) × (planned ≤ n) × (agreeing ≤ n)
+Inv-loop form marking state₀ planned₀ agreeing₀ energy₀ n₀ state planned agreeing energy n = (n ≤ 80) × (planned ≤ n) × (agreeing ≤ n)
 
 abbrev μ-loop : tie.MeasureT-loop
-μ-loop form state₀ planned₀ agreeing₀ energy₀ n₀ state planned agreeing energy n = 80 - n
+μ-loop form marking state₀ planned₀ agreeing₀ energy₀ n₀ state planned agreeing energy n = 80 - n
 
 loop-holds : tie.Need-loop-holds Inv-loop μ-loop
 loop-holds c = search needs
@@ -18,6 +18,9 @@ levels-of-requires c κs = search needs
 
 jobs-of-requires : tie.Need-jobs-of-requires Inv-loop μ-loop
 jobs-of-requires c κs = search needs
+
+marks-of-requires : tie.Need-marks-of-requires Inv-loop μ-loop
+marks-of-requires c κs = search needs
 
 compare-requires : tie.Need-compare-requires Inv-loop μ-loop
 compare-requires c κs = search needs
@@ -58,6 +61,7 @@ tally-of-spec =
     loop-holds
     levels-of-requires
     jobs-of-requires
+    marks-of-requires
     compare-requires
     one-if-requires
     add-planned
