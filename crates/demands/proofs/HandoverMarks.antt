@@ -226,9 +226,9 @@ energy-moves tables marks others site other is other-is valid other-valid plan p
     let second = rw other-is at other-accepted in
     rw (is, other-is) (
       least-energy-is-one (tables .processor .idlePower) (tables .processor .levels) (tables .jobs) (sound-site sound)
-      (boundsWith marks (tables .jobs)) (boundsWith others (tables .jobs)) (sound .bounds) (other-sound .bounds)
-      (sharesOf plan) (sharesOf otherPlan) (first .gives) (second .gives)
-      (pricesOf prices) (first .fitting) (pricesOf otherPrices) (second .fitting),
+          (boundsWith marks (tables .jobs)) (boundsWith others (tables .jobs)) (sound .bounds) (other-sound .bounds)
+          (sharesOf plan) (sharesOf otherPlan) (first .gives) (second .gives)
+          (pricesOf prices) (first .fitting) (pricesOf otherPrices) (second .fitting),
       refl,
     )
 
@@ -288,7 +288,7 @@ module _ (call other : Call) (alike-calls : OtherMarks call other)
     (otherSite : Site) (other-tables : ValidTables (other .levelBytes) (other .jobBytes) (other .markBytes) otherSite) where
   -- the other's site, read with the one's levels and jobs
   moved : ValidTables (call .levelBytes) (call .jobBytes) (other .markBytes) otherSite
-  moved = rw (alike-calls .same-levels, alike-calls .same-jobs) other-tables
+  moved = rw (alike-calls .0, alike-calls .1) other-tables
 
   served-too : CanBeServed site → CanBeServed otherSite
   served-too = same-served (call .levelBytes) (call .jobBytes) (call .markBytes) (other .markBytes) site otherSite tables moved
@@ -316,9 +316,6 @@ module _ (call other : Call) (alike-calls : OtherMarks call other)
       let there = same-overfull (call .levelBytes) (call .jobBytes) (call .markBytes) (other .markBytes) site otherSite tables moved
       _ _ _ (length (other .before .plan)) (length (other .before .prices)) (length (other .before .shares)) start end spare here in
       overfull-answer (other .answered) start end spare (other .contract .outcome ∙ planned-as _ _ _ otherSite other-tables _ _ _ ∙ there)
-
-other-way : (call other : Call) → OtherMarks call other → OtherMarks other call
-other-way call other same = record { same-levels = sym (same .same-levels); same-jobs = sym (same .same-jobs) }
 
 pub handover-marks : HandoverMarks
 handover-marks =
@@ -349,6 +346,6 @@ handover-marks =
           comes-out-too call other same site tables otherSite other-tables room other-room;
       same-window = λ call other same site tables otherSite other-tables start end spare. (
         window-too call other same site tables otherSite other-tables start end spare,
-        window-too other call (other-way call other same) otherSite other-tables site tables start end spare,
+        window-too other call (sym (same .0), sym (same .1)) otherSite other-tables site tables start end spare,
       );
     }

@@ -89,7 +89,7 @@ repeated-rounds =
       every-round = λ laid length multiple told levelBytes markBytes levels marks read marks-read. (
         _,
         every-valid-table levelBytes (jobsWritten laid length) markBytes levels _ marks read
-        (jobs-read laid length multiple (answered-round laid length multiple told)) marks-read,
+            (jobs-read laid length multiple (answered-round laid length multiple told)) marks-read,
       );
       every-call = λ taskBytes before after answered contract. (
         record { taskBytes = taskBytes; before = before; after = after; answered = answered; contract = contract },

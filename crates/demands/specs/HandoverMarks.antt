@@ -62,9 +62,8 @@ pub record RefusedBy34 (levelBytes jobBytes markBytes : List ℕ) : Type 0 where
       → (answered ≡ Refused 34 0) × (after ≡ before)
 
 -- Two calls of planning with the same levels and jobs, and any marks.
-pub record OtherMarks (call other : Call) : Type 0 where
-  pub same-levels : call .levelBytes ≡ other .levelBytes
-  pub same-jobs : call .jobBytes ≡ other .jobBytes
+abbrev pub OtherMarks : (call other : Call) → Type 0
+OtherMarks call other = (call .levelBytes ≡ other .levelBytes) × (call .jobBytes ≡ other .jobBytes)
 
 -- The buffers of a call are long enough for a site.
 abbrev pub Roomy : Call → Site → Type 0
