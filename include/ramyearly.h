@@ -20,8 +20,8 @@
  * go with the marks that they were made for: with other bounds the check refuses them. The least exact energy, which a plan that is
  * written or accepted has, is what it is without marks.
  *
- * No function uses a heap or writable static data. The deepest stack that was measured, on x86-64, is 12 kB for ordering, 11 kB
- * for checking, 10 kB for planning, 5 kB for touching and for the spare, and 2 kB for the setting and for rounds
+ * No function uses a heap or writable static data. The deepest stack that was measured, on x86-64, is 13 kB for ordering, 12 kB
+ * for checking, 11 kB for planning, 6 kB for touching, 3 kB for the spare, and 2 kB for the setting and for rounds
  * (docs/BENCHMARK.md). */
 #ifndef RAMYEARLY_H
 #define RAMYEARLY_H
@@ -109,10 +109,10 @@ struct ramyearly_plan_answer ramyearly_plan(
  * each. A task releases a job of its cycles at phase + k x period for every k where that is before `multiple`; the job's
  * deadline is that release + the task's deadline. Number 0: the first `length` bytes of the job buffer are written, the
  * rest stays; they are a job table, which meets none of refusals 6 to 10, of exactly these jobs by release, then task
- * number. A plan that ramyearly_plan writes or ramyearly_check accepts for it can be repeated every `multiple` ticks, any
- * number of times: it then gives each repeated job its cycles between release and deadline, and no schedule over the same
- * levels that meets all deadlines has less than its exact energy. Both pay for idling between the rounds too. Otherwise
- * refusals 28 to 30, then 12, whose place is the length wanted, and the buffer stays as it was. */
+ * number. A plan that ramyearly_plan writes or ramyearly_check accepts for it, with any marks in the round, can be repeated
+ * every `multiple` ticks, any number of times: it then gives each repeated job its cycles between release and deadline, and no
+ * schedule over the same levels that meets all deadlines has less than its exact energy. Both pay for idling between the rounds
+ * too. Otherwise refusals 28 to 30, then 12, whose place is the length wanted, and the buffer stays as it was. */
 struct ramyearly_rounds_answer ramyearly_rounds(
     const uint8_t *tasks, size_t tasks_length,
     uint8_t *jobs, size_t jobs_length);

@@ -5,7 +5,7 @@ use mathlib.Core.Bool.{Bool, true, false, not}
 use mathlib.Core.Logic.{_⊎_, inl, inr, _↔_}
 use mathlib.Core.List.{List, []}
 use mathlib.Core.Option.{Option, none, some}
-use Prim.Native.Nat.{ℕ, _+_, _*_, _<_, _≤_}
+use Prim.Native.Nat.{ℕ, _+_, _*_}
 use native.Mathlib.Omega.{arith}
 use lib.ListN.{length}
 use lib.Dec.{ltb, eqb}
@@ -15,13 +15,13 @@ use Rattle.model.specs.declared.Job.{Job}
 use Rattle.model.specs.Limits.{maxMarks}
 use Rattle.model.specs.Outcome.{Outcome, refused, answer, andThen, refuseWhen}
 use Rattle.model.specs.Bytes.{IsBytes}
-use Rattle.model.specs.Jobs.{ValidJobs, readJobs}
+use Rattle.model.specs.Jobs.{readJobs}
 use Rattle.model.specs.Processors.{processorOf, topOf}
 use Rattle.model.specs.Intervals.{boundsOf, earliestRelease, latestDeadline}
 use Rattle.model.specs.Marks.{markCount, markEntries, notRising, readMarks, encodeMarks, noMarks, insertMarks, boundsWith}
 use Rattle.model.specs.LevelTables.{readLevels}
 use Rattle.model.specs.Sites.{Tables, readTables, Site, siteOf, readSite, ValidSite}
-use Rattle.model.specs.Windows.{Window, earliestOverfull}
+use Rattle.model.specs.Windows.{Window, earliestOverfull, wrongSpan}
 use Rattle.model.specs.Steps.{sharesOf}
 use Rattle.model.specs.PriceBytes.{pricesOf}
 use Rattle.model.specs.Checking.{check}
@@ -41,10 +41,10 @@ use Rattle.model.specs.Planning.{
 }
 use Rattle.model.specs.Demands.{ValidTables, CanBeServed}
 use Rattle.model.proofs.Outcome.{refused≢answer, answer-injective}
-use Rattle.model.proofs.Sites.{sites-are-valid, tables-are-valid, sound-site}
+use Rattle.model.proofs.Sites.{sites-are-valid, sound-site}
 use Rattle.model.proofs.BoundsOf.{bound-in-jobs, release-in-bounds, deadline-in-bounds}
 use Rattle.model.proofs.Marks.{marks-read-back, no-marks-read}
-use Rattle.model.proofs.MarkedBounds.{marked-keeps, marked-there, marked-only, marked-none, bounds-without}
+use Rattle.model.proofs.MarkedBounds.{marked-keeps, marked-there, marked-only, marked-none}
 use Rattle.model.proofs.LeastEnergy.{least-energy-is-one}
 use Rattle.model.proofs.Accepted.{check-accepts, check-read}
 use Rattle.planning.specs.declared.operation.PlanAnswer.{PlanAnswer}
@@ -52,7 +52,7 @@ use Rattle.planning.specs.declared.operation.PlanAnswer.the-variants.{Plan, Ove
 use Rattle.planning.specs.PlanAnswers.{outcomeOf}
 use Rattle.planning.proofs.PlanStages.{planned-as}
 use Rattle.ordering.specs.Ordering.{order}
-use Rattle.touching.specs.Touching.{Lists, touching}
+use Rattle.touching.specs.Touching.{Lists, touchingFor, touching}
 use Rattle.demands.specs.ThreeDemands.{Call, PlanComesOut, planWritten}
 use Rattle.demands.specs.HandoverMarks.{AreMarks, IsBound, OfAJob, Cuts, SameWith, RefusedBy34, OtherMarks, Roomy, HandoverMarks}
 use Rattle.demands.proofs.SiteParts.{site-tables}
@@ -185,6 +185,11 @@ as-before : (levelBytes jobBytes : List ℕ) → readSite levelBytes jobBytes no
     answer (record { processor = tables .processor; jobs = tables .jobs; bounds = boundsOf (tables .jobs) }))
 unfolding readSite boundsWith insertMarks
 as-before levelBytes jobBytes = rw no-marks-read
+
+touched-as-before : (jobBytes plan : List ℕ) (start end : ℕ) (before : Lists) → touching jobBytes noMarks plan start end before
+    ≡ refuseWhen (wrongSpan start end) 33 (andThen (readJobs jobBytes) λ jobs. touchingFor jobs (boundsOf jobs) plan start end before)
+unfolding touching boundsWith insertMarks
+touched-as-before jobBytes plan start end before = rw no-marks-read
 
 -- buffers never make a window
 no-window-wanted : (own wanted room : ℕ) (next : PlanOutcome) (start end : ℕ) (spare : ℤ) → (next ≡ overfull start end spare → ⊥)
@@ -337,6 +342,7 @@ handover-marks =
           same-with jobBytes markBytes jobs marks jobs-read marks-read none-cut levelBytes;
       none-read = no-marks-read;
       no-marks = as-before;
+      no-marks-touched = touched-as-before;
       same-least-energy = λ levelBytes jobBytes one two site other read other-read plan prices figure checked otherPlan otherPrices otherFigure other-checked.
           same-energy levelBytes jobBytes one two site other read other-read
           plan prices (check-accepts site plan prices figure .0 (sym (check-read _ _ _ plan prices site read) ∙ checked) .0)

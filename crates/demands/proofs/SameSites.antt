@@ -1,6 +1,6 @@
 -- Tables that are read as the same site have the same answers: planning's contract, the check and ordering look at the site alone.
 -- Assumes nothing.
-use mathlib.Core.Path.{_≡_, sym, _∙_}
+use mathlib.Core.Path.{_≡_, _∙_}
 use mathlib.Core.List.{List}
 use Prim.Native.Nat.{ℕ}
 use Rattle.model.specs.Sites.{readSite}

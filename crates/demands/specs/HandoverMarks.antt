@@ -9,12 +9,13 @@ use mathlib.Core.List.{List, []}
 use lib.ListN.{length, getD}
 use lib.IntN.{ℤ}
 use Rattle.model.specs.declared.Job.{Job}
-use Rattle.model.specs.Outcome.{refused, answer, andThen}
+use Rattle.model.specs.Outcome.{refused, answer, andThen, refuseWhen}
 use Rattle.model.specs.Bytes.{IsBytes}
 use Rattle.model.specs.Jobs.{jobOf, readJobs}
 use Rattle.model.specs.Intervals.{boundsOf, intervalCount, boundAt, earliestRelease, latestDeadline}
 use Rattle.model.specs.Marks.{readMarks, encodeMarks, noMarks}
 use Rattle.model.specs.Sites.{Tables, readTables, Site, readSite}
+use Rattle.model.specs.Windows.{wrongSpan}
 use Rattle.model.specs.Checking.{check}
 use Rattle.model.specs.Accepted.{exactFor, gapsOf}
 use Rattle.model.specs.Demands.{ValidTables, LongEnough}
@@ -23,7 +24,7 @@ use Rattle.planning.specs.declared.operation.PlanAnswer.the-variants.{Plan, Ove
 use Rattle.planning.specs.MadePlans.{Buffers}
 use Rattle.planning.specs.PlanAnswers.{PlanContract}
 use Rattle.ordering.specs.Ordering.{order}
-use Rattle.touching.specs.Touching.{Lists, touching}
+use Rattle.touching.specs.Touching.{Lists, touchingFor, touching}
 use Rattle.demands.specs.ThreeDemands.{Call, PlanComesOut, planWritten}
 
 -- "Up to 8 strictly rising ticks .. (count as 16 bits, ticks 32 bits each)"
@@ -97,6 +98,11 @@ pub record HandoverMarks : Type 0 where
   pub no-marks : (levelBytes jobBytes : List ℕ) → readSite levelBytes jobBytes noMarks
       ≡ (andThen (readTables levelBytes jobBytes) λ tables.
       answer (record { processor = tables .processor; jobs = tables .jobs; bounds = boundsOf (tables .jobs) }))
+  -- and what touches a span follows these bounds
+  pub no-marks-touched : (jobBytes plan : List ℕ) (start end : ℕ) (before : Lists) → touching jobBytes noMarks plan start end before
+      ≡ refuseWhen (wrongSpan start end) 33
+      (andThen (readJobs jobBytes) λ jobs.
+      touchingFor jobs (boundsOf jobs) plan start end before)
   -- "The least exact energy is what it was without marks": whatever marks two plans were accepted with, and none are marks too. Both are
   -- multiplied out by the same gaps.
   pub same-least-energy : (levelBytes jobBytes one two : List ℕ) (site other : Site)

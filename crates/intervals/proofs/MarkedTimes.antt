@@ -1,9 +1,9 @@
 -- Laws of marks put in among times in an array, one after another, and of the first and the last bound there.
 -- Assumes nothing.
-use mathlib.Core.Path.{_≡_, refl, sym, _∙_, ap, ap₂}
+use mathlib.Core.Path.{_≡_, sym, _∙_, ap, ap₂}
 use mathlib.Core.Logic.{_⊎_, inl, inr}
 use mathlib.Core.List.{List, _∷_}
-use Prim.Native.Nat.{ℕ, suc, _+_, _-_, _<_, _≤_}
+use Prim.Native.Nat.{ℕ, suc, _-_, _<_, _≤_}
 use native.Mathlib.Omega.{arith}
 use lib.ListN.{length, getD, take, drop, drop-of-length-le, List·getD-eq-default}
 use lib.Seq.{drop-cons, getD-take, length-take-le}
@@ -75,7 +75,7 @@ marked-times-rise first last marks times count size rising i below =
     at k h = getD-take count times k 0 (omega (arith, taken))
 
 -- times in an array, also past the last
-pub held-time : {times : List ℕ} {count : ℕ} {l : List ℕ} → HoldsTimes times count l → (i : ℕ) → i < maxBounds → getD times i 0 ≡ getD l i 0
+held-time : {times : List ℕ} {count : ℕ} {l : List ℕ} → HoldsTimes times count l → (i : ℕ) → i < maxBounds → getD times i 0 ≡ getD l i 0
 held-time {times} {count} {l} holds i inside = ap (λ (array : List ℕ). getD array i 0) (holds .array) ∙ go (lt-or-le i (length l))
   where
     go : (i < length l) ⊎ (length l ≤ i) → getD (padded l) i 0 ≡ getD l i 0
@@ -93,10 +93,10 @@ module _ (count : ℕ) (releases deadlines cycles : List ℕ) (ordered : (j : �
       let inside : j < count = rw length-jobsIn at below in
       rw (job-in count releases deadlines cycles j inside) (ordered j inside)
 
-  pub first-time : getD times 0 0 ≡ earliestRelease jobs
+  first-time : getD times 0 0 ≡ earliestRelease jobs
   first-time = held-time holds 0 (omega arith) ∙ bounds-of jobs wide .first
 
-  pub last-time : getD times (bounds - 1) 0 ≡ latestDeadline jobs
+  last-time : getD times (bounds - 1) 0 ≡ latestDeadline jobs
   last-time =
       let place : bounds - 1 ≡ intervalCount (boundsOf jobs) = omega (arith, holds .counted) in
       held-time holds (bounds - 1) (omega arith) ∙ ap (λ (i : ℕ). boundAt (boundsOf jobs) i) place ∙ bounds-of jobs wide .last

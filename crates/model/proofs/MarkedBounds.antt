@@ -1,7 +1,7 @@
 -- Laws of bounds with marks: those that lie strictly between the first and the last bound are put in, and no others; what was there
 -- stays; and what comes of it are bounds as the theory asks.
 -- Assumes nothing.
-use mathlib.Core.Path.{_≡_, refl, sym, _∙_}
+use mathlib.Core.Path.{_≡_, refl, _∙_}
 use mathlib.Core.Logic.{_⊎_, inl, inr}
 use mathlib.Core.List.{List, [], _∷_}
 use Prim.Native.Nat.{ℕ, zero, suc, _+_, _*_, _<_, _≤_}
@@ -9,7 +9,7 @@ use native.Mathlib.Omega.{arith}
 use lib.ListN.{length, getD}
 use borrow.Author.Tests.{lt-ltb, le-ltb}
 use Rattle.model.specs.declared.Job.{Job}
-use Rattle.model.specs.Intervals.{insertTime, boundsOf, boundAt, earliestRelease, latestDeadline, Bounds}
+use Rattle.model.specs.Intervals.{insertTime, boundsOf, earliestRelease, latestDeadline, Bounds}
 use Rattle.model.specs.Marks.{markOf, insertMarks, boundsWith}
 use Rattle.model.proofs.Numbers.{lt-or-le}
 use Rattle.model.proofs.BoundsOf.{
@@ -44,15 +44,16 @@ module _ (first last : ℕ) where
   with marks times = insertMarks first last marks times
 
   -- one mark more is put in, or has no effect
-  mark-put : (mark : ℕ) (marks times : List ℕ)
-      → ((first < mark) × (mark < last) × (with (mark ∷ marks) times ≡ insertTime mark (with marks times)))
+  abbrev Put : (mark : ℕ) → (marks times : List ℕ) → Type 0
+  Put mark marks times =
+      ((first < mark) × (mark < last) × (with (mark ∷ marks) times ≡ insertTime mark (with marks times)))
       ⊎ (((mark ≤ first) ⊎ (last ≤ mark)) × (with (mark ∷ marks) times ≡ with marks times))
+
+  mark-put : (mark : ℕ) (marks times : List ℕ) → Put mark marks times
   unfolding insertMarks
   mark-put mark marks times = go (lt-or-le first mark) (lt-or-le mark last)
     where
-      go : (first < mark) ⊎ (mark ≤ first) → (mark < last) ⊎ (last ≤ mark)
-          → ((first < mark) × (mark < last) × (with (mark ∷ marks) times ≡ insertTime mark (with marks times)))
-          ⊎ (((mark ≤ first) ⊎ (last ≤ mark)) × (with (mark ∷ marks) times ≡ with marks times))
+      go : (first < mark) ⊎ (mark ≤ first) → (mark < last) ⊎ (last ≤ mark) → Put mark marks times
       go (inl past) (inl before) = inl (past, before, rw (lt-ltb first mark past, lt-ltb mark last before))
       go (inl past) (inr late) = inr (inr late, rw (lt-ltb first mark past, le-ltb mark last late))
       go (inr early) rest = inr (inl early, rw (le-ltb first mark early))
@@ -65,9 +66,7 @@ module _ (first last : ℕ) where
   marks-ind P times base step [] = base
   marks-ind P times base step (mark ∷ marks) = go (mark-put mark marks times) (marks-ind P times base step marks)
     where
-      go : ((first < mark) × (mark < last) × (with (mark ∷ marks) times ≡ insertTime mark (with marks times)))
-          ⊎ (((mark ≤ first) ⊎ (last ≤ mark)) × (with (mark ∷ marks) times ≡ with marks times))
-          → P (with marks times) → P (with (mark ∷ marks) times)
+      go : Put mark marks times → P (with marks times) → P (with (mark ∷ marks) times)
       go (inl (past, before, is)) rest = rw is (step mark (with marks times) past before rest)
       go (inr (outside, is)) rest = rw is rest
 
@@ -101,9 +100,7 @@ module _ (first last : ℕ) where
   marked-length [] times = omega arith
   marked-length (mark ∷ marks) times = go (mark-put mark marks times) (marked-length marks times)
     where
-      go : ((first < mark) × (mark < last) × (with (mark ∷ marks) times ≡ insertTime mark (with marks times)))
-          ⊎ (((mark ≤ first) ⊎ (last ≤ mark)) × (with (mark ∷ marks) times ≡ with marks times))
-          → length (with marks times) ≤ length times + length marks
+      go : Put mark marks times → length (with marks times) ≤ length times + length marks
           → length (with (mark ∷ marks) times) ≤ length times + suc (length marks)
       go (inl (past, before, is)) rest = rw is (omega (arith, inserted-length (inserted mark (with marks times))))
       go (inr (outside, is)) rest = rw is (omega arith)
@@ -114,18 +111,14 @@ module _ (first last : ℕ) where
   marked-there [] times time (i, below, is, past, before) = absurd (omega arith)
   marked-there (mark ∷ marks) times time (zero, below, is, past, before) = go (mark-put mark marks times)
     where
-      go : ((first < mark) × (mark < last) × (with (mark ∷ marks) times ≡ insertTime mark (with marks times)))
-          ⊎ (((mark ≤ first) ⊎ (last ≤ mark)) × (with (mark ∷ marks) times ≡ with marks times))
-          → StandsIn (with (mark ∷ marks) times) time
+      go : Put mark marks times → StandsIn (with (mark ∷ marks) times) time
       go (inl (low, high, put)) = rw (put, ← is) (inserted-there (inserted mark (with marks times)))
       go (inr (inl early, put)) = absurd (omega arith)
       go (inr (inr late, put)) = absurd (omega arith)
   marked-there (mark ∷ marks) times time (suc i, below, is, past, before) =
       go (mark-put mark marks times) (marked-there marks times time (i, omega arith, is, past, before))
     where
-      go : ((first < mark) × (mark < last) × (with (mark ∷ marks) times ≡ insertTime mark (with marks times)))
-          ⊎ (((mark ≤ first) ⊎ (last ≤ mark)) × (with (mark ∷ marks) times ≡ with marks times))
-          → StandsIn (with marks times) time → StandsIn (with (mark ∷ marks) times) time
+      go : Put mark marks times → StandsIn (with marks times) time → StandsIn (with (mark ∷ marks) times) time
       go (inl (low, high, put)) rest = rw put (inserted-keeps (inserted mark (with marks times)) time rest)
       go (inr (outside, put)) rest = rw put rest
 
@@ -145,9 +138,7 @@ module _ (first last : ℕ) where
       put-in past before (inl same) rest = inr (0, omega arith, same, omega arith, omega arith)
       put-in past before (inr there) rest = later (rest there)
 
-      go : ((first < mark) × (mark < last) × (with (mark ∷ marks) times ≡ insertTime mark (with marks times)))
-          ⊎ (((mark ≤ first) ⊎ (last ≤ mark)) × (with (mark ∷ marks) times ≡ with marks times))
-          → (StandsIn (with marks times) time → StandsIn times time ⊎ MarkBetween first last marks time)
+      go : Put mark marks times → (StandsIn (with marks times) time → StandsIn times time ⊎ MarkBetween first last marks time)
           → StandsIn times time ⊎ MarkBetween first last (mark ∷ marks) time
       go (inl (past, before, put)) rest = put-in past before (inserted-only (inserted mark (with marks times)) time (rw put at found)) rest
       go (inr (outside, put)) rest = later (rest (rw put at found))
@@ -160,18 +151,11 @@ module _ (first last : ℕ) where
       go (mark-put mark marks times)
       (marked-none marks times (λ time (i, below, is, past, before). none time (suc i, omega arith, is, past, before)))
     where
-      go : ((first < mark) × (mark < last) × (with (mark ∷ marks) times ≡ insertTime mark (with marks times)))
-          ⊎ (((mark ≤ first) ⊎ (last ≤ mark)) × (with (mark ∷ marks) times ≡ with marks times))
-          → with marks times ≡ times → with (mark ∷ marks) times ≡ times
+      go : Put mark marks times → with marks times ≡ times → with (mark ∷ marks) times ≡ times
       go (inl (past, before, put)) rest = absurd (none mark (0, omega arith, refl, past, before))
       go (inr (outside, put)) rest = put ∙ rest
 
--- no marks, no further bounds
-pub bounds-without : (jobs : List Job) → boundsWith [] jobs ≡ boundsOf jobs
-unfolding boundsWith insertMarks
-bounds-without jobs = refl
-
-pub boundsWith-rising : (marks : List ℕ) (jobs : List Job) → RisesFrom 0 (boundsWith marks jobs)
+boundsWith-rising : (marks : List ℕ) (jobs : List Job) → RisesFrom 0 (boundsWith marks jobs)
 unfolding boundsWith
 boundsWith-rising marks jobs = marked-rises _ _ marks (boundsOf jobs) (boundsOf-rising jobs)
 

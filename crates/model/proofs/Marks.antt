@@ -1,16 +1,15 @@
 -- Laws of the mark table: what a reading answers is valid, and a reading answers marks exactly when the bytes encode valid ones.
 -- Assumes nothing.
-use mathlib.Core.Path.{_≡_, refl, sym, _∙_, ap}
-use mathlib.Core.Logic.{_↔_}
+use mathlib.Core.Path.{_≡_, refl, sym, _∙_}
 use mathlib.Core.Bool.{false, not}
-use mathlib.Core.List.{List, [], _∷_, _++_, append-nil}
+use mathlib.Core.List.{List, [], _∷_, append-nil}
 use Prim.Native.Nat.{ℕ, suc, _+_, _-_, _*_, _<_, _≤_}
 use native.Mathlib.Omega.{arith}
 use lib.Dec.{ltb, eqb}
-use lib.ListN.{length, drop}
+use lib.ListN.{length}
 use borrow.Author.Tests.{ltb-false, leb-false, le-ltb, lt-leb}
 use Rattle.model.specs.Limits.{maxMarks}
-use Rattle.model.specs.Outcome.{answer, refuseWhen}
+use Rattle.model.specs.Outcome.{answer}
 use Rattle.model.specs.Bytes.{IsBytes, numberAt, number16, number32, bytes32}
 use Rattle.model.specs.Entries.{listOf, encodeEach}
 use Rattle.model.specs.Search.{someBelow}

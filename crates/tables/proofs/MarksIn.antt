@@ -61,6 +61,10 @@ module _ (bytes : List ℕ) (table : MarkTable) (read : table ≡ markTable (rea
       reading-held _ count _ (sym (ap (λ (t : MarkTable). t .reading) read) ∙ e)
       (λ marks answered counted. rw (read, answered, ← counted) (marks-held marks (marks-valid bytes marks answered .few)))
 
+  -- no more than there may be
+  pub marks-few : (count : ℕ) → table .reading ≡ Entries count → count ≤ maxMarks
+  marks-few count e = omega (arith, marks-valid bytes _ (marks-read count e) .few, length-marksIn count (table .marks))
+
 -- the ways out of reading
 module _ (bytes : List ℕ) where
   pub marks-short : length bytes < 2 → refused 34 0 ≡ readMarks bytes

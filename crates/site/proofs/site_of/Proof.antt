@@ -1,13 +1,7 @@
 -- `site_of` meets its contract, by the laws of proofs/ReadSites.antt. Assumes nothing.
 use mathlib.Core.Path.{refl}
-use Prim.Native.Nat.{_≤_}
-use native.Mathlib.Omega.{arith}
 use borrow.Author.Needs.{needs}
-use denote.Ref.{now}
-use Rattle.model.specs.Limits.{maxMarks}
-use Rattle.model.proofs.Marks.{marks-valid}
-use Rattle.tables.specs.Tables.{marksIn}
-use Rattle.tables.proofs.MarksIn.{length-marksIn, marks-read, marks-read-refused}
+use Rattle.tables.proofs.MarksIn.{marks-read, marks-few, marks-read-refused}
 use Rattle.site.proofs.ReadSites.{marks-refused, site-cut}
 use Rattle.site.proofs.site_of.Statement.{statement}
 use Rattle.site.proofs.site_of.Tie as tie
@@ -24,18 +18,11 @@ refused-site-requires c κs = search needs
 enum-known-reading-2 : tie.Need-enum-known-reading-2
 enum-known-reading-2 c = search needs
 
--- no more marks than there may be
-few : (c : tie.After-reading2) → c .reading2 .given .0 .0 ≤ maxMarks
-few c =
-    let table = c .before .before .read-marks in
-    let read = marks-read _ _ (table .ensures) _ (c .reading2 .given .1) in
-    omega (arith, marks-valid _ _ read .few, length-marksIn (c .reading2 .given .0 .0) (table .result .marks))
-
 marked-bounds-requires : tie.Need-marked-bounds-requires
 marked-bounds-requires c κs =
     let known = c .before .before .before .before .before in
     let start = known .before .before .before .before in
-    ((start .pre .0 .1, few known, start .pre .0 .0), start .pre .1)
+    ((start .pre .0 .1, marks-few _ _ (known .before .before .read-marks .ensures) _ (known .reading2 .given .1), start .pre .0 .0), start .pre .1)
 
 returns : tie.Need-returns
 returns c = λ tables cycles holds.

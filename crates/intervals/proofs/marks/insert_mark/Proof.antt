@@ -1,6 +1,6 @@
 -- `marks::insert_mark` meets its contract: a mark that is not strictly between the two times leaves them, by the laws of
 -- proofs/MarkedTimes.antt. Assumes nothing.
-use mathlib.Core.Path.{_≡_, sym, _∙_, ap}
+use mathlib.Core.Path.{_≡_, sym}
 use mathlib.Core.List.{List}
 use Prim.Native.Nat.{ℕ, _+_, _<_, _≤_}
 use native.Mathlib.Omega.{arith}

@@ -1,6 +1,5 @@
 -- `marks::not_rising` meets its contract. The loop's invariant: each mark passed is below the next one (proofs/MarksIn.antt).
 -- Assumes nothing.
-use mathlib.Core.Path.{_≡_}
 use Prim.Native.Nat.{ℕ, _+_, _-_, _<_, _≤_}
 use native.Mathlib.Omega.{arith}
 use lib.ListN.{getD}

@@ -1,13 +1,10 @@
 -- `operation::touching_jobs` meets its contract: the marks that were read cut the bounds that are lent on
 -- (proofs/TouchedArrays.antt). Assumes nothing.
 use mathlib.Core.Path.{refl}
-use Prim.Native.Nat.{_≤_}
-use native.Mathlib.Omega.{arith}
 use borrow.Author.Needs.{needs}
-use Rattle.model.specs.Limits.{maxMarks}
 use Rattle.model.proofs.Marks.{marks-valid}
 use Rattle.tables.proofs.Read.{jobs-count}
-use Rattle.tables.proofs.MarksIn.{length-marksIn, marks-read, marks-read-refused}
+use Rattle.tables.proofs.MarksIn.{marks-read, marks-few, marks-read-refused}
 use Rattle.touching.proofs.TouchingOutcomes.{refused-answers, same-answers}
 use Rattle.touching.proofs.TouchedArrays.{jobs-ordered, marked-bounds-held}
 use Rattle.touching.proofs.operation.touching_jobs.Statement.{statement}
@@ -29,18 +26,11 @@ enum-known-reading c = search needs
 enum-known-reading-2 : tie.Need-enum-known-reading-2
 enum-known-reading-2 c = search needs
 
--- no more marks than there may be
-few : (c : tie.After-reading2) → c .reading2 .given .0 .0 ≤ maxMarks
-few c =
-    let table = c .before .before .read-marks in
-    let read = marks-read _ _ (table .ensures) _ (c .reading2 .given .1) in
-    omega (arith, marks-valid _ _ read .few, length-marksIn (c .reading2 .given .0 .0) (table .result .marks))
-
 marked-bounds-requires : tie.Need-marked-bounds-requires
 marked-bounds-requires c κs =
     let known = c .before .before .before .before in
     let valid = entry (known .before .before) .pre in
-    ((jobs-count _ _ _ _ valid, few known, refl), jobs-ordered _ _ _ _ valid)
+    ((jobs-count _ _ _ _ valid, marks-few _ _ (known .before .before .read-marks .ensures) _ (known .reading2 .given .1), refl), jobs-ordered _ _ _ _ valid)
 
 touching-bounds-requires : tie.Need-touching-bounds-requires
 touching-bounds-requires c κs =
