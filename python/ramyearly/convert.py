@@ -64,6 +64,10 @@ def write_decoded(made, out, csv):
 
 
 def write_laid_out(site, out):
-    """Writes the tables of a site whose jobs are laid out, as far as they could be read. Marks are ticks of one round."""
+    """Writes the tables of a site whose jobs are laid out, as far as they could be read. Marks are ticks of one round.
+
+    Where the site has no marks, a marks.tbl that is there already is written as one without marks: it was of another site.
+    """
+    replaced = [tables.MARKS] if os.path.isfile(tables.path_of(out, tables.MARKS)) else []
     sources = [(table, site.sources[table]) for table in tables.LENT_TO_PLAN]
-    write_tables([(table, source.data) for table, source in sources if not source.trouble], out)
+    write_tables([(table, source.data) for table, source in sources if not source.trouble or table in replaced], out)

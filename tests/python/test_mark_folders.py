@@ -185,6 +185,10 @@ class Tables(MarkFolders):
             out = self.site()
             self.expect(["rounds", self.site(tasks_txt=TASKS, levels_txt=LEVELS, **files), out], 0, "")
             self.assertEqual(sorted(os.listdir(out)), ["jobs.tbl", "levels.tbl"])
+            # The marks of another site, written there before, do not stay.
+            write(os.path.join(out, "marks.tbl"), MARK_BYTES)
+            self.expect(["rounds", self.site(tasks_txt=TASKS, levels_txt=LEVELS, **files), out], 0, "")
+            self.assertEqual(read(os.path.join(out, "marks.tbl")), b"\0\0")
 
     def test_text_that_is_no_table(self):
         for content, line, said in (

@@ -1,5 +1,5 @@
-// Prints the listing of a site. Its tables are the files levels.tbl, jobs.tbl and marks.tbl of the working directory; where there is no
-// marks.tbl, or it is empty, the site has no handover marks.
+// Prints the listing of a site. Its tables are the files levels.tbl, jobs.tbl and marks.tbl of the working directory. A marks.tbl that is
+// missing, empty or can't be read means no handover marks.
 ghost use mathlib.Core.Path.{_≡_};
 ghost use lib.ListN.{length};
 ghost use Rattle.io.specs.Counts.{Counts};
