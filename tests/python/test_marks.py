@@ -9,6 +9,7 @@ import ramyearly
 from ramyearly import archive, operations, tables
 from ramyearly.calls import Call
 from definitions import energies_by_definition, random_jobs, random_levels, random_steps, spans_of, touched_by_definition
+from faults import TABLE_FAULTS, jobs_of
 from support import PAIR, PLAN, PRICES, TWO_JOBS
 
 T = [(2, 10), (4, 20)]
@@ -158,14 +159,6 @@ OPERATIONS = {
 }
 
 
-def levels_of(*entries):
-    return {"levels": tables.to_bytes(entries, tables.LEVELS)}
-
-
-def jobs_of(*entries):
-    return {"jobs": tables.to_bytes(entries, tables.JOBS)}
-
-
 class Refusals(unittest.TestCase):
     # What is refused before the marks are looked at, and by which operations it is looked at at all.
     BEFORE = {
@@ -173,21 +166,7 @@ class Refusals(unittest.TestCase):
         **dict.fromkeys((6, 7, 8, 9, 10), ("check", "plan", "order", "touching")),
         33: ("touching",),
     }
-    FAULTS = {
-        1: {"levels": b""},
-        2: {"levels": b"\0\0"},
-        3: {"levels": PAIR + b"\0"},
-        4: levels_of((300, 90), (300, 90)),
-        5: levels_of((2, 10), (4, 9)),
-        6: {"jobs": b""},
-        7: jobs_of(*[(0, 1, 1)] * 65),
-        8: {"jobs": TWO_JOBS[:-1]},
-        9: jobs_of((0, 4, 6), (3, 3, 1)),
-        10: jobs_of((0, 4, 6), (2, 3, 0)),
-        31: levels_of((0, 1)),
-        32: levels_of((0, 1), *T),
-        33: {"start": 4},
-    }
+    FAULTS = {**TABLE_FAULTS, 33: {"start": 4}}
 
     def test_in_words(self):
         for data, said, entry in MALFORMED:

@@ -9,6 +9,7 @@ import ramyearly
 from ramyearly import archive, operations, tables
 from ramyearly.calls import Call
 from definitions import random_jobs, random_steps, spans_of, touched_by_definition
+from faults import jobs_of, plan_of
 from support import PAIR, PLAN, PRICES, TWO_JOBS
 
 JOBS = [(0, 4, 6), (2, 3, 4)]
@@ -92,14 +93,6 @@ class Answers(unittest.TestCase):
         planned = ramyearly.plan([(2, 10), (4, 20)], JOBS)
         touched = ramyearly.touching(JOBS, (len(planned.spans), planned.steps), 0, 4)
         self.assertEqual((touched.steps, touched.spans), (planned.steps, planned.spans))
-
-
-def jobs_of(*entries):
-    return {"jobs": tables.to_bytes(entries, tables.JOBS)}
-
-
-def plan_of(*steps, intervals=3):
-    return {"plan": operations.plan_table(intervals, steps)}
 
 
 SOUND = Call(jobs=TWO_JOBS, plan=PLAN, start=1, end=3)

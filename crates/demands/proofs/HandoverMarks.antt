@@ -145,7 +145,7 @@ bounds-are jobs marks time = (λ found. forth (marked-only first last marks (bou
     back (inl (j, below, inr deadline)) = marked-keeps first last marks (boundsOf jobs) time (rw deadline at (deadline-in-bounds jobs j below))
     back (inr cuts) = marked-there first last marks (boundsOf jobs) time cuts
 
--- where no mark cuts the bounds are those without marks
+-- where no mark cuts, the bounds are those without marks
 uncut : (jobs : List Job) (marks : List ℕ) → ((time : ℕ) → Cuts jobs marks time → ⊥) → boundsWith marks jobs ≡ boundsWith [] jobs
 unfolding boundsWith insertMarks
 uncut jobs marks none-cut = marked-none (earliestRelease jobs) (latestDeadline jobs) marks (boundsOf jobs) none-cut

@@ -90,7 +90,7 @@ module _ (tables : Tables) {pair : TablePair} {releases deadlines cycles : List 
       → SiteRead (marked tables markBytes) table releases deadlines cycles times
   marks-refused number place e told = site-refused number place (rw e) told
 
-  -- they are read, and cut the bounds
+  -- they are read, and the bounds are those of jobs and marks
   pub site-cut : (ticks : List ℕ) → readMarks markBytes ≡ answer ticks → table .reading ≡ Read → table .jobs ≡ pair .jobs
       → table .working ≡ pair .working → table .top ≡ pair .top
       → HoldsTimes times (table .bounds) (boundsWith ticks (jobsIn (pair .jobs) releases deadlines cycles))

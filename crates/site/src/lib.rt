@@ -110,7 +110,7 @@ fn refused_tables(number: u32, place: u32) -> TablePair
     }
 }
 
-// Reads a site: levels and jobs as above, and the times of the bounds, which the marks cut too, into a fourth array of zeros.
+// Reads a site: levels and jobs as above, then marks, and the times of the bounds of jobs and marks into a fourth array of zeros.
 pub fn read_site(
     levels: &[u8],
     jobs: &[u8],

@@ -98,7 +98,7 @@ pub fn touching(
     }
 }
 
-// The operation where the span is right and the jobs were read: the marks are read, and cut the bounds.
+// The operation where the span is right and the jobs were read: the marks are read, and the bounds of jobs and marks found.
 fn touching_jobs<'a>(
     releases: &'a [u64; MAX_JOBS],
     deadlines: &'a [u64; MAX_JOBS],
@@ -145,7 +145,7 @@ fn touching_jobs<'a>(
     }
 }
 
-// The operation where the bounds were cut: the plan's steps are checked.
+// The operation where the bounds were found: the plan's steps are checked.
 fn touching_bounds(
     releases: &[u64; MAX_JOBS],
     deadlines: &[u64; MAX_JOBS],

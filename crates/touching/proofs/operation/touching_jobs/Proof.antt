@@ -1,4 +1,4 @@
--- `operation::touching_jobs` meets its contract: the marks that were read cut the bounds that are lent on
+-- `operation::touching_jobs` meets its contract: the bounds that are lent on are those of the jobs and of the marks that were read
 -- (proofs/TouchedArrays.antt). Assumes nothing.
 use mathlib.Core.Path.{refl}
 use borrow.Author.Needs.{needs}
