@@ -10,3 +10,4 @@ pub mod RunningSums
 pub mod TouchedMembers
 pub mod TouchedSpans
 pub mod HandoverMarks
+pub mod ManyBoards

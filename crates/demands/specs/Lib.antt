@@ -7,3 +7,4 @@ pub mod OneSpelling
 pub mod RunningSums
 pub mod TouchedSpans
 pub mod HandoverMarks
+pub mod ManyBoards

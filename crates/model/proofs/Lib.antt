@@ -41,6 +41,7 @@ pub mod LeastEnergy
 pub mod Sites
 pub mod Hypotheses
 pub mod IdleDraw
+pub mod Boards
 pub mod SiteLines
 pub mod SameShares
 pub mod Steps

@@ -31,4 +31,5 @@ pub mod Planning
 pub mod Demands
 pub mod Hypotheses
 pub mod IdleDraw
+pub mod Boards
 pub mod SiteLines

@@ -1,4 +1,4 @@
--- The lines of document 01's "Sites to try" that are marked P, as one table, and lines of document 02's Changes 2 and 6. That every
+-- The lines of document 01's "Sites to try" that are marked P, as one table, and lines of document 02's Changes 2, 6 and 7. That every
 -- line holds is one statement, proved in proofs/SiteLines.antt by computing the definitions.
 use Prim.Native.Nat.{ℕ, zero, suc, _+_, _*_}
 use mathlib.Core.Bool.{Bool, true, false, _&&_}
@@ -49,8 +49,9 @@ pub data SiteLine : Type 0 where
   -- the number of intervals, and the energy without any share, exact and reported
   intervals : List Job → (count : ℕ) → SiteLine
   idleEnergy : List Level → List Job → (energy : ℕ) → SiteLine
-  -- the check accepts a plan and its price list with an energy figure
+  -- the check accepts a plan and its price list with an energy figure, or refuses them
   accepts : List Level → List Job → (plan prices : List ℕ) → (figure : ℕ) → SiteLine
+  refuses : List Level → List Job → (plan prices : List ℕ) → (number place : ℕ) → SiteLine
   -- the exact energy of one interval is a whole number
   costs : List Level → (length load : ℕ) → (energy : ℕ) → SiteLine
   -- the energy figure of a plan, and its exact energy: `over` parts of `parts` above the figure
@@ -216,6 +217,41 @@ markLines =
     ∷ refusesMarked T (job 0 2 0 ∷ []) (1 ∷ 1 ∷ []) [] [] 10 0
     ∷ []
 
+-- Boards for the jobs 0 4 6 and 2 3 4, beside T, whose working frequencies are 2 and 4. Powers 288 and 2,500, prices 144 and 1,106:
+abbrev pub otherVoltages : List Level
+otherVoltages = level 2 12 ∷ level 4 25 ∷ []
+
+-- idling draws 1,000; powers 1,058, 2,700 and 3,600, and 3 is dropped; prices 29 and 1,271
+abbrev pub drawsAndDrops : List Level
+drawsAndDrops = idleEntry 1 ∷ level 2 23 ∷ level 3 30 ∷ level 4 30 ∷ []
+
+-- the frequencies of T with powers 800 and 1,600, so that 2 is dropped
+abbrev pub oneWorks : List Level
+oneWorks = level 2 20 ∷ level 4 20 ∷ []
+
+-- powers 1,200 and 3,600, prices 400 and 2,400, and a level 2 that is dropped
+abbrev pub otherFrequencies : List Level
+otherFrequencies = level 2 20 ∷ level 3 20 ∷ level 4 30 ∷ []
+
+-- Lines of document 02, Change 7.
+unfoldable pub boardLines : List SiteLine
+boardLines =
+    -- three boards of the same working frequencies: the plan and the prices that document 01 lists are accepted on each, with 8 cycles
+    -- in the first band and 2 in the second, and each has a figure of its own
+    works T (2 ∷ 4 ∷ [])
+    ∷ accepts T (job 0 4 6 ∷ job 2 3 4 ∷ []) listedPlan listedPrices 2_200
+    ∷ works otherVoltages (2 ∷ 4 ∷ [])
+    ∷ accepts otherVoltages (job 0 4 6 ∷ job 2 3 4 ∷ []) listedPlan listedPrices 3_364
+    ∷ works drawsAndDrops (2 ∷ 4 ∷ [])
+    ∷ accepts drawsAndDrops (job 0 4 6 ∷ job 2 3 4 ∷ []) listedPlan listedPrices 6_774
+    -- T's given frequencies are not enough: where 2 is dropped there is no second price
+    ∷ works oneWorks (4 ∷ [])
+    ∷ refuses oneWorks (job 0 4 6 ∷ job 2 3 4 ∷ []) listedPlan listedPrices 22 1
+    -- and other working frequencies need not refuse: here 9 cycles are in the first band and 1 in the second
+    ∷ works otherFrequencies (3 ∷ 4 ∷ [])
+    ∷ accepts otherFrequencies (job 0 4 6 ∷ job 2 3 4 ∷ []) listedPlan listedPrices 6_000
+    ∷ []
+
 sameSetting : Outcome Setting → (band extra gap : ℕ) → Bool
 sameSetting (refused number place) band extra gap = false
 sameSetting (answer setting) band extra gap = eqb (setting .band) band && eqb (setting .extra) extra && eqb (setting .gap) gap
@@ -293,6 +329,7 @@ holds (idleEnergy levels jobs energy) =
     eqb (exactEnergy (workingOf (processorOf levels)) jobs (boundsOf jobs) (λ i j. 0)) (energy * scale (workingOf (processorOf levels)))
     && eqb (energyFigure (workingOf (processorOf levels)) jobs (boundsOf jobs) (λ i j. 0)) energy
 holds (accepts levels jobs plan prices figure) = sameNumber (check (encodeLevels levels) (encodeJobs jobs) noMarks plan prices) figure
+holds (refuses levels jobs plan prices number place) = refusedAt (check (encodeLevels levels) (encodeJobs jobs) noMarks plan prices) number place
 holds (costs levels length load energy) =
     eqb (intervalEnergy (workingOf (processorOf levels)) length load) (energy * scale (workingOf (processorOf levels)))
 holds (needs levels jobs shares figure over parts) =
