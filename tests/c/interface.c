@@ -171,6 +171,7 @@ int main(void)
     order();
     touching();
     marks();
+    boards();
     if (!wrong)
         printf("interface: check, setting, spare, plan, rounds, order and touching answer C as they should\n");
     return wrong;

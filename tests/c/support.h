@@ -103,5 +103,7 @@ void order(void);
 void touching(void);
 /* marks.c: the cases of handover marks. */
 void marks(void);
+/* boards.c: the cases of one plan on many boards. */
+void boards(void);
 
 #endif

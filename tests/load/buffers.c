@@ -4,7 +4,7 @@ size_t any_buffer(struct numbers *numbers, size_t wanted)
 {
     if (wanted > 0 && one_in(numbers, 6))
         return (size_t)ONE_OF(numbers, wanted - 1, wanted - 1, 0, below(numbers, wanted));
-    return wanted + (size_t)ONE_OF(numbers, 0, 0, 1, 70);
+    return wanted + (size_t)ONE_OF(numbers, 0, 0, 1, MOST_MORE);
 }
 
 struct buffer_lengths any_buffers(struct numbers *numbers, const struct paper_site *site)

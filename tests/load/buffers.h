@@ -4,6 +4,9 @@
 
 #include "compare.h"
 
+/* A buffer has at most so much more than is wanted. */
+enum { MOST_MORE = 70 };
+
 /* Mostly enough, often just so; sometimes one too few, none, or any smaller number. */
 size_t any_buffer(struct numbers *numbers, size_t wanted);
 /* The three of planning. */

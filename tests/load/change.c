@@ -229,3 +229,12 @@ void change_prices(struct numbers *numbers, const struct paper_site *site, struc
         prices->price[i] = (uint8_t)ONE_OF(numbers, price + 1, price + 1, price - 1, 0, 1, m, m + 1, 255);
     }
 }
+
+void change_either(struct numbers *numbers, const struct paper_site *site, struct plan *plan, struct prices *prices)
+{
+    for (unsigned changes = (unsigned)ONE_OF(numbers, 0, 1, 1, 1, 1, 2); changes > 0; changes--)
+        if (one_in(numbers, 3))
+            change_prices(numbers, site, prices);
+        else
+            change_plan(numbers, site, plan);
+}

@@ -13,5 +13,7 @@ void change_shares(struct numbers *numbers, const struct paper_site *site, struc
 void change_sums(struct numbers *numbers, struct plan *plan);
 void change_plan(struct numbers *numbers, const struct paper_site *site, struct plan *plan);
 void change_prices(struct numbers *numbers, const struct paper_site *site, struct prices *prices);
+/* Mostly one change, sometimes none or two, of the plan or of its prices. */
+void change_either(struct numbers *numbers, const struct paper_site *site, struct plan *plan, struct prices *prices);
 
 #endif

@@ -43,7 +43,8 @@ void compare_spare(struct numbers *numbers, const struct table *levels, const st
     call_end("the spare", found.number);
 }
 
-void compare_check(struct numbers *numbers, const struct site_tables *site, const struct table *plan, const struct table *prices)
+struct ramyearly_check_answer compare_check(struct numbers *numbers, const struct site_tables *site, const struct table *plan,
+    const struct table *prices)
 {
     call_begin();
     struct paper_tables t = call_lend_site(numbers, site);
@@ -54,4 +55,5 @@ void compare_check(struct numbers *numbers, const struct site_tables *site, cons
     same("energy", (int64_t)found.energy, (int64_t)wanted.energy);
     tally->accepted += found.number == 0;
     call_end("the check", found.number);
+    return found;
 }

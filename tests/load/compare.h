@@ -29,7 +29,9 @@ struct site_tables {
 
 void compare_setting(struct numbers *numbers, const struct table *levels, uint32_t length, uint64_t load);
 void compare_spare(struct numbers *numbers, const struct table *levels, const struct table *jobs, uint32_t start, uint32_t end);
-void compare_check(struct numbers *numbers, const struct site_tables *site, const struct table *plan, const struct table *prices);
+/* Answers what the archive did. */
+struct ramyearly_check_answer compare_check(struct numbers *numbers, const struct site_tables *site, const struct table *plan,
+    const struct table *prices);
 
 /* What planning is lent: bytes, bytes, and 32-bit numbers. */
 struct buffer_lengths {
@@ -61,16 +63,20 @@ struct list_lengths {
 void compare_touching(struct numbers *numbers, const struct site_tables *site, const struct table *plan, struct window span,
     struct list_lengths lengths);
 
-/* The interval whose setting is asked for, by its length and load, and the window whose spare is, and what touches it. */
+/* The interval whose setting is asked for, by its length and load; the window whose spare is, and what touches it; and what planning
+ * is lent. */
 struct questions {
     uint32_t length;
     uint64_t load;
     struct window window;
+    struct buffer_lengths buffers;
 };
 
 /* Two sites that must have the same answers: setting, spare, planning with every byte that it writes, and the check and the order of
  * what it wrote and what touches the window by it. */
 void compare_alike(struct numbers *numbers, const struct site_tables *one_site, const struct site_tables *other_site, struct questions questions);
+/* Two boards of one type: the same, but each has its own energy. */
+void compare_boards(struct numbers *numbers, const struct site_tables *one_site, const struct site_tables *other_site, struct questions questions);
 
 /* Says it when a number is not the right one. */
 void same(const char *what, int64_t found, int64_t wanted);

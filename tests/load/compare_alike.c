@@ -1,5 +1,6 @@
 #include <string.h>
 
+#include "buffers.h"
 #include "call.h"
 
 /* What the archive answers and writes for one site. No answer has padding, so its bytes are its fields. */
@@ -10,9 +11,12 @@ struct answers {
     struct ramyearly_check_answer check;
     struct ramyearly_order_answer order;
     struct ramyearly_touching_answer touching;
-    uint8_t plan[PAPER_PLAN], prices[2 + 5 * PAPER_INTERVALS], ordered[PAPER_PLAN];
-    uint32_t shares[PAPER_INTERVALS * PAPER_JOBS], open[PAPER_JOBS], inside[PAPER_JOBS], steps[PAPER_INTERVALS * PAPER_JOBS];
+    uint8_t plan[PAPER_PLAN + MOST_MORE], prices[2 + 5 * PAPER_INTERVALS + MOST_MORE], ordered[PAPER_PLAN];
+    uint32_t shares[PAPER_INTERVALS * PAPER_JOBS + MOST_MORE];
+    uint32_t open[PAPER_JOBS], inside[PAPER_JOBS], steps[PAPER_INTERVALS * PAPER_JOBS];
 };
+
+static struct answers one, other;
 
 #define COUNT(list) (sizeof(list) / sizeof *(list))
 
@@ -38,19 +42,28 @@ static void ask(struct paper_tables t, struct questions questions, struct answer
     a->spare = ramyearly_spare(t.levels.at, t.levels.length, t.jobs.at, t.jobs.length, questions.window.start, questions.window.end);
     call_count(a->spare.number);
     a->planning = ramyearly_plan(t.levels.at, t.levels.length, t.jobs.at, t.jobs.length, t.marks.at, t.marks.length,
-        a->plan, sizeof a->plan, a->prices, sizeof a->prices, a->shares, COUNT(a->shares));
+        a->plan, questions.buffers.plan, a->prices, questions.buffers.prices, a->shares, questions.buffers.shares);
     call_count(a->planning.number);
     ask_of_plan(t, questions.window, a);
 }
 
-#define ALIKE(field) same(#field " for both sites is the same", memcmp(&one.field, &other.field, sizeof one.field) == 0, 1)
-
-void compare_alike(struct numbers *numbers, const struct site_tables *one_site, const struct site_tables *other_site, struct questions questions)
+static void ask_both(struct numbers *numbers, const struct site_tables *one_site, const struct site_tables *other_site, struct questions questions)
 {
-    static struct answers one, other;
     call_begin();
     ask(call_lend_site(numbers, one_site), questions, &one);
     ask(call_lend_site(numbers, other_site), questions, &other);
+}
+
+static void leave_energy_out(struct answers *a)
+{
+    a->planning.energy = 0;
+    a->check.energy = 0;
+}
+
+#define ALIKE(field) same(#field " for both sites is the same", memcmp(&one.field, &other.field, sizeof one.field) == 0, 1)
+
+static void are_alike(void)
+{
     ALIKE(setting);
     ALIKE(spare);
     ALIKE(planning);
@@ -64,5 +77,20 @@ void compare_alike(struct numbers *numbers, const struct site_tables *one_site, 
     ALIKE(open);
     ALIKE(inside);
     ALIKE(steps);
+}
+
+void compare_alike(struct numbers *numbers, const struct site_tables *one_site, const struct site_tables *other_site, struct questions questions)
+{
+    ask_both(numbers, one_site, other_site, questions);
+    are_alike();
     call_report("two sites");
+}
+
+void compare_boards(struct numbers *numbers, const struct site_tables *one_site, const struct site_tables *other_site, struct questions questions)
+{
+    ask_both(numbers, one_site, other_site, questions);
+    leave_energy_out(&one);
+    leave_energy_out(&other);
+    are_alike();
+    call_report("two boards");
 }

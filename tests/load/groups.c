@@ -1,10 +1,12 @@
 #include "groups.h"
 
+#include "boards_cases.h"
 #include "buffers.h"
 #include "call.h"
 #include "change.h"
 #include "damage.h"
 #include "exact.h"
+#include "loads.h"
 #include "marks.h"
 #include "marks_cases.h"
 #include "order_cases.h"
@@ -23,20 +25,6 @@ static struct prices list, changed_list;
 static void make_tables(const struct paper_site *site)
 {
     tables_of_site(site, &levels, &jobs, &marks);
-}
-
-static uint32_t any_length(struct numbers *numbers)
-{
-    if (one_in(numbers, 8))
-        return (uint32_t)ONE_OF(numbers, 0, PAPER_TIME + 1, UINT32_MAX, any_number(numbers));
-    return (uint32_t)(one_in(numbers, 2) ? between(numbers, 1, 10) : ONE_OF(numbers, 1, 999999, PAPER_TIME, between(numbers, 1, PAPER_TIME)));
-}
-
-/* At the end of a level, dropped or not, one to either side, or any. */
-static uint64_t any_load(struct numbers *numbers, const struct paper_levels *given, uint32_t length)
-{
-    uint64_t end = (uint64_t)length * given->frequency[below(numbers, given->count)];
-    return one_in(numbers, 3) ? below(numbers, end + 1) : ONE_OF(numbers, 0, 1, end, end - 1, end + 1, UINT64_MAX, any_number(numbers));
 }
 
 static void settings(struct numbers *numbers)
@@ -161,11 +149,7 @@ static void check_changed(struct numbers *numbers, const struct paper_site *site
     struct site_tables given = with_any_marks(numbers, site);
     plan_copy(&changed_steps, &steps);
     changed_list = list;
-    for (unsigned changes = (unsigned)ONE_OF(numbers, 0, 1, 1, 1, 1, 2); changes > 0; changes--)
-        if (one_in(numbers, 3))
-            change_prices(numbers, site, &changed_list);
-        else
-            change_plan(numbers, site, &changed_steps);
+    change_either(numbers, site, &changed_steps, &changed_list);
     plan_table(&changed_plan, &changed_steps);
     prices_table(&changed_prices, &changed_list);
     if (one_in(numbers, 8))
@@ -241,7 +225,7 @@ static void free_idling(struct numbers *numbers)
     uint32_t length = any_length(numbers);
     uint64_t load = any_load(numbers, &site.levels, length);
     struct window window = any_window(numbers, &site.jobs);
-    compare_alike(numbers, &tables, &idle_tables, (struct questions) { length, load, window });
+    compare_alike(numbers, &tables, &idle_tables, (struct questions) { length, load, window, enough(&site) });
 }
 
 static void large_sites(struct numbers *numbers)
@@ -255,7 +239,7 @@ static void large_sites(struct numbers *numbers)
 struct group groups[GROUPS] = {
     { .name = "settings", .run = settings, .weight = 16 },
     { .name = "spares", .run = spares, .weight = 16 },
-    { .name = "damaged tables", .run = damaged, .weight = 48 },
+    { .name = "damaged tables", .run = damaged, .weight = 44 },
     { .name = "random bytes", .run = random_bytes, .weight = 20 },
     { .name = "planning", .run = planning, .weight = 24 },
     { .name = "changed plans", .run = changed_plans, .weight = 24 },
@@ -265,9 +249,10 @@ struct group groups[GROUPS] = {
     { .name = "ordered plans", .run = ordered_plans, .weight = 12 },
     { .name = "touched spans", .run = touched_spans, .weight = 12 },
     { .name = "marked sites", .run = marked_sites, .weight = 12 },
+    { .name = "alike boards", .run = alike_boards, .weight = 8 },
     { .name = "large sites", .run = large_sites, .weight = 6 },
     { .name = "rounds", .run = laid_out_rounds, .weight = 12 },
-    { .name = "damaged tasks", .run = damaged_tasks, .weight = 16 },
+    { .name = "damaged tasks", .run = damaged_tasks, .weight = 12 },
 };
 
 void run_case(struct numbers *numbers)

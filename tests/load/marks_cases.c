@@ -1,5 +1,6 @@
 #include "marks_cases.h"
 
+#include "buffers.h"
 #include "call.h"
 #include "exact.h"
 #include "marks.h"
@@ -26,7 +27,7 @@ static void same_bytes_written(struct numbers *numbers, const struct paper_site 
     struct paper_marks more = more_without_effect(numbers, &site->jobs, site->marks);
     tables_of_site(site, &levels, &jobs, &marks);
     marks_table(&more_marks, &more);
-    compare_alike(numbers, &one, &other, (struct questions) { .length = 1, .window = any_span(numbers, site) });
+    compare_alike(numbers, &one, &other, (struct questions) { .length = 1, .window = any_span(numbers, site), .buffers = enough(site) });
 }
 
 void marked_sites(struct numbers *numbers)

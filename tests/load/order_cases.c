@@ -1,7 +1,6 @@
 #include "order_cases.h"
 
-#include <string.h>
-
+#include "boards.h"
 #include "buffers.h"
 #include "call.h"
 #include "change.h"
@@ -14,23 +13,11 @@ static const struct site_tables tables = { &levels, &jobs, &marks }, other_table
 static struct plan steps, other_steps;
 static struct prices list, other_list;
 
-/* The same frequencies at twice the voltages and four times the draw. Every power is four times as high, so that the same levels
- * work. Where one would be past its limit the levels stay. */
-static struct paper_levels other_voltages(struct paper_levels given)
-{
-    if (2 * given.voltage[given.count - 1] > PAPER_VOLTAGE || 4 * given.draw > PAPER_DRAW)
-        return given;
-    for (unsigned i = 0; i < given.count; i++)
-        given.voltage[i] *= 2;
-    given.draw *= 4;
-    return given;
-}
-
 /* The plan itself, the plan with some of its shares changed, or one with steps in all open pairs; the steps are in any order.
- * Sometimes it comes with other levels or prices. */
+ * Sometimes it comes with another board of the same type, or with other prices. */
 static void make_other(struct numbers *numbers, const struct paper_site *site)
 {
-    struct paper_levels given = one_in(numbers, 4) ? other_voltages(site->levels) : site->levels;
+    struct paper_levels given = one_in(numbers, 4) ? other_board(numbers, &site->levels) : site->levels;
     if (one_in(numbers, 4))
         full_plan(numbers, site, &other_steps);
     else
@@ -52,7 +39,7 @@ static void order_other(struct numbers *numbers, const struct paper_site *site)
     make_other(numbers, site);
     if (!compare_order(numbers, &other_tables, &other_plan, &other_prices, any_buffer(numbers, other_plan.length), &other_ordered))
         return;
-    bool equal = other_ordered.length == ordered.length && memcmp(other_ordered.at, ordered.at, ordered.length) == 0;
+    bool equal = table_equals(&other_ordered, &ordered);
     same("it comes out as the first plan did", equal, paper_same_shares(bytes_of(&other_plan), bytes_of(&plan)));
     call_report("ordering");
 }

@@ -71,8 +71,7 @@ static uint64_t largest_draw(const struct paper_levels *levels)
     return largest < PAPER_DRAW ? largest : PAPER_DRAW;
 }
 
-/* Half of the tables that have room for an idle entry get one. */
-static struct paper_levels with_idling(struct numbers *numbers, struct paper_levels levels)
+struct paper_levels with_idling(struct numbers *numbers, struct paper_levels levels)
 {
     uint64_t largest = largest_draw(&levels);
     if (levels.count == PAPER_LEVELS || one_in(numbers, 2))

@@ -5,7 +5,9 @@
 #include "numbers.h"
 #include "paper/paper.h"
 
-/* Often with an idle entry, whose draw is any that is allowed. */
+/* Half of the tables that have room for an idle entry get one, whose draw is any that is allowed. */
+struct paper_levels with_idling(struct numbers *numbers, struct paper_levels levels);
+/* Often with an idle entry. */
 struct paper_levels any_levels(struct numbers *numbers);
 
 /* How many jobs at most, and how late their deadlines are. */

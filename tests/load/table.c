@@ -7,6 +7,11 @@ struct paper_bytes bytes_of(const struct table *table)
     return (struct paper_bytes) { table->at, table->length };
 }
 
+bool table_equals(const struct table *table, const struct table *other)
+{
+    return table->length == other->length && memcmp(table->at, other->at, table->length) == 0;
+}
+
 void table_keep(struct table *table, struct paper_bytes bytes)
 {
     table->length = bytes.length;

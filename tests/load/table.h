@@ -27,6 +27,7 @@ struct prices {
 };
 
 struct paper_bytes bytes_of(const struct table *table);
+bool table_equals(const struct table *table, const struct table *other);
 /* Copies the bytes to a table. */
 void table_keep(struct table *table, struct paper_bytes bytes);
 void table_set(struct table *table, size_t at, unsigned width, uint32_t number);

@@ -52,6 +52,16 @@ struct paper_points paper_points(const struct paper_levels *levels)
     return points;
 }
 
+/* Change 7 speaks of every table with the same working frequencies. */
+bool paper_same_type(const struct paper_levels *one, const struct paper_levels *other)
+{
+    struct paper_points ours = paper_points(one), theirs = paper_points(other);
+    for (unsigned k = 0; k <= ours.m && k <= theirs.m; k++)
+        if (ours.frequency[k] != theirs.frequency[k])
+            return false;
+    return ours.m == theirs.m;
+}
+
 uint32_t paper_top(const struct paper_levels *levels)
 {
     return levels->frequency[levels->count - 1];

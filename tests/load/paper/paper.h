@@ -1,4 +1,4 @@
-/* Document 01 and Changes 1 to 3, 5 and 6 of document 02 in plain C, written from the pages alone, to be held against the archive.
+/* Document 01 and Changes 1 to 3 and 5 to 7 of document 02 in plain C, written from the pages alone, to be held against the archive.
  * It reads tables, lays out tasks, judges plans, puts them in order, lists what touches a span and says when planning must
  * refuse. It does not plan.
  * Nothing here is meant to be fast: each function follows the words of the pages. */
@@ -120,6 +120,7 @@ bool paper_mark_is_bound(const struct paper_jobs *jobs, uint32_t tick);
 int64_t paper_idle_power(const struct paper_levels *levels);
 int64_t paper_power(const struct paper_levels *levels, unsigned level);
 struct paper_points paper_points(const struct paper_levels *levels);
+bool paper_same_type(const struct paper_levels *one, const struct paper_levels *other);
 uint32_t paper_top(const struct paper_levels *levels);
 unsigned paper_band(const struct paper_points *points, uint64_t length, uint64_t load);
 struct ramyearly_setting_answer paper_setting(struct paper_bytes levels, uint32_t length, uint64_t load);
