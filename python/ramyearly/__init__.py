@@ -6,13 +6,16 @@
     >>> ramyearly.plan(levels=[(2, 10), (4, 20)], jobs=[(0, 4, 6), (2, 3, 4)], marks=[1]).spans
     [(0, 1), (1, 2), (2, 3), (3, 4)]
 
-plan, check, order, touching, setting, spare and rounds take plain values and answer plain values; refusals are exceptions
-with number, place and words. Levels that begin with (0, 5) are those of a board that draws 5,000 while it idles. The first
-four take handover marks, which cut intervals, by name. Every answer is the archive's: the package decides nothing.
+plan, check, order, touching, setting, spare, rounds and working_frequencies take plain values and answer plain values;
+refusals are exceptions with number, place and words. Levels that begin with (0, 5) are those of a board that draws 5,000
+while it idles. The first four take handover marks, which cut intervals, by name. A plan that is accepted with its prices for
+one board is accepted for every board with the same working frequencies. Every answer is the archive's: the package decides
+nothing.
 """
 
 from .errors import Trouble
-from .operations import Ordered, Planned, Rounds, Setting, Touched, check, order, plan, rounds, setting, spare, touching
+from .operations import Ordered, Planned, Rounds, Setting, Touched
+from .operations import check, order, plan, rounds, setting, spare, touching, working_frequencies
 from .refusals import Overfull, Refused
 
 __all__ = [
@@ -31,5 +34,6 @@ __all__ = [
     "setting",
     "spare",
     "touching",
+    "working_frequencies",
 ]
 __version__ = "1.0.0"

@@ -7,12 +7,13 @@ from . import __version__
 from .errors import Trouble
 from .files import Stopped, stop_in_order
 from .terminal import NAME, accept_any_name, put, say
-from .verbs import check, decode, encode, listing, order, plan, report, rounds, span
+from .verbs import boards, check, decode, encode, listing, order, plan, report, rounds, span
 from .verbs.folders import DONE, FAILED, STATUSES
 
 VERBS = {
     "plan": plan,
     "check": check,
+    "boards": boards,
     "order": order,
     "span": span,
     "report": report,
@@ -38,6 +39,13 @@ idling draws in thousands of power units. On a board that draws 5,000 while it i
   200 10
 
 Without an idle entry idling draws nothing.
+
+Boards of one type differ in voltage. Where there are several boards, each further one has a level
+list beside the first, with any NAME. The verb boards checks one plan for all of them, encode and
+decode turn all of the lists, and the other verbs read the first alone:
+
+  levels-NAME.txt or levels-NAME.csv   frequency and voltage, a level to a line
+  levels-NAME.tbl                      the same in bytes
 
 Readers are docked at handover and reload their plan there. A mark list beside the job list has the
 ticks of the handovers: at most 8, rising. Each one strictly between the earliest release and the

@@ -10,7 +10,7 @@ from .files import write_files
 def encode(folder, out):
     """Writes the .tbl form of each table that has a text form. Nothing is written where one has an error."""
     tables.work_table(folder)
-    sources = [(table, tables.text_file(folder, table)) for table in tables.SITE_TABLES]
+    sources = [(table, tables.text_file(folder, table)) for table in tables.with_level_lists(tables.SITE_TABLES, folder)]
     made = [(table, tables.to_bytes(tables.read_text(path, table)[0], table)) for table, path in sources if path]
     if not made:
         names = ", ".join(table.name + ending for table in tables.SITE_TABLES for ending in tables.TEXT_ENDINGS)
@@ -35,7 +35,7 @@ def check_places(out, written):
 
 def decode(folder, csv):
     """The text of each table that is there in bytes, as (table, text)."""
-    paths = {table: tables.path_of(folder, table) for table in tables.ALL_TABLES}
+    paths = {table: tables.path_of(folder, table) for table in tables.with_level_lists(tables.ALL_TABLES, folder)}
     paths = {table: path for table, path in paths.items() if os.path.exists(path)}
     tables.check_one_list(paths.get(tables.TASKS), paths.get(tables.JOBS))
     made = []

@@ -200,6 +200,23 @@ def spare_of(levels, jobs, start, end):
     return answer.spare
 
 
+def working_frequencies(levels):
+    """The frequencies of the levels that work, rising. Boards of which they are the same take the same plans with the same
+    prices, and differ in their energy figures. Levels may begin with (0, draw)."""
+    return working_frequencies_of(level_table(levels))
+
+
+def working_frequencies_of(levels):
+    """The working frequencies of levels that are bytes. The archive says which: the band of one cycle more than a working
+    frequency gives in a tick leads, by its gap, to the next, and the top frequency is the last."""
+    top = spare_of(levels, tables.NO_JOBS, 0, 1)
+    found, frequency = [], 0
+    while frequency < top:
+        frequency += setting_of(levels, 1, frequency + 1).gap
+        found.append(frequency)
+    return found
+
+
 def rounds(tasks):
     """The jobs of these tasks, laid out over the least common multiple of their periods."""
     return rounds_of(tables.to_bytes(tasks, tables.TASKS))

@@ -81,9 +81,15 @@ def read_planned(folder):
     return Site(folder, {**sources, tables.MARKS: read_marks(folder)})
 
 
+def read_work(folder):
+    """The jobs or the tasks of a site and its marks, which are the same for all boards."""
+    work = tables.work_table(folder)
+    return Site(folder, {work: read_source(folder, work), tables.MARKS: read_marks(folder)})
+
+
 def read_plan(site):
     """The site with the plan and the price list that stand beside its tables."""
-    return site.adding({table: read_bytes(site.folder, table) for table in (tables.PLAN, tables.PRICES)})
+    return site.adding({table: read_bytes(site.folder, table) for table in tables.PLAN_TABLES})
 
 
 def lay_out(site):

@@ -4,7 +4,8 @@ A site is a folder. In text its tables are jobs.txt or jobs.csv, and levels.txt 
 levels.csv; in bytes they are jobs.tbl and levels.tbl. A task list, as tasks.txt,
 tasks.csv or tasks.tbl, may stand in place of the job list. A mark list, as marks.txt,
 marks.csv or marks.tbl, may stand beside either; a missing one means that there are no
-marks, and so does an empty marks.tbl.
+marks, and so does an empty marks.tbl. Where there are several boards, each further one
+has a level list levels-NAME.txt, levels-NAME.csv or levels-NAME.tbl.
 
 A line of text is an entry. A job has a release, a deadline and cycles; a task has a
 phase, a period, a deadline and cycles; a level has a frequency and a voltage; a mark has
@@ -32,6 +33,8 @@ SIZE_BYTES = 2
 MOST_ENTRIES = 2 ** (8 * SIZE_BYTES) - 1
 JOBS_IN_A_CELL = 64  # a plan's cell is interval × 64 + job
 TEXT_ENDINGS = (".txt", ".csv")
+ENDINGS = (*TEXT_ENDINGS, ".tbl")
+LEVEL_LIST = r"levels(-.+)?"  # what the level list of a board is called, without its ending
 NUMBER = r"-?[0-9]+(_[0-9]+)*"
 ZERO = r"-?0+(_0+)*"
 
@@ -70,19 +73,21 @@ ORDERED = PLAN._replace(name="ordered")
 # What stands in place of what: a site has one of the two.
 IN_PLACE_OF = {TASKS: JOBS, JOBS: TASKS}
 SITE_TABLES = (TASKS, JOBS, MARKS, LEVELS)
-ALL_TABLES = (*SITE_TABLES, PLAN, PRICES, ORDERED)
+PLAN_TABLES = (PLAN, PRICES)
+ALL_TABLES = (*SITE_TABLES, *PLAN_TABLES, ORDERED)
 # What planning is lent, checking and ordering, and what touches a span, in their order.
 LENT_TO_PLAN = (LEVELS, JOBS, MARKS)
 LENT_TO_CHECK = (LEVELS, JOBS, MARKS, PLAN, PRICES)
 LENT_TO_TOUCHING = (JOBS, MARKS, PLAN)
+NO_JOBS = bytes(SIZE_BYTES)  # a job table without jobs
 # A mark table without marks. A file of marks without bytes means the same.
 NO_MARKS = bytes(SIZE_BYTES)
 
 
 def named(table, place, is_zero):
     """The table with the names that an entry's columns have there. A level table's first entry is the idle entry where its
-    first number is zero."""
-    return IDLE if table is LEVELS and place == 0 and is_zero else table
+    first number is zero; the level lists of further boards differ from the first in name alone."""
+    return IDLE if table.entry == LEVELS.entry and place == 0 and is_zero else table
 
 
 def has_idle_entry(table, entries):
@@ -282,10 +287,15 @@ def path_of(folder, table, ending=".tbl"):
     return os.path.normpath(os.path.join(folder, table.name + ending))
 
 
+def text_files(folder, table):
+    """The paths of a table's text forms that are there."""
+    paths = [path_of(folder, table, ending) for ending in TEXT_ENDINGS]
+    return [path for path in paths if os.path.exists(path)]
+
+
 def text_file(folder, table):
     """The path of a table's text form, or None. Two text forms may disagree, so they are an error."""
-    paths = [path_of(folder, table, ending) for ending in TEXT_ENDINGS]
-    found = [path for path in paths if os.path.exists(path)]
+    found = text_files(folder, table)
     if len(found) > 1:
         raise TableError(f"{found[1]}: {os.path.basename(found[0])} is there too; keep one of them")
     return found[0] if found else None
@@ -295,6 +305,17 @@ def any_file(folder, table):
     """The path of the file that a table is read from, its text before its bytes, or None where there is neither."""
     data = path_of(folder, table)
     return text_file(folder, table) or (data if os.path.lexists(data) else None)
+
+
+def level_lists(folder):
+    """A table for each level list of a folder: levels, and then each levels-NAME by name."""
+    stems = {stem for stem, ending in map(os.path.splitext, os.listdir(folder)) if ending in ENDINGS}
+    return [LEVELS._replace(name=stem) for stem in sorted(stems) if re.fullmatch(LEVEL_LIST, stem, re.DOTALL)]
+
+
+def with_level_lists(kinds, folder):
+    """These tables, with each level list of a folder in place of the one."""
+    return [table for kind in kinds for table in (level_lists(folder) if kind is LEVELS else [kind])]
 
 
 def check_one_list(tasks, jobs):

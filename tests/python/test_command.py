@@ -125,8 +125,9 @@ class Verbs(InFolder):
 
     def test_wrong_usage(self):
         good = self.good()
-        for words in ([], ["plan"], ["check"], ["order"], ["span"], ["report"], ["--nonsense"], ["plan", "--nonsense", good],
-                      ["order", "--nonsense", good], ["span", "0", "4"], ["span", good], ["span", "0", "x", good],
+        for words in ([], ["plan"], ["check"], ["order"], ["boards"], ["span"], ["report"], ["--nonsense"],
+                      ["plan", "--nonsense", good], ["order", "--nonsense", good], ["boards", "--nonsense", good],
+                      ["span", "0", "4"], ["span", good], ["span", "0", "x", good],
                       ["span", "0", "4", "--nonsense", good], ["report", good, good], ["plan", good, good, "-o", self.folder],
                       ["order", good, good, "-o", self.folder], [self.folder + "/none"], [good + "/jobs.txt"]):  # fmt: skip
             ended = self.run_command(*words)

@@ -11,7 +11,6 @@ from .. import operations, tables
 from ..calls import Call, inside
 from ..tables import entries_of
 
-NO_JOBS = tables.to_bytes([], tables.JOBS)
 MOST_WINDOWS = 10
 
 
@@ -101,11 +100,11 @@ class Level(NamedTuple):
 
 def capacity(levels, start, end):
     """What the top frequency gives in a window."""
-    return operations.spare_of(levels, NO_JOBS, start, end)
+    return operations.spare_of(levels, tables.NO_JOBS, start, end)
 
 
 def top_frequency(levels):
-    return capacity(levels, 0, 1)
+    return operations.working_frequencies_of(levels)[-1]
 
 
 def intervals(levels, planned):
@@ -140,12 +139,6 @@ def running_levels(levels):
     return [(number, *entry) for number, entry in enumerate(entries)][tables.first_running(entries) :]
 
 
-def full_setting(levels, frequency):
-    """The setting of one tick at full load on a level. Where the level works the extra is equal to the gap."""
-    setting = operations.setting_of(levels, 1, frequency)
-    return setting, setting.extra == setting.gap
-
-
 def energy_of(levels, ticks, cycles):
     """The energy figure of one job alone."""
     return operations.plan_tables(levels, tables.to_bytes([(0, ticks, cycles)], tables.JOBS), tables.NO_MARKS).energy
@@ -154,16 +147,16 @@ def energy_of(levels, ticks, cycles):
 def idle_power(levels):
     """What idling draws in a tick: what it costs to have a tick more for the cycles of one tick on the lowest level that
     works."""
-    lowest = next(frequency for _, frequency, _ in running_levels(levels) if full_setting(levels, frequency)[1])
+    lowest = operations.working_frequencies_of(levels)[0]
     return energy_of(levels, 2, lowest) - energy_of(levels, 1, lowest)
 
 
 def level_list(levels):
     """The running levels, with what the archive makes of them. One tick on a level that works costs what idling draws and
     what the bands up to its own cost."""
-    found, below = [], idle_power(levels)
+    found, below, working = [], idle_power(levels), operations.working_frequencies_of(levels)
     for entry, frequency, voltage in running_levels(levels):
-        setting, works = full_setting(levels, frequency)
+        setting, works = operations.setting_of(levels, 1, frequency), frequency in working
         price = None
         if works:
             energy = energy_of(levels, 1, frequency)

@@ -8,8 +8,8 @@ USAGE = ("decode DIR [OUT]", "tables in bytes to text")
 
 def run(arguments, _prepare):
     does = (
-        "\ndecode prints each of jobs.tbl or tasks.tbl, marks.tbl, levels.tbl, plan.tbl, prices.tbl and\n"
-        "ordered.tbl that is there."
+        "\ndecode prints each of jobs.tbl or tasks.tbl, marks.tbl, levels.tbl, levels-NAME.tbl, plan.tbl,\n"
+        "prices.tbl and ordered.tbl that is there."
     )
     parser = parser_of("decode", tables.__doc__ + does)
     parser.add_argument("out", metavar="OUT", nargs="?", help="the folder to write to (standard output if left out)")

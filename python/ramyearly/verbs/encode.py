@@ -7,7 +7,10 @@ USAGE = ("encode DIR [OUT]", "tables in text to tables in bytes")
 
 
 def run(arguments, _prepare):
-    does = "\nencode writes jobs.tbl or tasks.tbl, marks.tbl and levels.tbl, each where its text is there."
+    does = (
+        "\nencode writes jobs.tbl or tasks.tbl, marks.tbl, levels.tbl and each levels-NAME.tbl, each where its\n"
+        "text is there."
+    )
     parser = parser_of("encode", tables.__doc__ + does)
     parser.add_argument("out", metavar="OUT", nargs="?", help="the folder to write to (DIR if left out)")
     options = parser.parse_args(arguments)

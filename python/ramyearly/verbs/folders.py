@@ -31,8 +31,9 @@ The level list may begin with an idle entry, frequency 0 and in the place of the
 draws in thousands of power units. With a first line '0 5' idling draws 5,000, without one nothing.""" + MARK_LIST + TASK_LIST
 
 STATUSES = """\
-exit status: 0 done; 1 a site is overfull or refused, or its text is no table, or a span is refused;
-2 wrong usage, or a file could not be written. With several folders the worst one.
+exit status: 0 done; 1 a site is overfull or refused, or its text is no table, or a span is refused,
+or a plan is refused for a board; 2 wrong usage, or a file could not be written. With several folders
+the worst one.
 """
 
 
@@ -79,13 +80,13 @@ def check_folder(path):
 
 
 def on_site(folder, work, progress=None):
-    """Does a verb's work on a site, and prints the text that it gives and the message that it ends with, or None. Answers
-    the status."""
+    """Does a verb's work on a site, and prints the text that it gives and the message that it ends with, or None. An empty
+    message means that something is refused, and that the text says what. Answers the status."""
     text, message, status = "", None, REFUSED
     try:
         check_folder(folder)
         text, message = work(folder)
-        status = REFUSED if message else DONE
+        status = DONE if message is None else REFUSED
     except SiteError as error:
         message = error
     except OSError as error:

@@ -30,7 +30,7 @@ def run(arguments, prepare):
             site = lay_out(site)
         with explained(site):
             planned = plan_tables(*map(site.data, tables.LENT_TO_PLAN))
-        paths = [tables.path_of(out, table) for table in (tables.PLAN, tables.PRICES)]
+        paths = [tables.path_of(out, table) for table in tables.PLAN_TABLES]
         write_files(zip(paths, (planned.plan_bytes, planned.price_bytes)))
         sizes = f"{site.counts()}, intervals {len(planned.spans)}, steps {len(planned.steps)}, energy {planned.energy}"
         return f"{folder}: {sizes}{site.repeats()}; wrote {paths[0]} and {paths[1]}\n", None

@@ -10,6 +10,7 @@ from ..sites import explained, lay_out, read_planned
 from ..tables import entries_of
 from ..terminal import say
 from .folders import MARK_LIST, REFUSED, TASK_LIST, on_sites, parser_of
+from .pages import columns, counted, page_of
 
 USAGE = ("span START END DIR...", "say what touches a span of ticks")
 
@@ -56,7 +57,7 @@ def run(arguments, prepare):
 
 
 def page(site, touched, start, end):
-    """What is printed of a site: parts with an empty line between them."""
+    """What is printed of a site."""
     jobs = entries_of(site.data(tables.JOBS), tables.JOBS)
     parts = (
         about_span(site, start, end),
@@ -65,7 +66,7 @@ def page(site, touched, start, end):
         about_steps(touched.steps, touched.spans),
         about_deadline(jobs, touched.deadline, start),
     )
-    return "\n".join("".join(f"{line}\n" for line in part) for part in parts)
+    return page_of(parts)
 
 
 def about_span(site, start, end):
@@ -112,16 +113,5 @@ def about_deadline(jobs, deadline, start):
     return [f"The nearest deadline at or after tick {start:,} is tick {deadline:,}, of {named(due)}."]
 
 
-def counted(number, one, more):
-    return f"{number:,} {one if number == 1 else more}"
-
-
 def named(jobs):
     return f"{'job' if len(jobs) == 1 else 'jobs'} {listed(jobs)}"
-
-
-def columns(names, rows):
-    """The lines of a table: the names above the numbers, each column as wide as its widest word."""
-    words = [names, *([f"{number:,}" for number in row] for row in rows)]
-    widths = [max(map(len, column)) for column in zip(*words)]
-    return ["  " + "  ".join(word.rjust(width) for word, width in zip(row, widths)) for row in words]
