@@ -69,7 +69,10 @@ struct ramyearly_touching_answer {
 
 /* Accepts a plan and its price list exactly when the plan gives each job its cycles between release and deadline and the
  * prices fit, and answers the energy figure. Refusals 1 to 10, 31, 32, 34, and then 15 to 24. No schedule over the same levels
- * that meets all deadlines has less than an accepted plan's exact energy. */
+ * that meets all deadlines has less than an accepted plan's exact energy. Of the levels only the working frequencies decide what is
+ * accepted: with every level table that has the same ones, whatever its voltages, its idle draw and the levels that are dropped, the
+ * same plans are accepted with the same prices, each with that table's own figure, or refused with the same number and place. So one
+ * plan and one price list serve all such boards, and ramyearly_setting and ramyearly_spare answer the same for them. */
 struct ramyearly_check_answer ramyearly_check(
     const uint8_t *levels, size_t levels_length,
     const uint8_t *jobs, size_t jobs_length,
