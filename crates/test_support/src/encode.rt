@@ -20,7 +20,7 @@ pub struct Encoded {
 // of the numbers, and the numbers after it. What has no room is left out.
 pub fn encode(bytes: &mut [u8], width: usize, line: &[u8], place: usize) -> Encoded
     requires { ⌜ place ≤ length (now line) ⌝ }
-    ensures { λ r. ⌜ Counts (r .length) (now (bytes .exit)) × (r .end ≤ length (now (line .entry))) ⌝ }
+    ensures { λ r. ⌜ Counts (r .length) (now (bytes .exit)) × (place ≤ r .end) × (r .end ≤ length (now (line .entry))) ⌝ }
 {
     let mut wide = 2;
     let mut filled = 0;

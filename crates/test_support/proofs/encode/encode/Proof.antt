@@ -1,5 +1,5 @@
 -- `encode::encode` meets its contract. The loop's invariant: the slice keeps its length, as `put` does, and both places
--- are within their slices. A turn goes on in the line, by `next`. Assumes nothing.
+-- are within their slices, that in the line not before the word. A turn goes on in the line, by `next`. Assumes nothing.
 use mathlib.Core.Path.{_≡_}
 use Prim.Native.Nat.{_-_, _≤_}
 use native.Mathlib.Omega.{arith}
@@ -11,7 +11,7 @@ use Rattle.test_support.proofs.encode.encode.Tie as tie
 
 abbrev Inv-loop : tie.InvT-loop
 Inv-loop bytes₀ width line place wide₀ filled₀ at₀ bytes wide filled at =
-    (length bytes ≡ length bytes₀) × (filled ≤ length bytes) × (at ≤ length line)
+    (length bytes ≡ length bytes₀) × (filled ≤ length bytes) × (place ≤ at) × (at ≤ length line)
 
 abbrev μ-loop : tie.MeasureT-loop
 μ-loop bytes₀ width line place wide₀ filled₀ at₀ bytes wide filled at = length line - at
@@ -47,13 +47,13 @@ same-length : tie.Need-same-length Inv-loop μ-loop
 same-length c = search needs
 
 returns : tie.Need-returns Inv-loop μ-loop
-returns c = (counts _ _ (search needs), search needs)
+returns c = (counts _ _ (search needs), search needs, search needs)
 
 same-length-2 : tie.Need-same-length-2 Inv-loop μ-loop
 same-length-2 c = search needs
 
 returns-2 : tie.Need-returns-2 Inv-loop μ-loop
-returns-2 c = (counts _ _ (search needs), search needs)
+returns-2 c = (counts _ _ (search needs), search needs, search needs)
 
 pub encode-spec : {M : Type 1} → statement M
 encode-spec =
