@@ -3,13 +3,15 @@ ghost use Prim.Native.Nat.{_≤_};
 ghost use lib.ListN.{length};
 use crate::print;
 use crate::print::Refusal;
-use levels::PointTable;
 use levels::read_working_levels;
+use model::MAX_POINTS;
 use test_support::encode::encode;
 
-// The working points of a board, none where its table is refused, the check's refusal, and where the board ends in the line.
+// Whether a board's table is read, its working frequencies with that of idling first and zeros past the last, the check's
+// refusal, and where the board ends in the line.
 pub(crate) struct Board {
-    pub working: PointTable,
+    pub read: bool,
+    pub frequencies: [u64; MAX_POINTS],
     pub refusal: Refusal,
     pub end: usize,
 }
@@ -34,8 +36,10 @@ pub(crate) fn check_board(
     let working = read_working_levels(&level_bytes[..length]);
     print::working(working);
     let answer = audit::check(&level_bytes[..length], jobs, marks, plan, prices);
+    let frequencies = working.frequencies;
     Board {
-        working,
+        read: working.count > 0,
+        frequencies,
         refusal: print::checked(answer),
         end: levels.end,
     }

@@ -12,23 +12,11 @@ use test_support::text::next;
 use test_support::text::number;
 
 pub(crate) fn case(line: &[u8]) {
-    site_in(
-        &mut [0; ROOM],
-        &mut [0; ROOM],
-        &mut [0; ROOM],
-        &mut [0; ROOM],
-        line,
-    );
+    site_in(&mut [0; ROOM], &mut [0; ROOM], line);
 }
 
 // The job table and the mark table in bytes. Before them stand the name and two lengths.
-fn site_in(
-    job_bytes: &mut [u8],
-    mark_bytes: &mut [u8],
-    plan_bytes: &mut [u8],
-    price_bytes: &mut [u8],
-    line: &[u8],
-) {
+fn site_in(job_bytes: &mut [u8], mark_bytes: &mut [u8], line: &[u8]) {
     let second = next(line, next(line, 0));
     let jobs = encode(job_bytes, 4, line, next(line, second));
     let marks = encode_marks(mark_bytes, line, jobs.end);
@@ -37,8 +25,8 @@ fn site_in(
     plan_in(
         &job_bytes[..job_length],
         &mark_bytes[..mark_length],
-        plan_bytes,
-        price_bytes,
+        &mut [0; ROOM],
+        &mut [0; ROOM],
         line,
         marks.end,
     );

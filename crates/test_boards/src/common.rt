@@ -1,13 +1,13 @@
 // What the boards of a case have in common. Each board that is read is compared with the first one that is.
 use crate::board::Board;
 use crate::print::Refusal;
-use levels::PointTable;
 use model::MAX_POINTS;
 
-// The working points and the refusal of the first board that is read, no points before there is one, and whether all others
-// that are read have the same working frequencies, and the same answer.
+// Whether a board is read, the working frequencies and the refusal of the first that is, and whether all others that are read
+// have the same working frequencies, and the same answer.
 pub(crate) struct Common {
-    pub working: PointTable,
+    pub read: bool,
+    pub frequencies: [u64; MAX_POINTS],
     pub refusal: Refusal,
     pub same_frequencies: bool,
     pub same_answers: bool,
@@ -15,11 +15,8 @@ pub(crate) struct Common {
 
 pub(crate) fn no_boards() -> Common {
     Common {
-        working: PointTable {
-            count: 0,
-            frequencies: [0; MAX_POINTS],
-            powers: [0; MAX_POINTS],
-        },
+        read: false,
+        frequencies: [0; MAX_POINTS],
         refusal: Refusal {
             number: 0,
             place: 0,
@@ -31,35 +28,37 @@ pub(crate) fn no_boards() -> Common {
 
 // What the boards have in common with one more of them.
 pub(crate) fn with_board(common: Common, board: Board) -> Common {
-    let first = common.working;
-    let working = board.working;
+    let first = common.frequencies;
+    let frequencies = board.frequencies;
     let first_refusal = common.refusal;
     let refusal = board.refusal;
-    if working.count == 0 {
+    if !board.read {
         return common;
     }
-    if first.count == 0 {
+    if !common.read {
         return Common {
-            working,
+            read: true,
+            frequencies,
             refusal,
             same_frequencies: true,
             same_answers: true,
         };
     }
     Common {
-        working: first,
+        read: true,
+        frequencies: first,
         refusal: first_refusal,
-        same_frequencies: common.same_frequencies & same_frequencies(first, working),
+        same_frequencies: common.same_frequencies & same_frequencies(first, frequencies),
         same_answers: common.same_answers & same_refusal(first_refusal, refusal),
     }
 }
 
-// Whether two lists of working points have the same frequencies. Past the last point stand zeros, and a level's frequency is
-// above 0, so that lists of different lengths differ.
-fn same_frequencies(one: PointTable, other: PointTable) -> bool {
+// Whether the working frequencies are the same. Past the last stand zeros, and a level's frequency is above 0, so that lists of
+// different lengths differ.
+fn same_frequencies(one: [u64; MAX_POINTS], other: [u64; MAX_POINTS]) -> bool {
     let mut k = 0;
     while k < MAX_POINTS {
-        if one.frequencies[k] != other.frequencies[k] {
+        if one[k] != other[k] {
             return false;
         }
         k += 1;
