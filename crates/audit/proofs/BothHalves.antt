@@ -21,9 +21,9 @@ use Rattle.model.specs.Accepted.{IsPlan}
 use Rattle.model.proofs.Entries.{listOf-cong, listOf-getD}
 use Rattle.model.proofs.Faults.{plan-length}
 use Rattle.model.proofs.FittingHalf.{fitting-answered}
-use Rattle.tables.specs.Tables.{jobsIn}
-use Rattle.tables.proofs.Column.{column-at}
-use Rattle.tables.proofs.Read.{length-jobsIn}
+use Rattle.reading.proofs.Column.{column-at}
+use Rattle.job_tables.specs.Tables.{jobsIn}
+use Rattle.job_tables.proofs.Read.{length-jobsIn}
 use Rattle.levels.specs.PointTables.{pointsOf}
 use Rattle.site.specs.declared.SiteTable.{SiteTable}
 use Rattle.site.specs.SiteTables.{HoldsSite}

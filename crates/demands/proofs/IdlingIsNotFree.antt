@@ -24,7 +24,7 @@ use Rattle.model.proofs.Points.{power-some, points-rise}
 use Rattle.model.proofs.LevelTables.{running-length, plain-begins, plain-table, idle-table, levels-read-back}
 use Rattle.model.proofs.Sites.{sites-are-valid}
 use Rattle.model.proofs.IdleDraw.{idling-is-a-point, draw-keeps-levels, energies-gain-the-draw, schedules-pay-the-draw, draw-moves-no-window}
-use Rattle.tables.proofs.ReadingBack.{encodings-are-bytes}
+use Rattle.reading.proofs.Encodings.{encodings-are-bytes}
 use Rattle.demands.specs.IdlingIsNotFree.{TableOf, with-entry, without-entry, SameAnswers, IdlingIsNotFree}
 use Rattle.demands.proofs.SameSites.{contract-kept, checks-kept, orders-kept}
 use Rattle.demands.proofs.RepeatedRounds.{repeated-rounds}

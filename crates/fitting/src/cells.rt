@@ -18,7 +18,7 @@ use job_sets::SET_WORDS;
 use job_sets::add;
 use job_sets::holds;
 use model::MAX_JOBS;
-use tables::number16;
+use reading::number16;
 use walking::Step;
 use walking::decode_step;
 use walking::step_count;

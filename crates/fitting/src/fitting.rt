@@ -8,7 +8,7 @@ ghost use Rattle.model.specs.Limits.{maxFrequency, maxJobs, maxIntervals};
 ghost use Rattle.model.specs.Outcome.{byEntry};
 ghost use Rattle.model.specs.Processors.{Processor, topOf};
 ghost use Rattle.model.specs.Checking.{fitting};
-ghost use Rattle.tables.specs.Tables.{jobsIn};
+ghost use Rattle.job_tables.specs.Tables.{jobsIn};
 ghost use Rattle.intervals.specs.Times.{SmallBounds};
 ghost use Rattle.fitting.specs.declared.Verdict.the-variants.{Passed};
 ghost use Rattle.fitting.specs.Verdicts.{verdictOf, passed};

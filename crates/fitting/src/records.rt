@@ -4,7 +4,7 @@ ghost use mathlib.Core.Path.{_≡_};
 ghost use Prim.Native.Nat.{_<_, _≤_};
 ghost use lib.ListN.{length, take};
 ghost use Rattle.model.specs.Limits.{maxJobs};
-ghost use Rattle.tables.specs.Tables.{jobsIn};
+ghost use Rattle.job_tables.specs.Tables.{jobsIn};
 ghost use Rattle.intervals.specs.Times.{SmallBounds};
 ghost use Rattle.job_sets.specs.IntervalSets.{setWords};
 ghost use Rattle.fitting.specs.SetsHave.{NoJobs};

@@ -15,10 +15,11 @@ use Rattle.model.specs.Marks.{insertMark, insertMarks, boundsWith}
 use Rattle.model.proofs.Numbers.{lt-or-le}
 use Rattle.model.proofs.BoundsOf.{ReleasesFirst, rises-at, rises-index, bounds-of}
 use Rattle.model.proofs.MarkedBounds.{marked-rises}
-use Rattle.tables.specs.Tables.{jobsIn, marksIn}
-use Rattle.tables.proofs.Column.{column-at, column-past}
-use Rattle.tables.proofs.Read.{length-jobsIn, job-in}
-use Rattle.tables.proofs.MarksIn.{length-marksIn, mark-in}
+use Rattle.reading.proofs.Column.{column-at, column-past}
+use Rattle.job_tables.specs.Tables.{jobsIn}
+use Rattle.job_tables.proofs.Read.{length-jobsIn, job-in}
+use Rattle.mark_tables.specs.Tables.{marksIn}
+use Rattle.mark_tables.proofs.MarksIn.{length-marksIn, mark-in}
 use Rattle.intervals.specs.Times.{padded, HoldsTimes, RisingTimes}
 use Rattle.intervals.proofs.Padded.{holds-first}
 

@@ -13,10 +13,10 @@ use Rattle.model.specs.Jobs.{jobOf, ValidJobs}
 use Rattle.model.specs.Intervals.{boundAt, Bounds, OpenRange}
 use Rattle.model.proofs.Search.{firstBelow-is}
 use Rattle.model.proofs.Intervals.{open-range, bounds-rise}
-use Rattle.tables.specs.Column.{columnOf}
-use Rattle.tables.specs.Tables.{jobsIn}
-use Rattle.tables.proofs.Column.{column-at}
-use Rattle.tables.proofs.Read.{length-jobsIn, job-in}
+use Rattle.reading.specs.Column.{columnOf}
+use Rattle.reading.proofs.Column.{column-at}
+use Rattle.job_tables.specs.Tables.{jobsIn}
+use Rattle.job_tables.proofs.Read.{length-jobsIn, job-in}
 use Rattle.intervals.specs.Times.{HoldsTimes, SmallBounds, numberOf}
 use Rattle.intervals.specs.OpenSets.{openSets, HoldsOpen}
 use Rattle.intervals.proofs.OpenSets.{open-held}

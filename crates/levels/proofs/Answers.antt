@@ -18,8 +18,8 @@ use Rattle.model.specs.Processors.{workingOf, processorOf}
 use Rattle.model.specs.Setting.{settingOf, settingFor, setting}
 use Rattle.model.proofs.Sites.{valid-processor}
 use Rattle.model.proofs.Working.{working-curve, working-top}
-use Rattle.tables.specs.Tables.{levelsIn}
-use Rattle.tables.proofs.Read.{top-in, top-high}
+use Rattle.level_tables.specs.Tables.{levelsIn}
+use Rattle.level_tables.proofs.Read.{top-in, top-high}
 use Rattle.levels.specs.declared.points.PointTable.{PointTable}
 use Rattle.levels.specs.declared.interval.SettingAnswer.{SettingAnswer}
 use Rattle.levels.specs.declared.interval.SettingAnswer.the-variants.{Refused}

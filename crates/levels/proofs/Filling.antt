@@ -16,10 +16,10 @@ use Rattle.model.specs.LevelTables.{idleEntries, idlePowerOf, runningLevels, Va
 use Rattle.model.specs.Processors.{allPoints, processorOf}
 use Rattle.model.proofs.Points.{points-length, points-level}
 use Rattle.model.proofs.LevelTables.{first-voltage}
-use Rattle.tables.specs.Column.{columnOf}
-use Rattle.tables.specs.Tables.{levelsIn}
-use Rattle.tables.proofs.Read.{level-in, levels-count, running-count, running-in}
-use Rattle.tables.proofs.CheckedLevels.{entryIn, first-is}
+use Rattle.reading.specs.Column.{columnOf}
+use Rattle.level_tables.specs.Tables.{levelsIn}
+use Rattle.level_tables.proofs.Read.{level-in, levels-count, running-count, running-in}
+use Rattle.level_tables.proofs.CheckedLevels.{entryIn, first-is}
 use Rattle.levels.specs.declared.points.PointTable.{PointTable}
 use Rattle.levels.specs.PointTables.{pointTable}
 use Rattle.levels.proofs.PointTables.{withPoint, table-next}

@@ -10,8 +10,8 @@ use lib.Seq.{getD-append-seam, take-suc, length-take-le}
 use Rattle.model.specs.Limits.{maxPoints}
 use Rattle.model.specs.Points.{Point, idlingPoint, pointAt}
 use Rattle.model.proofs.Entries.{length-listOf, getD-listOf, listOf-getD, listOf-cong}
-use Rattle.tables.specs.Column.{columnOf}
-use Rattle.tables.proofs.Column.{column-at, column-cong, column-more}
+use Rattle.reading.specs.Column.{columnOf}
+use Rattle.reading.proofs.Column.{column-at, column-cong, column-more}
 use Rattle.levels.specs.declared.points.PointTable.{PointTable}
 use Rattle.levels.specs.PointTables.{pointIn, pointTable, pointsOf}
 

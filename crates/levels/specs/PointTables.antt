@@ -10,7 +10,7 @@ use Rattle.model.specs.Entries.{listOf}
 use Rattle.model.specs.Search.{someBelow}
 use Rattle.model.specs.Points.{Point, pointAt, drops, RisingPoints}
 use Rattle.model.specs.Processors.{Processor, workingOf}
-use Rattle.tables.specs.Column.{columnOf}
+use Rattle.reading.specs.Column.{columnOf}
 use Rattle.levels.specs.declared.points.Point.{Point as CodePoint}
 use Rattle.levels.specs.declared.points.PointTable.{PointTable}
 

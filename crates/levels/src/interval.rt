@@ -6,15 +6,15 @@ ghost use Rattle.model.specs.LevelTables.{ValidLevelTable};
 ghost use Rattle.model.specs.Bands.{Curve};
 ghost use Rattle.model.specs.Processors.{processorOf};
 ghost use Rattle.model.specs.Setting.{settingOf, settingFor, setting as settingOfBytes, bandOf};
-ghost use Rattle.tables.specs.Tables.{levelsIn};
+ghost use Rattle.level_tables.specs.Tables.{levelsIn};
 ghost use Rattle.levels.specs.PointTables.{pointsOf, SmallPoints};
 ghost use Rattle.levels.specs.Settings.{settingAnswer, answered, Fits};
 use crate::points::PointTable;
 use crate::working::working_levels;
+use level_tables::read_levels;
 use model::MAX_DEADLINE;
 use model::MAX_LEVELS;
-use tables::Reading;
-use tables::read_levels;
+use reading::Reading;
 
 // The band counts from 1; zeros for load 0.
 pub enum SettingAnswer {

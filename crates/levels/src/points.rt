@@ -5,14 +5,14 @@ ghost use Prim.Native.Nat.{_<_};
 ghost use Rattle.model.specs.Limits.{maxPoints};
 ghost use Rattle.model.specs.LevelTables.{ValidLevelTable};
 ghost use Rattle.model.specs.Processors.{allPoints, processorOf};
-ghost use Rattle.tables.specs.Tables.{levelsIn};
+ghost use Rattle.level_tables.specs.Tables.{levelsIn};
 ghost use Rattle.levels.specs.PointTables.{asPoint, pointIn, pointTable};
+use level_tables::idle_entries;
+use level_tables::idle_power;
+use level_tables::power_of;
 use model::Level;
 use model::MAX_LEVELS;
 use model::MAX_POINTS;
-use tables::idle_entries;
-use tables::idle_power;
-use tables::power_of;
 
 // Frequencies and powers of a list of points, zeros past the last.
 pub struct PointTable {

@@ -5,17 +5,17 @@ ghost use Rattle.model.specs.Limits.{maxFrequency, maxPower};
 ghost use Rattle.model.specs.LevelTables.{ValidLevelTable};
 ghost use Rattle.model.specs.Points.{drops as dropsPoint, dropped as isDropped, working};
 ghost use Rattle.model.specs.Processors.{workingOf, processorOf, readProcessor};
-ghost use Rattle.tables.specs.Tables.{levelsIn};
+ghost use Rattle.level_tables.specs.Tables.{levelsIn};
 ghost use Rattle.levels.specs.PointTables.{asPoint, pointTable, tableOf, pointsOf, Ordered, SmallPoints, droppedFrom, workingRead};
 use crate::points::Point;
 use crate::points::PointTable;
 use crate::points::all_points;
 use crate::points::no_points;
 use crate::points::point_at;
+use level_tables::read_levels;
 use model::MAX_LEVELS;
 use model::MAX_POINTS;
-use tables::Reading;
-use tables::read_levels;
+use reading::Reading;
 
 // The working points of a level table in bytes. Any bytes are answered; a table that is refused has none.
 pub fn read_working_levels(levels: &[u8]) -> PointTable

@@ -19,9 +19,9 @@ use Rattle.model.specs.Intervals.{boundAt, intervalCount, lengthOf, OpenRange}
 use Rattle.model.specs.Sites.{Site, ValidSite}
 use Rattle.model.proofs.Numbers.{lt-or-le}
 use Rattle.model.proofs.Working.{working-curve}
-use Rattle.tables.specs.Column.{columnOf}
-use Rattle.tables.proofs.Column.{length-column, column-at, column-past, column-cong}
-use Rattle.tables.proofs.Read.{job-in}
+use Rattle.reading.specs.Column.{columnOf}
+use Rattle.reading.proofs.Column.{length-column, column-at, column-past, column-cong}
+use Rattle.job_tables.proofs.Read.{job-in}
 use Rattle.job_sets.specs.JobSets.{isMember}
 use Rattle.job_sets.specs.IntervalSets.{setIn}
 use Rattle.levels.specs.declared.points.PointTable.{PointTable}

@@ -8,7 +8,7 @@ use Rattle.model.specs.Jobs.{jobOf}
 use Rattle.model.specs.Processors.{workingOf}
 use Rattle.model.specs.Intervals.{OpenRange}
 use Rattle.model.specs.Sites.{Site, ValidSite}
-use Rattle.tables.specs.Column.{columnOf}
+use Rattle.reading.specs.Column.{columnOf}
 use Rattle.levels.specs.PointTables.{pointTable}
 use Rattle.intervals.specs.Times.{HoldsTimes}
 use Rattle.intervals.specs.OpenSets.{HoldsOpen}

@@ -4,7 +4,7 @@ ghost use Prim.Native.Nat.{ℕ, _+_, _-_, _<_, _≤_};
 ghost use lib.ListN.{getD, replicate};
 ghost use Rattle.model.specs.Limits.{maxIntervals};
 ghost use Rattle.model.specs.Sites.{Site};
-ghost use Rattle.tables.specs.Column.{columnOf};
+ghost use Rattle.reading.specs.Column.{columnOf};
 ghost use Rattle.planning.specs.MadePlans.{CanMake, MadePlan};
 use energy::energy_figure;
 use intervals::interval_count;

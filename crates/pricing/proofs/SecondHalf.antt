@@ -25,8 +25,8 @@ use Rattle.model.proofs.Steps.{load-of-steps}
 use Rattle.model.proofs.Numbers.{both-true}
 use Rattle.model.proofs.Faults.{price-length}
 use Rattle.model.proofs.Tests.{in-range, fault-unless}
-use Rattle.tables.specs.Column.{columnOf}
-use Rattle.tables.proofs.Column.{column-at}
+use Rattle.reading.specs.Column.{columnOf}
+use Rattle.reading.proofs.Column.{column-at}
 use Rattle.levels.specs.declared.points.PointTable.{PointTable}
 use Rattle.levels.specs.PointTables.{pointsOf}
 use Rattle.levels.proofs.PointTables.{length-pointsOf}

@@ -11,7 +11,7 @@ ghost use Rattle.model.specs.Outcome.{byEntry};
 ghost use Rattle.model.specs.Bands.{Curve};
 ghost use Rattle.model.specs.Processors.{Processor, workingOf};
 ghost use Rattle.model.specs.Checking.{pricing};
-ghost use Rattle.tables.specs.Column.{columnOf};
+ghost use Rattle.reading.specs.Column.{columnOf};
 ghost use Rattle.levels.specs.PointTables.{pointsOf, SmallPoints};
 ghost use Rattle.intervals.specs.Times.{SmallBounds};
 ghost use Rattle.fitting.specs.Verdicts.{verdictOf, passed};
@@ -26,8 +26,8 @@ use job_sets::SET_WORDS;
 use levels::PointTable;
 use model::MAX_BOUNDS;
 use model::MAX_INTERVALS;
-use tables::number16;
-use tables::number32;
+use reading::number16;
+use reading::number32;
 
 // Checks a price list against a plan that fits, with the open sets and the loads of its intervals.
 pub fn price(

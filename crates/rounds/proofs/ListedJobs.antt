@@ -14,7 +14,7 @@ use Rattle.model.specs.Entries.{joined}
 use Rattle.model.specs.Jobs.{noJob, jobOf}
 use Rattle.model.proofs.Joined.{getD-past, joined-longer, joined-next}
 use Rattle.model.proofs.Entries.{listOf-cong, listOf-getD}
-use Rattle.tables.specs.Tables.{jobsIn}
+use Rattle.job_tables.specs.Tables.{jobsIn}
 use Rattle.tasks.specs.declared.Task.{Task}
 use Rattle.tasks.specs.Tasks.{taskOf}
 use Rattle.tasks.specs.LaidOut.{releasedBy, jobsAt, layOut}

@@ -9,9 +9,10 @@ use borrow.Author.Tests.{lt-ltb, le-ltb}
 use Rattle.model.specs.Limits.{maxJobs}
 use Rattle.model.specs.Outcome.{refused, answer}
 use Rattle.model.specs.Jobs.{encodeJobs}
-use Rattle.tables.specs.Tables.{jobsIn, readingOf}
-use Rattle.tables.specs.declared.Reading.the-variants.{Refused as NotRead}
-use Rattle.tables.proofs.ByEntry.{reading-refused}
+use Rattle.reading.specs.Tables.{readingOf}
+use Rattle.reading.specs.declared.Reading.the-variants.{Refused as NotRead}
+use Rattle.reading.proofs.ByEntry.{reading-refused}
+use Rattle.job_tables.specs.Tables.{jobsIn}
 use Rattle.tasks.specs.declared.Task.{Task}
 use Rattle.tasks.specs.Tasks.{taskEntries, readTasks}
 use Rattle.tasks.specs.Multiples.{maxMultiple, multipleOf}

@@ -12,10 +12,10 @@ use borrow.Author.Tests.{lt-ltb, le-ltb, eq-eqb, ne-eqb, ltb-false, eqb-true, no
 use Rattle.model.specs.Outcome.{Outcome, refused, answer, byEntry}
 use Rattle.model.proofs.Outcome.{answered-past, answer-injective, byEntry-answered}
 use Rattle.model.proofs.Entries.{length-listOf, getD-listOf}
-use Rattle.tables.specs.declared.Reading.{Reading}
-use Rattle.tables.specs.declared.Reading.the-variants.{Entries}
-use Rattle.tables.specs.Tables.{readingOf}
-use Rattle.tables.proofs.ByEntry.{entries≢refused}
+use Rattle.reading.specs.declared.Reading.{Reading}
+use Rattle.reading.specs.declared.Reading.the-variants.{Entries}
+use Rattle.reading.specs.Tables.{readingOf}
+use Rattle.reading.proofs.ByEntry.{entries≢refused}
 use Rattle.tasks.specs.declared.Task.{Task}
 use Rattle.tasks.specs.Tasks.{maxTasks, noTask, taskOf, taskCount, taskAt, taskEntries, taskFault, readTasks}
 use Rattle.tasks.specs.Multiples.{maxMultiple}

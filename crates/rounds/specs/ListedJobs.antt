@@ -6,7 +6,7 @@ use lib.ListN.{length, getD}
 use Rattle.model.specs.declared.Job.{Job}
 use Rattle.model.specs.Limits.{maxJobs}
 use Rattle.model.specs.Jobs.{jobOf}
-use Rattle.tables.specs.Tables.{jobsIn}
+use Rattle.job_tables.specs.Tables.{jobsIn}
 
 -- Arrays for as many jobs as a table may have.
 pub record JobArrays (releases deadlines cycles : List ℕ) : Type 0 where

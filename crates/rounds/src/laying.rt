@@ -10,7 +10,7 @@ ghost use Rattle.tasks.specs.LaidOut.{jobsAt, layOut, jobReleased};
 ghost use Rattle.rounds.specs.TaskBytes.{TasksRead, RoundRead};
 ghost use Rattle.rounds.specs.NextReleases.{NextReleases, Earliest};
 ghost use Rattle.rounds.specs.ListedJobs.{JobArrays, ListedJobs, AddedJob, RoundListed};
-use crate::reading::task_at;
+use crate::task_table::task_at;
 use model::MAX_JOBS;
 use tasks::MAX_TASKS;
 use tasks::Task;

@@ -2,7 +2,7 @@
 mod laying;
 mod multiple;
 mod operation;
-mod reading;
+mod task_table;
 
 pub use operation::RoundsAnswer;
 pub use operation::rounds;

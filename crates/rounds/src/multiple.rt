@@ -3,7 +3,7 @@ ghost use Prim.Native.Nat.{_<_};
 ghost use Rattle.tasks.specs.Tasks.{taskEntries};
 ghost use Rattle.rounds.specs.TaskBytes.{TasksRead};
 ghost use Rattle.rounds.specs.FoundMultiples.{CommonFound, MultipleFound};
-use crate::reading::task_at;
+use crate::task_table::task_at;
 use tasks::MAX_MULTIPLE;
 
 // The least common multiple of all periods, or some number above the limit where that is above it. The multiple of the

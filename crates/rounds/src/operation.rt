@@ -4,9 +4,9 @@ ghost use Rattle.rounds.specs.TaskBytes.{TasksRead};
 ghost use Rattle.rounds.specs.RoundAnswers.{RoundsContract};
 use crate::laying::lay_out;
 use crate::multiple::multiple_of;
-use crate::reading::read_tasks;
+use crate::task_table::read_tasks;
 use model::MAX_JOBS;
-use tables::Reading;
+use reading::Reading;
 use tasks::MAX_MULTIPLE;
 use writing::write_jobs;
 

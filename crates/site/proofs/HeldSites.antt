@@ -11,8 +11,8 @@ use Rattle.model.specs.Bands.{bandCount, frequencyOf, Curve}
 use Rattle.model.specs.Processors.{Processor, ValidProcessor, allPoints, workingOf, topOf}
 use Rattle.model.specs.Sites.{Tables, Site, ValidSite}
 use Rattle.model.proofs.Working.{working-curve, working-top}
-use Rattle.tables.specs.Tables.{jobsIn}
-use Rattle.tables.proofs.Read.{length-jobsIn, jobs-count, sound-in}
+use Rattle.job_tables.specs.Tables.{jobsIn}
+use Rattle.job_tables.proofs.Read.{length-jobsIn, jobs-count, sound-in}
 use Rattle.levels.specs.PointTables.{pointsOf, SmallPoints}
 use Rattle.levels.proofs.SmallPoints.{working-small, working-held}
 use Rattle.intervals.specs.Times.{SmallBounds}

@@ -14,8 +14,8 @@ use Rattle.model.specs.Marks.{readMarks, boundsWith}
 use Rattle.model.specs.Processors.{workingOf, topOf, processorOf}
 use Rattle.model.specs.Sites.{Tables, readTables, Site, siteOf, readSite}
 use Rattle.model.proofs.Outcome.{refused≢answer, answer-injective}
-use Rattle.tables.specs.Column.{columnOf}
-use Rattle.tables.specs.Tables.{jobsIn}
+use Rattle.reading.specs.Column.{columnOf}
+use Rattle.job_tables.specs.Tables.{jobsIn}
 use Rattle.levels.specs.PointTables.{pointTable}
 use Rattle.intervals.specs.Times.{HoldsTimes}
 use Rattle.site.specs.declared.SiteReading.the-variants.{Read, Refused}

@@ -7,8 +7,8 @@ use Rattle.model.specs.Limits.{maxJobs}
 use Rattle.model.specs.Outcome.{Outcome, refused, answer}
 use Rattle.model.specs.Processors.{workingOf, topOf}
 use Rattle.model.specs.Sites.{Tables, Site, ValidSite}
-use Rattle.tables.specs.Column.{columnOf}
-use Rattle.tables.specs.Tables.{jobsIn}
+use Rattle.reading.specs.Column.{columnOf}
+use Rattle.job_tables.specs.Tables.{jobsIn}
 use Rattle.levels.specs.PointTables.{pointTable}
 use Rattle.intervals.specs.Times.{HoldsTimes}
 use Rattle.site.specs.declared.SiteReading.{SiteReading}

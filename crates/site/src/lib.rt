@@ -15,15 +15,15 @@ ghost use Rattle.levels.specs.PointTables.{pointTable};
 ghost use Rattle.site.specs.declared.SiteReading.the-variants.{Refused};
 ghost use Rattle.site.specs.SiteTables.{TablesRead, HoldsTables, SiteRead};
 use intervals::marked_bounds;
+use job_tables::decode_jobs;
+use level_tables::read_levels;
 use levels::PointTable;
 use levels::working_levels;
+use mark_tables::read_marks;
 use model::MAX_BOUNDS;
 use model::MAX_JOBS;
 use model::MAX_POINTS;
-use tables::Reading;
-use tables::decode_jobs;
-use tables::read_levels;
-use tables::read_marks;
+use reading::Reading;
 
 // Whether tables or a site were read, or the refusal's number and place.
 pub enum SiteReading {

@@ -18,7 +18,7 @@ use Rattle.model.proofs.Numbers.{lt-or-le}
 use Rattle.model.proofs.Outcome.{answered-past, answered-within, andThen-answered, answer-injective}
 use Rattle.model.proofs.RefusalNumbers.{fault-cond, by-when, by-under, by-entries, by-then, by-answer}
 use Rattle.model.proofs.Jobs.{length-encodeJobs, jobs-read-back}
-use Rattle.tables.proofs.ReadingBack.{encodings-are-bytes}
+use Rattle.reading.proofs.Encodings.{encodings-are-bytes}
 use Rattle.tasks.specs.declared.Task.{Task}
 use Rattle.tasks.specs.Tasks.{maxTasks, taskCount, taskEntries, taskOf, wrongTask, faultOfTask, taskFault, readTasks, ValidTasks}
 use Rattle.tasks.specs.Multiples.{maxMultiple, multipleOf, LeastCommonMultiple}

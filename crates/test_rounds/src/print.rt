@@ -1,6 +1,6 @@
 // Printing what laying out rounds answers and writes.
 use model::MAX_JOBS;
-use tables::Reading;
+use reading::Reading;
 use test_support::show;
 
 pub(crate) fn laid_out(length: u32, multiple: u32) {
@@ -12,7 +12,7 @@ pub(crate) fn laid_out(length: u32, multiple: u32) {
 // The jobs of a job table, or why it is none.
 pub(crate) fn jobs(bytes: &[u8]) {
     show::words(b" jobs");
-    let table = tables::read_jobs(bytes);
+    let table = job_tables::read_jobs(bytes);
     let reading = table.reading;
     let releases = table.releases;
     let deadlines = table.deadlines;

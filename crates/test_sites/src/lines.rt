@@ -20,15 +20,15 @@ const NO_MARKS: [u8; 2] = [0, 0];
 pub(crate) fn built_in() {
     working(
         b"first_built_in",
-        built_in_columns(tables::first_built_in()),
+        built_in_columns(level_tables::first_built_in()),
     );
     working(
         b"second_built_in",
-        built_in_columns(tables::second_built_in()),
+        built_in_columns(level_tables::second_built_in()),
     );
     one_job(
         b"first_built_in",
-        built_in_columns(tables::first_built_in()),
+        built_in_columns(level_tables::first_built_in()),
         1,
         401,
     );
@@ -84,7 +84,7 @@ fn equal(idle_draw: u32) -> LevelColumns {
 
 // The first built-in table after an idle entry.
 fn first_drawing(idle_draw: u32) -> LevelColumns {
-    with_idle_entry(built_in_columns(tables::first_built_in()), idle_draw)
+    with_idle_entry(built_in_columns(level_tables::first_built_in()), idle_draw)
 }
 
 fn built_in_columns(levels: [Level; 5]) -> LevelColumns {

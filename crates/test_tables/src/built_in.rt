@@ -4,11 +4,11 @@ use model::Level;
 use test_support::show;
 
 pub(crate) fn first() {
-    print(b"levels first_built_in", tables::first_built_in());
+    print(b"levels first_built_in", level_tables::first_built_in());
 }
 
 pub(crate) fn second() {
-    print(b"levels second_built_in", tables::second_built_in());
+    print(b"levels second_built_in", level_tables::second_built_in());
 }
 
 fn print(words: &[u8], levels: [Level; 5]) {

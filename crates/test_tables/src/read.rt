@@ -2,11 +2,11 @@
 use model::MAX_JOBS;
 use model::MAX_LEVELS;
 use model::MAX_MARKS;
-use tables::Reading;
+use reading::Reading;
 use test_support::show;
 
 pub(crate) fn levels(bytes: &[u8]) {
-    let table = tables::read_levels(bytes);
+    let table = level_tables::read_levels(bytes);
     let reading = table.reading;
     let frequencies = table.frequencies;
     let voltages = table.voltages;
@@ -17,7 +17,7 @@ pub(crate) fn levels(bytes: &[u8]) {
 }
 
 pub(crate) fn jobs(bytes: &[u8]) {
-    let table = tables::read_jobs(bytes);
+    let table = job_tables::read_jobs(bytes);
     let reading = table.reading;
     let releases = table.releases;
     let deadlines = table.deadlines;
@@ -29,7 +29,7 @@ pub(crate) fn jobs(bytes: &[u8]) {
 }
 
 pub(crate) fn marks(bytes: &[u8]) {
-    let table = tables::read_marks(bytes);
+    let table = mark_tables::read_marks(bytes);
     let reading = table.reading;
     let marks = table.marks;
     match reading {

@@ -18,9 +18,9 @@ use Rattle.model.specs.Checking.{stepping}
 use Rattle.model.specs.Marks.{ValidMarks, boundsWith}
 use Rattle.model.proofs.MarkedBounds.{bounds-with, length-boundsWith}
 use Rattle.model.proofs.Passing.{passing-cong}
-use Rattle.tables.specs.Column.{columnOf}
-use Rattle.tables.specs.Tables.{jobsIn}
-use Rattle.tables.proofs.Read.{length-jobsIn, job-in, sound-in}
+use Rattle.reading.specs.Column.{columnOf}
+use Rattle.job_tables.specs.Tables.{jobsIn}
+use Rattle.job_tables.proofs.Read.{length-jobsIn, job-in, sound-in}
 use Rattle.intervals.specs.Times.{HoldsTimes, RisingTimes, numberOf}
 use Rattle.intervals.specs.OpenSets.{openSets, HoldsOpen}
 use Rattle.intervals.proofs.OpenRanges as ranges

@@ -7,7 +7,7 @@ ghost use Rattle.model.specs.Limits.{maxJobs, maxIntervals, maxDeadline};
 ghost use Rattle.model.specs.Jobs.{ValidJobs};
 ghost use Rattle.model.specs.Outcome.{andThen};
 ghost use Rattle.model.specs.Marks.{readMarks, boundsWith};
-ghost use Rattle.tables.specs.Tables.{jobsIn};
+ghost use Rattle.job_tables.specs.Tables.{jobsIn};
 ghost use Rattle.touching.specs.Touching.{whereRoom, touchingFor};
 ghost use Rattle.touching.specs.TouchingAnswers.{Answers, TouchingContract};
 ghost use Rattle.touching.specs.TouchedIn.{touchedIn, HoldsBounds};
@@ -27,12 +27,12 @@ use intervals::marked_bounds;
 use intervals::open_sets;
 use job_sets::SET_WORDS;
 use job_sets::count as count_members;
+use job_tables::decode_jobs;
+use mark_tables::read_marks;
 use model::MAX_BOUNDS;
 use model::MAX_DEADLINE;
 use model::MAX_JOBS;
-use tables::Reading;
-use tables::decode_jobs;
-use tables::read_marks;
+use reading::Reading;
 
 // The lengths of the three lists that were written, and the nearest deadline; or the refusal's number and place.
 pub enum TouchingAnswer {

@@ -6,8 +6,8 @@ ghost use Rattle.model.specs.Limits.{maxJobs};
 ghost use Rattle.model.specs.Steps.{wrongPlanLength, stepCount, stepAt, walk};
 ghost use Rattle.walking.specs.Walking.{stepAnswer, numberAfter, codeStep};
 use model::MAX_JOBS;
-use tables::number16;
-use tables::number32;
+use reading::number16;
+use reading::number32;
 
 // A step gives a job some cycles in an interval.
 pub struct Step {

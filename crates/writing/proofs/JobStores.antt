@@ -13,8 +13,8 @@ use Rattle.model.specs.Jobs.{encodeJobs}
 use Rattle.model.proofs.Bytes.{length-bytesOf}
 use Rattle.model.proofs.Entries.{length-listOf, length-encodeEach}
 use Rattle.model.proofs.Jobs.{length-encodeJobs}
-use Rattle.tables.specs.Tables.{jobsIn}
-use Rattle.tables.proofs.Read.{length-jobsIn}
+use Rattle.job_tables.specs.Tables.{jobsIn}
+use Rattle.job_tables.proofs.Read.{length-jobsIn}
 use Rattle.writing.specs.JobBytes.{windowBytes, jobCycleBytes}
 use Rattle.writing.proofs.Stores.{sets-after, sets-front}
 use Rattle.writing.proofs.NumberStores.{numbers-none, length-numbers, numbers-next, numbers-whole}

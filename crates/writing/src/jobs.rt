@@ -6,7 +6,7 @@ ghost use lib.ListN.{length, drop};
 ghost use lib.Seq.{sets};
 ghost use Rattle.model.specs.Limits.{maxJobs};
 ghost use Rattle.model.specs.Jobs.{encodeJobs};
-ghost use Rattle.tables.specs.Tables.{jobsIn};
+ghost use Rattle.job_tables.specs.Tables.{jobsIn};
 ghost use Rattle.writing.specs.JobBytes.{windowBytes, jobCycleBytes};
 use crate::numbers::put16;
 use crate::numbers::put32;

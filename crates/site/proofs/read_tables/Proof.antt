@@ -8,8 +8,8 @@ use Rattle.model.specs.Limits.{maxLevels}
 use Rattle.model.specs.Outcome.{answer}
 use Rattle.model.specs.LevelTables.{readLevels}
 use Rattle.model.proofs.LevelTables.{levels-valid}
-use Rattle.tables.specs.Tables.{levelsIn}
-use Rattle.tables.proofs.Read.{levels-count, top-in, levels-read, levels-read-refused}
+use Rattle.level_tables.specs.Tables.{levelsIn}
+use Rattle.level_tables.proofs.Read.{levels-count, top-in, levels-read, levels-read-refused}
 use Rattle.site.proofs.ReadSites.{levels-refused}
 use Rattle.site.proofs.read_tables.Statement.{statement}
 use Rattle.site.proofs.read_tables.Tie as tie

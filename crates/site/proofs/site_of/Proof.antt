@@ -1,7 +1,7 @@
 -- `site_of` meets its contract, by the laws of proofs/ReadSites.antt. Assumes nothing.
 use mathlib.Core.Path.{refl}
 use borrow.Author.Needs.{needs}
-use Rattle.tables.proofs.MarksIn.{marks-read, marks-few, marks-read-refused}
+use Rattle.mark_tables.proofs.MarksIn.{marks-read, marks-few, marks-read-refused}
 use Rattle.site.proofs.ReadSites.{marks-refused, site-cut}
 use Rattle.site.proofs.site_of.Statement.{statement}
 use Rattle.site.proofs.site_of.Tie as tie

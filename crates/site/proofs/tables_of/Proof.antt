@@ -1,7 +1,7 @@
 -- `tables_of` meets its contract, by the laws of proofs/ReadSites.antt. Assumes nothing.
 use mathlib.Core.Path.{refl}
 use borrow.Author.Needs.{needs}
-use Rattle.tables.proofs.Read.{jobs-decoded-refused, jobs-decoded, decoded-padded}
+use Rattle.job_tables.proofs.Read.{jobs-decoded-refused, jobs-decoded, decoded-padded}
 use Rattle.site.proofs.ReadSites.{jobs-refused, both-read}
 use Rattle.site.proofs.tables_of.Statement.{statement}
 use Rattle.site.proofs.tables_of.Tie as tie

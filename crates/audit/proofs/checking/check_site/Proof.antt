@@ -5,7 +5,7 @@ use mathlib.Core.List.{[]}
 use lib.ListN.{replicate}
 use borrow.Author.Needs.{needs}
 use Rattle.model.specs.Limits.{maxIntervals}
-use Rattle.tables.proofs.Read.{length-jobsIn}
+use Rattle.job_tables.proofs.Read.{length-jobsIn}
 use Rattle.site.proofs.HeldSites.{held-count, held-points, held-small, held-curve, held-top, held-bounds-small}
 use Rattle.fitting.proofs.SetsHave.{no-jobs}
 use Rattle.audit.proofs.BothHalves.{refused-accepted, first-refused, sets-opened, planned, second-refused, all-passed}

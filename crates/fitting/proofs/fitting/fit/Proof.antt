@@ -7,8 +7,8 @@ use lib.ListN.{length}
 use denote.Ref.{now}
 use borrow.Author.Needs.{needs}
 use Rattle.model.specs.declared.Job.{Job}
-use Rattle.tables.specs.Tables.{jobsIn}
-use Rattle.tables.proofs.Read.{length-jobsIn, job-in}
+use Rattle.job_tables.specs.Tables.{jobsIn}
+use Rattle.job_tables.proofs.Read.{length-jobsIn, job-in}
 use Rattle.fitting.specs.TestedJobs.{HoldsCycles}
 use Rattle.fitting.proofs.fitting.fit.Statement.{statement}
 use Rattle.fitting.proofs.fitting.fit.Tie as tie

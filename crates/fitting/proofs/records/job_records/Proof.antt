@@ -12,7 +12,7 @@ use Rattle.model.specs.declared.Job.{Job}
 use Rattle.model.specs.Limits.{maxJobs}
 use Rattle.model.specs.Jobs.{noJob, jobOf}
 use Rattle.model.proofs.Entries.{length-listOf, getD-listOf}
-use Rattle.tables.specs.Tables.{jobsIn}
+use Rattle.job_tables.specs.Tables.{jobsIn}
 use Rattle.fitting.proofs.records.job_records.Statement.{statement}
 use Rattle.fitting.proofs.records.job_records.Tie as tie
 

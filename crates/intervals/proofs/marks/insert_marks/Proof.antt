@@ -6,7 +6,7 @@ use native.Mathlib.Omega.{arith}
 use lib.ListN.{length, getD, take, drop}
 use denote.Ref.{now}
 use Rattle.model.specs.Marks.{insertMark, insertMarks}
-use Rattle.tables.specs.Tables.{marksIn}
+use Rattle.mark_tables.specs.Tables.{marksIn}
 use Rattle.intervals.specs.Times.{HoldsTimes}
 use Rattle.intervals.proofs.Padded.{length-padded, times-taken, holds-padded, holds-rising, holds-next}
 use Rattle.intervals.proofs.MarkedTimes.{marks-none, marks-more, marks-whole, marked-times-rise}

@@ -9,8 +9,8 @@ use borrow.Author.Needs.{needs}
 use denote.Ref.{now}
 use Rattle.model.specs.Limits.{maxJobs}
 use Rattle.model.proofs.BoundsOf.{length-boundsOf, boundsOf-rises}
-use Rattle.tables.specs.Tables.{jobsIn}
-use Rattle.tables.proofs.Read.{length-jobsIn}
+use Rattle.job_tables.specs.Tables.{jobsIn}
+use Rattle.job_tables.proofs.Read.{length-jobsIn}
 use Rattle.intervals.proofs.Padded.{holds-padded, holds-rising}
 use Rattle.intervals.proofs.MarkedTimes.{marked-held}
 use Rattle.intervals.proofs.marks.marked_bounds.Statement.{statement}

@@ -1,13 +1,13 @@
 -- `interval::setting` meets its contract. It rests on `read_levels`, whose levels stand in the arrays (proofs/Read.antt
--- of the crate tables), and on `setting_in` (proofs/Answers.antt). Assumes nothing.
+-- of the crate level_tables), and on `setting_in` (proofs/Answers.antt). Assumes nothing.
 use mathlib.Core.Path.{_≡_, _∙_, ap}
 use denote.Ref.{now}
 use borrow.Author.Needs.{needs}
 use Rattle.model.specs.Outcome.{answer}
 use Rattle.model.specs.LevelTables.{readLevels}
 use Rattle.model.proofs.LevelTables.{levels-valid}
-use Rattle.tables.specs.Tables.{levelsIn}
-use Rattle.tables.proofs.Read.{levels-read, levels-read-refused}
+use Rattle.level_tables.specs.Tables.{levelsIn}
+use Rattle.level_tables.proofs.Read.{levels-read, levels-read-refused}
 use Rattle.levels.specs.Settings.{settingAnswer}
 use Rattle.levels.proofs.Answers.{levels-refused, levels-answered}
 use Rattle.levels.proofs.interval.setting.Statement.{statement}

@@ -3,7 +3,7 @@
 use native.Mathlib.Omega.{arith}
 use denote.Ref.{now}
 use borrow.Author.Needs.{needs}
-use Rattle.tables.proofs.Read.{levels-count}
+use Rattle.level_tables.proofs.Read.{levels-count}
 use Rattle.levels.proofs.Answers.{too-short, too-long, top-load, overloaded, working-fits, settled}
 use Rattle.levels.proofs.interval.setting_in.Statement.{statement}
 use Rattle.levels.proofs.interval.setting_in.Tie as tie

@@ -7,8 +7,8 @@ use lib.ListN.{take}
 use denote.Ref.{now}
 use Rattle.model.specs.LevelTables.{idleEntries}
 use Rattle.model.specs.Processors.{allPoints, processorOf}
-use Rattle.tables.specs.Tables.{levelsIn}
-use Rattle.tables.proofs.Read.{first-inside, levels-count}
+use Rattle.level_tables.specs.Tables.{levelsIn}
+use Rattle.level_tables.proofs.Read.{first-inside, levels-count}
 use Rattle.levels.specs.PointTables.{pointTable}
 use Rattle.levels.proofs.Filling.{first-small, first-found, idling-filled, level-high, level-next, levels-all}
 use Rattle.levels.proofs.points.all_points.Statement.{statement}

@@ -1,7 +1,7 @@
 -- `points::no_points` meets its contract: the arrays of a table without points are zeros, by computation. Assumes nothing.
 use mathlib.Core.Path.{refl}
 use Rattle.model.specs.Entries.{listOf}
-use Rattle.tables.specs.Column.{columnOf}
+use Rattle.reading.specs.Column.{columnOf}
 use Rattle.levels.proofs.points.no_points.Statement.{statement}
 use Rattle.levels.proofs.points.no_points.Tie as tie
 

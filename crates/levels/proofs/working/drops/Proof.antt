@@ -4,7 +4,7 @@ use mathlib.Core.Path.{refl}
 use native.Mathlib.Omega.{arith}
 use borrow.Author.Needs.{needs}
 use Rattle.model.specs.Points.{drops}
-use Rattle.tables.proofs.Products.{product-below}
+use Rattle.level_tables.proofs.Products.{product-below}
 use Rattle.levels.proofs.working.drops.Statement.{statement}
 use Rattle.levels.proofs.working.drops.Tie as tie
 

@@ -1,13 +1,13 @@
 -- `working::read_working_levels` meets its contract. It rests on `read_levels`, whose levels stand in the arrays
--- (proofs/Read.antt of the crate tables), and on `working_levels`. Assumes nothing.
+-- (proofs/Read.antt of the crate level_tables), and on `working_levels`. Assumes nothing.
 use mathlib.Core.Path.{_≡_, _∙_}
 use denote.Ref.{now}
 use borrow.Author.Needs.{needs}
 use Rattle.model.specs.Outcome.{answer}
 use Rattle.model.specs.LevelTables.{readLevels}
 use Rattle.model.proofs.LevelTables.{levels-valid}
-use Rattle.tables.specs.Tables.{levelsIn}
-use Rattle.tables.proofs.Read.{levels-read, levels-read-refused}
+use Rattle.level_tables.specs.Tables.{levelsIn}
+use Rattle.level_tables.proofs.Read.{levels-read, levels-read-refused}
 use Rattle.levels.proofs.working.read_working_levels.Statement.{statement}
 use Rattle.levels.proofs.working.read_working_levels.Tie as tie
 

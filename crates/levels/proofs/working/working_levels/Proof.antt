@@ -6,7 +6,7 @@ use denote.Ref.{now}
 use borrow.Author.Needs.{needs}
 use Rattle.model.specs.declared.Level.{Level}
 use Rattle.model.specs.Processors.{processorOf}
-use Rattle.tables.specs.Tables.{levelsIn}
+use Rattle.level_tables.specs.Tables.{levelsIn}
 use Rattle.model.proofs.Sites.{valid-processor}
 use Rattle.levels.proofs.SmallPoints.{points-small, points-held}
 use Rattle.levels.proofs.working.working_levels.Statement.{statement}

@@ -5,8 +5,8 @@ use Prim.Native.Nat.{_+_, _-_, _*_, _≤_}
 use native.Mathlib.Omega.{arith}
 use lib.ListN.{getD}
 use Rattle.model.specs.Limits.{maxIntervals}
-use Rattle.tables.specs.Column.{columnOf}
-use Rattle.tables.proofs.Column.{column-none, column-more, column-whole}
+use Rattle.reading.specs.Column.{columnOf}
+use Rattle.reading.proofs.Column.{column-none, column-more, column-whole}
 use Rattle.pricing.proofs.pricing.price_numbers.Statement.{statement}
 use Rattle.pricing.proofs.pricing.price_numbers.Tie as tie
 

@@ -1,7 +1,7 @@
 -- `mixes::served` meets its contract. Products of small numbers are small. Assumes nothing.
 use Prim.Native.Nat.{_*_, _<_}
 use native.Mathlib.Omega.{arith}
-use Rattle.tables.proofs.Products.{product-below}
+use Rattle.level_tables.proofs.Products.{product-below}
 use Rattle.test_search.proofs.mixes.served.Statement.{statement}
 use Rattle.test_search.proofs.mixes.served.Tie as tie
 

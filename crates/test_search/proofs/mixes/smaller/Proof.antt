@@ -1,7 +1,7 @@
 -- `mixes::smaller` meets its contract. Products of small numbers fit. Assumes nothing.
 use native.Mathlib.Omega.{arith}
 use borrow.Author.Needs.{needs}
-use Rattle.tables.proofs.Products.{product-below}
+use Rattle.level_tables.proofs.Products.{product-below}
 use Rattle.test_search.proofs.mixes.smaller.Statement.{statement}
 use Rattle.test_search.proofs.mixes.smaller.Tie as tie
 

@@ -2,7 +2,7 @@
 use native.Mathlib.Nat.{div-le-self}
 use native.Mathlib.Omega.{arith}
 use borrow.Author.Needs.{needs}
-use Rattle.tables.proofs.Products.{product-below}
+use Rattle.level_tables.proofs.Products.{product-below}
 use Rattle.test_search.proofs.search.scaled.Statement.{statement}
 use Rattle.test_search.proofs.search.scaled.Tie as tie
 

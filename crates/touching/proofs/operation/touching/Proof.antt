@@ -3,7 +3,7 @@ use mathlib.Core.Logic.{inl, inr}
 use native.Mathlib.Omega.{arith}
 use borrow.Author.Needs.{needs}
 use Rattle.model.proofs.Jobs.{jobs-valid}
-use Rattle.tables.proofs.Read.{jobs-decoded-refused, jobs-decoded}
+use Rattle.job_tables.proofs.Read.{jobs-decoded-refused, jobs-decoded}
 use Rattle.touching.proofs.TouchingOutcomes.{touching-wrong-span, touching-jobs-refused, touching-read, refused-answers, same-answers}
 use Rattle.touching.proofs.operation.touching.Statement.{statement}
 use Rattle.touching.proofs.operation.touching.Tie as tie

@@ -3,8 +3,8 @@
 use mathlib.Core.Path.{refl}
 use borrow.Author.Needs.{needs}
 use Rattle.model.proofs.Marks.{marks-valid}
-use Rattle.tables.proofs.Read.{jobs-count}
-use Rattle.tables.proofs.MarksIn.{marks-read, marks-few, marks-read-refused}
+use Rattle.job_tables.proofs.Read.{jobs-count}
+use Rattle.mark_tables.proofs.MarksIn.{marks-read, marks-few, marks-read-refused}
 use Rattle.touching.proofs.TouchingOutcomes.{refused-answers, same-answers}
 use Rattle.touching.proofs.TouchedArrays.{jobs-ordered, marked-bounds-held}
 use Rattle.touching.proofs.operation.touching_jobs.Statement.{statement}

@@ -11,8 +11,8 @@ use Rattle.model.specs.Limits.{maxJobs, maxCycles}
 use Rattle.model.specs.Sum.{sum as total, onlyIf}
 use Rattle.model.specs.Jobs.{jobOf}
 use Rattle.model.specs.Windows.{isInside, cyclesInside}
-use Rattle.tables.specs.Tables.{jobsIn}
-use Rattle.tables.proofs.Read.{length-jobsIn, job-in, jobs-count, sound-in}
+use Rattle.job_tables.specs.Tables.{jobsIn}
+use Rattle.job_tables.proofs.Read.{length-jobsIn, job-in, jobs-count, sound-in}
 use Rattle.model.proofs.Sum.{sum-none, sum-more, sum-whole}
 use Rattle.windows.proofs.window.cycles_inside.Statement.{statement}
 use Rattle.windows.proofs.window.cycles_inside.Tie as tie

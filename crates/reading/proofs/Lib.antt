@@ -1,0 +1,6 @@
+-- Laws of the definitions, for the proofs of the functions.
+pub mod Column
+pub mod ByEntry
+pub mod Read
+pub mod Encodings
+pub mod SmallNumbers

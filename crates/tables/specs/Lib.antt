@@ -1,4 +1,0 @@
--- What the operations of this crate answer, as equations with the definitions of the crate model.
-pub mod Column
-pub mod Tables
-pub mod ReadingBack
