@@ -1,7 +1,6 @@
 -- One plan serves all boards with the same working frequencies, over the tables in bytes and the calls themselves.
 -- Assumes nothing.
 use mathlib.Core.Path.{_≡_, refl, sym, _∙_, ap, subst}
-use mathlib.Core.Logic.{_↔_}
 use mathlib.Core.List.{List}
 use Prim.Native.Nat.{ℕ}
 use native.Mathlib.Omega.{arith}
@@ -20,7 +19,7 @@ use Rattle.model.specs.Checking.{figureOf, checkFor, check}
 use Rattle.model.specs.Planning.{comesOut, afterReading, planFor, planning, Planned}
 use Rattle.model.specs.Demands.{ValidTables}
 use Rattle.model.specs.Boards.{workingFrequencies, onBoard, Alike}
-use Rattle.model.proofs.Outcome.{refused≢answer, answer-injective, andThen-answered}
+use Rattle.model.proofs.Outcome.{answer-injective, andThen-answered}
 use Rattle.model.proofs.Sites.{processors-are-valid, sites-are-valid}
 use Rattle.model.proofs.Accepted.{check-accepts, check-read, check-reads, accepted-is-least}
 use Rattle.model.proofs.Boards.{boards-are-alike}

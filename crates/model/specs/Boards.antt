@@ -4,7 +4,7 @@ use Prim.Native.Nat.{ℕ}
 use mathlib.Core.Path.{_≡_}
 use mathlib.Core.List.{List, map}
 use Rattle.model.specs.Outcome.{Outcome, answer, andThen}
-use Rattle.model.specs.Points.{Point, RisingPoints}
+use Rattle.model.specs.Points.{RisingPoints}
 use Rattle.model.specs.Bands.{gap, scale}
 use Rattle.model.specs.Processors.{Processor, allPoints, workingOf, topOf, readProcessor}
 use Rattle.model.specs.Setting.{settingFor}
@@ -12,7 +12,6 @@ use Rattle.model.specs.Sites.{Tables, Site}
 use Rattle.model.specs.Windows.{spareFor}
 use Rattle.model.specs.Plans.{Shares}
 use Rattle.model.specs.Energy.{bandTotal}
-use Rattle.model.specs.Steps.{sharesOf}
 use Rattle.model.specs.Checking.{figureOf, checkFor}
 use Rattle.model.specs.Planning.{planFor}
 
