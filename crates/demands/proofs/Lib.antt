@@ -1,5 +1,5 @@
 -- The three demands hold, rounds repeat, idling is not free, a plan has one spelling, the window test keeps a running sum, what touches
--- a span is listed, and handover marks cut intervals.
+-- a span is listed, handover marks cut intervals, and one plan serves many boards.
 pub mod SiteParts
 pub mod SameSites
 pub mod ThreeDemands

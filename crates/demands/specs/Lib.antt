@@ -1,5 +1,5 @@
 -- The three demands, for a reader who reads nothing else; rounds that repeat, idling that is not free, one spelling of a plan, the
--- running sum of the window test, what touches a span and handover marks, over the calls.
+-- running sum of the window test, what touches a span, handover marks and one plan for many boards, over the calls.
 pub mod ThreeDemands
 pub mod RepeatedRounds
 pub mod IdlingIsNotFree
