@@ -75,6 +75,6 @@ pub record OnePlanManyBoards : Type 0 where
       (Plan intervals steps (figureOf other (planWritten call steps)))
   -- what is the same on both
   pub same : (one two : List ℕ) → SameWorkingFrequencies one two → SameOnBoth one two
-  -- nothing but this is asked of two boards
+  -- every two tables that are read and have the same working frequencies are such boards: nothing more is asked of them
   pub every-pair : (one two : List ℕ) (processor other : Processor) → readProcessor one ≡ answer processor → readProcessor two ≡ answer other
       → workingFrequencies processor ≡ workingFrequencies other → SameWorkingFrequencies one two
