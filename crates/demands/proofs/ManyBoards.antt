@@ -3,7 +3,6 @@
 use mathlib.Core.Path.{_≡_, refl, sym, _∙_, ap, subst}
 use mathlib.Core.List.{List}
 use Prim.Native.Nat.{ℕ}
-use native.Mathlib.Omega.{arith}
 use lib.ListN.{length}
 use Rattle.model.specs.declared.Job.{Job}
 use Rattle.model.specs.Outcome.{Outcome, refused, answer, andThen}
@@ -26,7 +25,7 @@ use Rattle.model.proofs.Boards.{boards-are-alike}
 use Rattle.planning.specs.declared.operation.PlanAnswer.the-variants.{Plan}
 use Rattle.planning.specs.MadePlans.{Written}
 use Rattle.planning.specs.PlanAnswers.{outcomeOf, PlanContract}
-use Rattle.planning.proofs.PlanStages.{planned-as, site-contract}
+use Rattle.planning.proofs.PlanStages.{planned-as, site-contract, plan-read}
 use Rattle.ordering.specs.Ordering.{order}
 use Rattle.demands.specs.ThreeDemands.{Call, planWritten, pricesWritten, SuchAPlan}
 use Rattle.demands.specs.ManyBoards.{SameWorkingFrequencies, ServesOn, SameOnBoth, OnePlanManyBoards}
@@ -220,17 +219,6 @@ serving levels jobs marks plan prices figure e =
           (sym (check-read levels jobs marks plan prices site (acceptable .tables)) ∙ accepted);
     }
 
--- where a plan comes out, tables were read
-came-out : (levels jobs marks : List ℕ) (planRoom priceRoom shareRoom : ℕ) → planning levels jobs marks planRoom priceRoom shareRoom ≡ comesOut
-    → (site : Site) × (readSite levels jobs marks ≡ answer site)
-unfolding planning
-came-out levels jobs marks planRoom priceRoom shareRoom e = go (readSite levels jobs marks) refl e
-  where
-    go : (read : Outcome Site) → readSite levels jobs marks ≡ read → afterReading read (λ site. planFor site planRoom priceRoom shareRoom) ≡ comesOut
-        → (site : Site) × (readSite levels jobs marks ≡ answer site)
-    go (refused number place) is e = let z : _≡_ {A = ℕ} 0 1 = cc e in absurd (omega (arith, z))
-    go (answer site) is e = (site, is)
-
 -- two boards of one type, with the processors that they are read as
 boards : (one two : List ℕ) → SameWorkingFrequencies one two
     → (processor other : Processor) × (readProcessor one ≡ answer processor) × (readProcessor two ≡ answer other)
@@ -250,7 +238,7 @@ serves one two alike jobs marks plan prices figure e =
 -- a call that answers a plan
 module _ (call : Call) (intervals steps energy : ℕ) (told : call .answered ≡ Plan intervals steps energy) where
   its-site : (site : Site) × ValidTables (call .levelBytes) (call .jobBytes) (call .markBytes) site
-  its-site = came-out _ _ _ _ _ _ (sym (call .contract .outcome) ∙ ap outcomeOf told)
+  its-site = plan-read (call .contract) intervals steps energy told
 
   planned-serves : (two : List ℕ) → SameWorkingFrequencies (call .levelBytes) two
       → ServesOn two (call .jobBytes) (call .markBytes) (planWritten call steps) (pricesWritten call intervals)

@@ -39,7 +39,7 @@ pub record ServesOn (levelBytes jobBytes markBytes plan prices : List ℕ) : Typ
   pub such-a-plan : SuchAPlan site plan (figureOf site plan)
   pub least : LeastPlan site plan (figureOf site plan)
 
--- What does not hang on which of two boards it is asked of.
+-- What is the same, whichever of two boards it is asked of.
 pub record SameOnBoth (one two : List ℕ) : Type 0 where
   -- a refusal of a plan and its prices, 15 to 24, or of the jobs and marks, is the same refusal with the same place
   pub refusals : (jobs marks plan prices : List ℕ) (number place : ℕ)

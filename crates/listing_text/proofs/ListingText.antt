@@ -11,12 +11,12 @@ use Rattle.model.specs.Outcome.{Outcome, refused, answer}
 use Rattle.model.specs.Sites.{Site, readSite}
 use Rattle.model.specs.Plans.{sharesIn}
 use Rattle.model.specs.PriceBytes.{pricesOf}
-use Rattle.model.specs.Planning.{refusal, planning}
 use Rattle.model.proofs.RefusalNumbers.{site-by}
 use Rattle.planning.specs.declared.operation.PlanAnswer.{PlanAnswer}
 use Rattle.planning.specs.declared.operation.PlanAnswer.the-variants.{Plan, Overfull, Refused}
 use Rattle.planning.specs.MadePlans.{Buffers}
 use Rattle.planning.specs.PlanAnswers.{outcomeOf, PlanContract}
+use Rattle.planning.proofs.PlanStages.{site-planned, plan-read}
 use Rattle.listing_text.specs.TextLines.{overfullLine, refusedLine}
 use Rattle.listing_text.specs.PlanText.{textOfPlan}
 use Rattle.listing_text.specs.Appending.{textRoom, Appended}
@@ -52,23 +52,11 @@ unfolding listingText
 text-read outcome site read answered case is left = rw (read, is)
 
 module _ {levelBytes jobBytes markBytes : List ℕ} {left : Buffers} {answered : PlanAnswer} (planned : PlanContract levelBytes jobBytes markBytes zeroBuffers left answered) where
-  -- what is not refused is planned for a site that was read
-  site-planned : ((number place : ℕ) → outcomeOf answered ≡ refusal number place → ⊥) → (site : Site) × (readSite levelBytes jobBytes markBytes ≡ answer site)
-  unfolding planning
-  site-planned never = go (readSite levelBytes jobBytes markBytes) refl
-    where
-      go : (outcome : Outcome Site) → readSite levelBytes jobBytes markBytes ≡ outcome → (site : Site) × (readSite levelBytes jobBytes markBytes ≡ answer site)
-      go (refused number place) is = absurd (never number place (rw is at (planned .outcome)))
-      go (answer site) is = (site, is)
-
-  plan-read : (intervals steps energy : ℕ) → answered ≡ Plan intervals steps energy → (site : Site) × (readSite levelBytes jobBytes markBytes ≡ answer site)
-  plan-read intervals steps energy is = site-planned (λ number place e. let z : _≡_ {A = ℕ} 0 1 = cc (ap outcomeOf is, e) in omega (arith, z))
-
   -- what was written is a plan whose text can be put
   pub plan-listed : (intervals steps energy : ℕ) → answered ≡ Plan intervals steps energy
       → ListedPlan levelBytes jobBytes markBytes intervals steps energy (left .prices) (left .shares)
   plan-listed intervals steps energy is =
-      let (site, read) = plan-read intervals steps energy is in
+      let (site, read) = plan-read planned intervals steps energy is in
       record {
         site = site;
         site-read = read;
@@ -104,14 +92,14 @@ module _ {levelBytes jobBytes markBytes : List ℕ} {left : Buffers} {answered :
         → ListingContract levelBytes jobBytes markBytes before after whole
     unfolding siteText
     plan-put intervals steps energy is put =
-        let (site, read) = plan-read intervals steps energy is in
+        let (site, read) = plan-read planned intervals steps energy is in
         text-put _ (text-read _ site read answered _ is left) (put site read)
 
     pub overfull-put : (start end : ℕ) (spare : ℤ) → answered ≡ Overfull start end spare
         → Appended before 0 (overfullLine start end spare) textRoom after whole → ListingContract levelBytes jobBytes markBytes before after whole
     unfolding siteText
     overfull-put start end spare is put =
-        let (site, read) = site-planned (λ number place e. let z : _≡_ {A = ℕ} 0 1 = cc (ap outcomeOf is, e) in omega (arith, z)) in
+        let (site, read) = site-planned planned (λ number place e. let z : _≡_ {A = ℕ} 0 1 = cc (ap outcomeOf is, e) in omega (arith, z)) in
         text-put _ (text-read _ site read answered _ is left) put
 
     pub refused-put : (number place : ℕ) → answered ≡ Refused number place

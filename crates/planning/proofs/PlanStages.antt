@@ -10,7 +10,7 @@ use lib.IntN.{ℤ}
 use borrow.Author.Tests.{lt-ltb, le-ltb}
 use Rattle.model.specs.declared.Job.{Job}
 use Rattle.model.specs.Limits.{maxDeadline}
-use Rattle.model.specs.Outcome.{refused, answer}
+use Rattle.model.specs.Outcome.{Outcome, refused, answer}
 use Rattle.model.specs.Jobs.{ValidJobs}
 use Rattle.model.specs.Processors.{topOf}
 use Rattle.model.specs.Sites.{Site, readSite}
@@ -148,3 +148,17 @@ module _ (levelBytes jobBytes markBytes : List ℕ) (site : Site) (read : readSi
             λ can. planned .outcome ∙ served-comes-out site valid _ _ _ long can,
           ));
         }
+
+-- what holds of a call says that a site was read where nothing is refused, and so where a plan comes out
+module _ {levelBytes jobBytes markBytes : List ℕ} {before after : Buffers} {answered : PlanAnswer}
+    (contract : PlanContract levelBytes jobBytes markBytes before after answered) where
+  pub site-planned : ((number place : ℕ) → outcomeOf answered ≡ refusal number place → ⊥) → (site : Site) × (readSite levelBytes jobBytes markBytes ≡ answer site)
+  unfolding planning
+  site-planned never = go (readSite levelBytes jobBytes markBytes) refl
+    where
+      go : (outcome : Outcome Site) → readSite levelBytes jobBytes markBytes ≡ outcome → (site : Site) × (readSite levelBytes jobBytes markBytes ≡ answer site)
+      go (refused number place) is = absurd (never number place (rw is at (contract .outcome)))
+      go (answer site) is = (site, is)
+
+  pub plan-read : (intervals steps energy : ℕ) → answered ≡ Plan intervals steps energy → (site : Site) × (readSite levelBytes jobBytes markBytes ≡ answer site)
+  plan-read intervals steps energy is = site-planned (λ number place e. let z : _≡_ {A = ℕ} 0 1 = cc (ap outcomeOf is, e) in omega (arith, z))
