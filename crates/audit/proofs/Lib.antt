@@ -1,2 +1,3 @@
 -- Laws of the definitions, for the proofs of the functions.
-pub mod BothHalves
+pub mod FirstHalf
+pub mod SecondHalf

@@ -1,24 +1,22 @@
-// The check of a plan and its price list, from bytes.
+// The check of a plan and its price list, from bytes: the first half, and then the second.
 ghost use mathlib.Core.Path.{_≡_};
 ghost use Prim.Native.Nat.{ℕ};
-ghost use Rattle.model.specs.Sites.{Site, ValidSite};
-ghost use Rattle.model.specs.Checking.{checkFor, check as checkOf};
-ghost use Rattle.site.specs.SiteTables.{HoldsSite, HoldsSome};
+ghost use Rattle.model.specs.Outcome.{answer};
+ghost use Rattle.model.specs.Sites.{Site};
+ghost use Rattle.model.specs.Checking.{pricing, check as checkOf};
 ghost use Rattle.fitting.specs.SetsHave.{NoJobs};
 ghost use Rattle.fitting.specs.SeenCells.{CellsSeen};
 ghost use Rattle.audit.specs.declared.checking.CheckAnswer.the-variants.{Accepted};
 ghost use Rattle.audit.specs.Answers.{checkAnswer};
-use energy::energy_figure;
+ghost use Rattle.audit.specs.Halves.{FittedSite};
+use crate::first_half::FitsAnswer;
+use crate::first_half::run_first_half;
 use fitting::Verdict;
-use fitting::fit;
 use job_sets::SET_WORDS;
 use model::MAX_BOUNDS;
 use model::MAX_INTERVALS;
-use model::MAX_JOBS;
 use pricing::price;
-use site::SiteReading;
 use site::SiteTable;
-use site::read_site;
 
 // The energy figure of an accepted plan, or the refusal's number and place.
 pub enum CheckAnswer {
@@ -48,76 +46,53 @@ pub fn check_cells(
     ensures { λ r. ⌜ r ≡ checkAnswer (checkOf (now (levels .entry)) (now (jobs .entry)) (now (marks .entry)) (now (plan .entry)) (now (prices .entry))) ⌝ }
     ensures { λ r. ⌜ ((energy : ℕ) → r ≡ Accepted energy → CellsSeen (now (plan .entry)) (now (cells .exit))) ⌝ }
 {
-    let mut releases = [0u64; MAX_JOBS];
-    let mut deadlines = [0u64; MAX_JOBS];
-    let mut cycles = [0u64; MAX_JOBS];
     let mut times = [0u64; MAX_BOUNDS];
-    let site = read_site(
+    let mut sets = [0u64; SET_WORDS];
+    let mut loads = [0u64; MAX_INTERVALS];
+    let half = run_first_half(
         levels,
         jobs,
         marks,
-        &mut releases,
-        &mut deadlines,
-        &mut cycles,
-        &mut times,
-    );
-    let reading = site.reading;
-    match reading {
-        SiteReading::Refused { number, place } => CheckAnswer::Refused { number, place },
-        SiteReading::Read => check_site(
-            site,
-            &releases,
-            &deadlines,
-            &cycles,
-            &times,
-            plan,
-            prices,
-            cells,
-        ),
-    }
-}
-
-// The check where the site was read: the two halves, and the energy figure.
-fn check_site(
-    site: SiteTable,
-    releases: &[u64; MAX_JOBS],
-    deadlines: &[u64; MAX_JOBS],
-    cycles: &[u64; MAX_JOBS],
-    times: &[u64; MAX_BOUNDS],
-    plan: &[u8],
-    prices: &[u8],
-    cells: &mut [u64; SET_WORDS],
-) -> CheckAnswer
-    requires { ⌜ HoldsSome site (now releases) (now deadlines) (now cycles) (now times) × NoJobs (now cells) ⌝ }
-    ensures { λ r. ⌜ ((s : Site) → ValidSite s → HoldsSite s site (now (releases .entry)) (now (deadlines .entry)) (now (cycles .entry)) (now (times .entry)) → r ≡ checkAnswer (checkFor s (now (plan .entry)) (now (prices .entry)))) ⌝ }
-    ensures { λ r. ⌜ ((energy : ℕ) → r ≡ Accepted energy → CellsSeen (now (plan .entry)) (now (cells .exit))) ⌝ }
-{
-    let working = site.working;
-    let count = site.jobs;
-    let bounds = site.bounds;
-    let mut sets = [0u64; SET_WORDS];
-    let mut loads = [0u64; MAX_INTERVALS];
-    let first = fit(
-        site.top,
-        releases,
-        deadlines,
-        cycles,
-        count,
-        times,
-        bounds,
         plan,
+        &mut times,
         &mut sets,
         &mut loads,
         cells,
     );
-    if let Verdict::Refused { number, place } = first {
+    let answer = half.answer;
+    match answer {
+        FitsAnswer::Refused { number, place } => CheckAnswer::Refused { number, place },
+        FitsAnswer::Fits { energy } => {
+            check_prices(energy, half.site, &times, &sets, &loads, plan, prices)
+        }
+    }
+}
+
+// The second half where the plan fits: 21 to 24, and the energy figure of the first.
+fn check_prices(
+    energy: u64,
+    site: SiteTable,
+    times: &[u64; MAX_BOUNDS],
+    sets: &[u64; SET_WORDS],
+    loads: &[u64; MAX_INTERVALS],
+    plan: &[u8],
+    prices: &[u8],
+) -> CheckAnswer
+    requires { ⌜ ((s : Site) × FittedSite s (now plan) site (now times) (now sets) (now loads)) ⌝ }
+    ensures { λ r. ⌜ ((s : Site) → FittedSite s (now (plan .entry)) site (now (times .entry)) (now (sets .entry)) (now (loads .entry)) → r ≡ checkAnswer (pricing s (now (plan .entry)) (now (prices .entry)) (answer energy))) ⌝ }
+{
+    let verdict = price(
+        site.working,
+        sets,
+        site.jobs,
+        times,
+        site.bounds,
+        plan,
+        loads,
+        prices,
+    );
+    if let Verdict::Refused { number, place } = verdict {
         return CheckAnswer::Refused { number, place };
     }
-    let second = price(working, &sets, count, times, bounds, plan, &loads, prices);
-    if let Verdict::Refused { number, place } = second {
-        return CheckAnswer::Refused { number, place };
-    }
-    CheckAnswer::Accepted {
-        energy: energy_figure(working, times, bounds, &loads),
-    }
+    CheckAnswer::Accepted { energy }
 }

@@ -16,7 +16,7 @@ use Rattle.model.specs.Bands.{frequencyOf, gap}
 use Rattle.model.specs.Processors.{Processor, workingOf, topOf, readProcessor, ValidProcessor}
 use Rattle.model.specs.Setting.{Setting, bandOf, settingOf, setting}
 use Rattle.model.specs.Windows.{spare}
-use Rattle.model.specs.Checking.{check}
+use Rattle.model.specs.Checking.{fits, check}
 use Rattle.model.proofs.Numbers.{lt-or-le}
 use Rattle.model.proofs.Outcome.{answered-past, answer-injective, andThen-answered}
 use Rattle.model.proofs.Sites.{processors-are-valid}
@@ -25,8 +25,9 @@ use Rattle.levels.specs.Settings.{settingAnswer}
 use Rattle.levels.proofs.SmallPoints.{working-small, working-held}
 use Rattle.windows.specs.declared.window.SpareAnswer.the-variants.{Spare, Refused as SpareRefused}
 use Rattle.windows.specs.Answers.{spareAnswer}
+use Rattle.audit.specs.declared.first_half.FitsAnswer.the-variants.{Fits, Refused as FitsRefused}
 use Rattle.audit.specs.declared.checking.CheckAnswer.the-variants.{Accepted, Refused as CheckRefused}
-use Rattle.audit.specs.Answers.{checkAnswer}
+use Rattle.audit.specs.Answers.{fitsAnswer, checkAnswer}
 use Rattle.tasks.specs.Rounds.{Round, tableLength, rounds}
 use Rattle.rounds.specs.declared.operation.RoundsAnswer.the-variants.{LaidOut, Refused as RoundRefused}
 use Rattle.rounds.specs.RoundAnswers.{roundsAnswer, RoundsContract}
@@ -38,8 +39,21 @@ use Rattle.touching.specs.Touching.{Lists, touching}
 use Rattle.touching.specs.declared.jobs.NearestDeadline.{NearestDeadline}
 use Rattle.touching.specs.declared.operation.TouchingAnswer.the-variants.{Touching, Refused as TouchingRefused}
 use Rattle.touching.specs.TouchingAnswers.{nearestAnswer, touchingAnswer, TouchingContract}
-use Rattle.capi.specs.Results.{checkResult, settingResult, spareResult, roundsResult, RoundsCall, orderResult, OrderCall}
+use Rattle.capi.specs.Results.{fitsResult, checkResult, settingResult, spareResult, roundsResult, RoundsCall, orderResult, OrderCall}
 use Rattle.capi.specs.Results.{deadlineNumber, touchingResult, TouchingCall}
+
+fitting-result : (outcome : Outcome ℕ) (energy : ℕ) → Fits energy ≡ fitsAnswer outcome
+    → record { number = 0; place = 0; energy = energy } ≡ fitsResult outcome
+fitting-result (refused number place) energy e = cc e
+fitting-result (answer found) energy e = let same : energy ≡ found = cc e in λ k. record { number = 0; place = 0; energy = same k }
+
+unfitting-result : (outcome : Outcome ℕ) (number place : ℕ) → FitsRefused number place ≡ fitsAnswer outcome
+    → record { number = number; place = place; energy = 0 } ≡ fitsResult outcome
+unfitting-result (refused n p) number place e =
+    let same-number : number ≡ n = cc e in
+    let same-place : place ≡ p = cc e in
+    λ k. record { number = same-number k; place = same-place k; energy = 0 }
+unfitting-result (answer found) number place e = cc e
 
 accepted-result : (outcome : Outcome ℕ) (energy : ℕ) → Accepted energy ≡ checkAnswer outcome
     → record { number = 0; place = 0; energy = energy } ≡ checkResult outcome
@@ -149,6 +163,15 @@ untouched-result (refused n p) number place e =
 untouched-result (answer t) number place e = cc e
 
 -- the outcome is that of an operation on bytes
+module _ (levelBytes jobBytes markBytes plan : List ℕ) where
+  pub plan-fits : (energy : ℕ) → Fits energy ≡ fitsAnswer (fits levelBytes jobBytes markBytes plan)
+      → record { number = 0; place = 0; energy = energy } ≡ fitsResult (fits levelBytes jobBytes markBytes plan)
+  plan-fits = fitting-result (fits levelBytes jobBytes markBytes plan)
+
+  pub plan-refused : (number place : ℕ) → FitsRefused number place ≡ fitsAnswer (fits levelBytes jobBytes markBytes plan)
+      → record { number = number; place = place; energy = 0 } ≡ fitsResult (fits levelBytes jobBytes markBytes plan)
+  plan-refused = unfitting-result (fits levelBytes jobBytes markBytes plan)
+
 module _ (levelBytes jobBytes markBytes plan prices : List ℕ) where
   pub check-accepted : (energy : ℕ) → Accepted energy ≡ checkAnswer (check levelBytes jobBytes markBytes plan prices)
       → record { number = 0; place = 0; energy = energy } ≡ checkResult (check levelBytes jobBytes markBytes plan prices)

@@ -19,6 +19,7 @@ use Rattle.touching.specs.declared.jobs.NearestDeadline.{NearestDeadline}
 use Rattle.touching.specs.declared.jobs.NearestDeadline.the-variants.{At, None}
 use Rattle.touching.specs.TouchingAnswers.{nearestAnswer}
 use Rattle.tasks.specs.Rounds.{Round, tableLength, rounds, bufferAfter}
+use Rattle.capi.specs.declared.FitsResult.{FitsResult}
 use Rattle.capi.specs.declared.CheckResult.{CheckResult}
 use Rattle.capi.specs.declared.SettingResult.{SettingResult}
 use Rattle.capi.specs.declared.SpareResult.{SpareResult}
@@ -26,6 +27,10 @@ use Rattle.capi.specs.declared.PlanResult.{PlanResult}
 use Rattle.capi.specs.declared.RoundsResult.{RoundsResult}
 use Rattle.capi.specs.declared.OrderResult.{OrderResult}
 use Rattle.capi.specs.declared.TouchingResult.{TouchingResult}
+
+abbrev pub fitsResult : Outcome ℕ → FitsResult
+fitsResult (refused number place) = record { number = number; place = place; energy = 0 }
+fitsResult (answer energy) = record { number = 0; place = 0; energy = energy }
 
 abbrev pub checkResult : Outcome ℕ → CheckResult
 checkResult (refused number place) = record { number = number; place = place; energy = 0 }

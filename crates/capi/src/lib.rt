@@ -1,11 +1,12 @@
 // The kernel's interface, for C: byte slices are a pointer and a length, answers are structs by value. No function
 // requires anything of its caller. The header is include/ramyearly.h.
 ghost use mathlib.Core.Path.{_≡_};
-ghost use Rattle.model.specs.Checking.{check};
+ghost use Rattle.model.specs.Checking.{fits, check};
 ghost use Rattle.model.specs.Setting.{setting};
 ghost use Rattle.model.specs.Windows.{spare};
-ghost use Rattle.capi.specs.Results.{checkResult, settingResult, spareResult, PlanCall, RoundsCall, OrderCall, deadlineNumber, TouchingCall};
+ghost use Rattle.capi.specs.Results.{fitsResult, checkResult, settingResult, spareResult, PlanCall, RoundsCall, OrderCall, deadlineNumber, TouchingCall};
 use audit::CheckAnswer;
+use audit::FitsAnswer;
 use levels::SettingAnswer;
 use ordering::OrderAnswer;
 use planning::PlanAnswer;
@@ -13,6 +14,14 @@ use rounds::RoundsAnswer;
 use touching::NearestDeadline;
 use touching::TouchingAnswer;
 use windows::SpareAnswer;
+
+// The first half of the check. Number 0: the plan fits; otherwise the refusal's number and place, and 0.
+#[repr(C)]
+pub struct FitsResult {
+    pub number: u32,
+    pub place: u32,
+    pub energy: u64,
+}
 
 // The check of a plan and its price list. Number 0: accepted; otherwise the refusal's number and place, and 0.
 #[repr(C)]
@@ -82,6 +91,30 @@ pub struct TouchingResult {
     pub inside_jobs: u32,
     pub steps: u32,
     pub deadline: u32,
+}
+
+#[no_mangle]
+pub extern "C" fn ramyearly_fits(
+    levels: &[u8],
+    jobs: &[u8],
+    marks: &[u8],
+    plan: &[u8],
+) -> FitsResult
+    ensures { λ r. ⌜ r ≡ fitsResult (fits (now (levels .entry)) (now (jobs .entry)) (now (marks .entry)) (now (plan .entry))) ⌝ }
+{
+    let answer = audit::fits(levels, jobs, marks, plan);
+    match answer {
+        FitsAnswer::Fits { energy } => FitsResult {
+            number: 0,
+            place: 0,
+            energy,
+        },
+        FitsAnswer::Refused { number, place } => FitsResult {
+            number,
+            place,
+            energy: 0,
+        },
+    }
 }
 
 #[no_mangle]

@@ -3,14 +3,15 @@
 -- Assumes nothing.
 use mathlib.Core.Path.{_≡_, ap, sym}
 use mathlib.Core.List.{List}
-use Prim.Native.Nat.{ℕ}
+use Prim.Native.Nat.{ℕ, _+_, _*_, _<_, _≤_}
 use Rattle.model.specs.Outcome.{Outcome, answer}
+use Rattle.model.specs.Bands.{bandCount}
 use Rattle.model.specs.Processors.{allPoints, workingOf}
-use Rattle.model.specs.Sites.{Site, readSite}
+use Rattle.model.specs.Sites.{Site, readSite, ValidSite}
 use Rattle.model.specs.Steps.{sharesOf}
 use Rattle.model.specs.PriceBytes.{pricesOf}
 use Rattle.model.specs.Checking.{pricing, figureOf, checkFor, check}
-use Rattle.model.specs.Accepted.{CheckAccepts, AcceptedIsLeast}
+use Rattle.model.specs.Accepted.{CheckAccepts, exactFor, gapsOf, AcceptedIsLeast}
 use Rattle.model.proofs.Outcome.{answer-injective, andThen-answered}
 use Rattle.model.proofs.Working.{working-curve}
 use Rattle.model.proofs.LeastEnergy.{certificate, figure-below-exact}
@@ -51,13 +52,19 @@ pub check-reads : (levelBytes jobBytes markBytes plan prices : List ℕ) (figure
 unfolding check
 check-reads levelBytes jobBytes markBytes plan prices figure e = andThen-answered (readSite levelBytes jobBytes markBytes) _ e
 
+-- the figure of a plan is at most its exact energy, and less than m below it
+pub figure-close : (site : Site) → ValidSite site → (plan : List ℕ)
+    → (gapsOf site * figureOf site plan ≤ exactFor site plan)
+    × (exactFor site plan < gapsOf site * (figureOf site plan + bandCount (workingOf (site .processor))))
+figure-close site valid plan =
+    figure-below-exact (workingOf (site .processor)) (working-curve (allPoints (site .processor)) (valid .processor .rising))
+    (site .jobs) (site .bounds) (sharesOf plan)
+
 -- An accepted plan has least energy, and the figure lies less than m below it.
 pub accepted-is-least : AcceptedIsLeast
 accepted-is-least site valid plan prices figure e =
     let (accepted, figure-is) = check-accepts site plan prices figure .0 e in
-    let ends =
-    figure-below-exact (workingOf (site .processor)) (working-curve (allPoints (site .processor)) (valid .processor .rising))
-    (site .jobs) (site .bounds) (sharesOf plan) in
+    let ends = figure-close site valid plan in
     record {
       least =
           certificate (site .processor .idlePower) (site .processor .levels) (site .jobs) (sound-site valid) (site .bounds) (valid .bounds)

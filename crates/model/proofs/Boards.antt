@@ -1,13 +1,12 @@
 -- Two boards with the same working frequencies are alike in everything but energies.
 -- Assumes nothing.
 use mathlib.Core.Path.{_≡_, refl, sym, _∙_, ap, ap₂, fun-ext}
-use mathlib.Core.Bool.{Bool, true, false}
 use mathlib.Core.List.{List, map}
 use mathlib.Core.Option.{Option, none, some}
 use Prim.Native.Nat.{ℕ, zero, suc, _-_, _*_}
 use lib.ListN.{length, length-map, getD, List·getD-map}
 use lib.Dec.{leb}
-use Rattle.model.specs.Outcome.{Outcome, answer, andThen, refuseWhen, refuseAt, byEntryFrom}
+use Rattle.model.specs.Outcome.{Outcome, answer, andThen}
 use Rattle.model.specs.Sum.{product}
 use Rattle.model.specs.Search.{firstBelow}
 use Rattle.model.specs.Points.{Point, idlingPoint, RisingPoints}
@@ -19,11 +18,13 @@ use Rattle.model.specs.Sites.{Site}
 use Rattle.model.specs.Plans.{Shares}
 use Rattle.model.specs.Energy.{bandCycles, bandTotal}
 use Rattle.model.specs.Windows.{Window, earliestOverfull}
-use Rattle.model.specs.Checking.{jobSumFault, loadFault, fitting, entryFault, priceFault, cheaperFault, pricing, figureOf, checkFor}
+use Rattle.model.specs.Checking.{jobSumFault, loadFault, fitting, entryFault, priceFault, cheaperFault, pricing, figureOf, fitsFor, checkFor}
 use Rattle.model.specs.Planning.{PlanOutcome, unlessOverfull, planFor}
 use Rattle.model.specs.Boards.{workingFrequencies, onBoard, Alike, BoardsAreAlike}
 use Rattle.model.proofs.Sum.{sum-cong, product-cong}
 use Rattle.model.proofs.Working.{working-top}
+use Rattle.model.proofs.FittingHalf.{after-fitting}
+use Rattle.model.proofs.PricingHalf.{after-pricing}
 
 abbrev frequency : Point → ℕ
 frequency point = point .frequency
@@ -68,33 +69,6 @@ module _ (ws others : List Point) (same : map frequency ws ≡ map frequency oth
   unfolding bandCycles
   same-cycles length load k = rw (same-gap, same-frequency)
 
--- What is done after a refusal, or after the refusals of all entries, or of a half of the check, is done after what comes next.
-module _ {A B : Type 0} (next : Outcome A) (then : A → Outcome B) where
-  after-test : (condition : Bool) (number : ℕ) → andThen (refuseWhen condition number next) then ≡ refuseWhen condition number (andThen next then)
-  after-test true number = refl
-  after-test false number = refl
-
-  after-fault : (number place : ℕ) → andThen (refuseAt number place next) then ≡ refuseAt number place (andThen next then)
-  after-fault zero place = refl
-  after-fault (suc number) place = refl
-
-module _ {A B : Type 0} (then : A → Outcome B) where
-  after-entries : (first count : ℕ) (fault : ℕ → ℕ) (next : Outcome A)
-      → andThen (byEntryFrom first count fault next) then ≡ byEntryFrom first count fault (andThen next then)
-  unfolding byEntryFrom
-  after-entries first zero fault next = refl
-  after-entries first (suc count) fault next =
-      after-fault _ then (fault first) first ∙ ap (refuseAt (fault first) first) (after-entries (suc first) count fault next)
-
-  module _ (site : Site) (plan : List ℕ) where
-    after-fitting : (next : Outcome A) → andThen (fitting site plan next) then ≡ fitting site plan (andThen next then)
-    unfolding fitting
-    after-fitting next = simp (after-test, after-entries)
-
-    after-pricing : (prices : List ℕ) (next : Outcome A) → andThen (pricing site plan prices next) then ≡ pricing site plan prices (andThen next then)
-    unfolding pricing
-    after-pricing prices next = simp (after-test, after-entries)
-
 module _ (processor other : Processor) (rising : RisingPoints (allPoints processor)) (other-rising : RisingPoints (allPoints other))
     (same : workingFrequencies processor ≡ workingFrequencies other) where
   frequencies : map frequency (workingOf processor) ≡ map frequency (workingOf other)
@@ -119,6 +93,12 @@ module _ (processor other : Processor) (rising : RisingPoints (allPoints process
     same-fitting : {A : Type 0} (next : Outcome A) → fitting (onBoard other site) plan next ≡ fitting (onBoard processor site) plan next
     unfolding fitting
     same-fitting next = rw (same-sums, same-loads)
+
+    same-fits : fitsFor (onBoard other site) plan
+        ≡ (andThen (fitsFor (onBoard processor site) plan) λ figure.
+        answer (figureOf (onBoard other site) plan))
+    unfolding fitsFor
+    same-fits = rw (after-fitting, same-fitting)
 
     module _ (prices : List ℕ) where
       same-entries : entryFault (onBoard other site) plan prices ≡ entryFault (onBoard processor site) plan prices
@@ -178,6 +158,7 @@ module _ (processor other : Processor) (rising : RisingPoints (allPoints process
         settings = same-settings;
         spares = λ tables start end. rw same-top;
         plans = same-plans;
+        fits = same-fits;
         checks = same-check;
       }
 

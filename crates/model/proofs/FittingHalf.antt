@@ -11,7 +11,7 @@ use lib.ListN.{length}
 use lib.Dec.{eqb}
 use borrow.Author.Tests.{eqb-true, eq-eqb, not-false}
 use Rattle.model.specs.declared.Job.{Job}
-use Rattle.model.specs.Outcome.{Outcome, answer}
+use Rattle.model.specs.Outcome.{Outcome, answer, andThen}
 use Rattle.model.specs.Jobs.{jobOf}
 use Rattle.model.specs.Processors.{topOf}
 use Rattle.model.specs.Intervals.{intervalCount}
@@ -21,7 +21,7 @@ use Rattle.model.specs.Steps.{planIntervals, stepCount, wrongPlanLength,
 use Rattle.model.specs.Checking.{stepFault, stepping, jobSumFault, loadFault, fitting}
 use Rattle.model.specs.Accepted.{IsPlan}
 use Rattle.model.proofs.Numbers.{true≢false}
-use Rattle.model.proofs.Outcome.{answered-past, byEntry-answered, byEntry-passes}
+use Rattle.model.proofs.Outcome.{answered-past, byEntry-answered, byEntry-passes, after-test, after-entries}
 use Rattle.model.proofs.Steps.{share-none, shares-of-job, step-in-job-sum}
 use Rattle.model.proofs.Faults.{SoundCell, SoundCycles, plan-length, step-sound, job-sum-fault, load-fault}
 
@@ -116,3 +116,8 @@ module _ (site : Site) (plan : List ℕ) where
       → (fitting site plan next ≡ answer a)
       ↔ ((IsPlan (site .jobs) (site .bounds) plan × Gives (topOf (site .processor)) (site .jobs) (site .bounds) (sharesOf plan)) × (next ≡ answer a))
   fitting-half next a = (fitting-answered next, λ h. fitting-passes (h .0 .0) (h .0 .1) next ∙ h .1)
+
+  -- what is done after the first half is done after what comes next
+  pub after-fitting : {A B : Type 0} (then : A → Outcome B) (next : Outcome A) → andThen (fitting site plan next) then ≡ fitting site plan (andThen next then)
+  unfolding fitting
+  after-fitting then next = simp (after-test, after-entries)

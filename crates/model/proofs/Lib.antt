@@ -49,6 +49,7 @@ pub mod Faults
 pub mod FittingHalf
 pub mod PricingHalf
 pub mod Accepted
+pub mod TwoHalves
 pub mod Demands
 pub mod Selection
 pub mod BuiltIn

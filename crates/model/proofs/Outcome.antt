@@ -1,6 +1,6 @@
 -- Laws of the refusals: what is refused, and what an answer says of the refusals before it.
 -- Assumes nothing.
-use mathlib.Core.Path.{_≡_, refl}
+use mathlib.Core.Path.{_≡_, refl, _∙_, ap}
 use mathlib.Core.Bool.{Bool, true, false}
 use mathlib.Core.Logic.{_⊎_, inl, inr}
 use Prim.Native.Nat.{ℕ, zero, suc, _+_, _<_, _≤_}
@@ -96,3 +96,21 @@ module _ {A : Type 0} (fault : ℕ → ℕ) (next : Outcome A) where
   byEntry-answered count e =
       let all = sound-from 0 count e in
       ((λ i below. rw zero-add at (all .0 i below)), all .1)
+
+-- What is done after a refusal, or after the refusals of all entries, is done after what comes next.
+module _ {A B : Type 0} (next : Outcome A) (then : A → Outcome B) where
+  pub after-test : (condition : Bool) (number : ℕ) → andThen (refuseWhen condition number next) then ≡ refuseWhen condition number (andThen next then)
+  after-test true number = refl
+  after-test false number = refl
+
+  after-fault : (number place : ℕ) → andThen (refuseAt number place next) then ≡ refuseAt number place (andThen next then)
+  after-fault zero place = refl
+  after-fault (suc number) place = refl
+
+module _ {A B : Type 0} (then : A → Outcome B) where
+  pub after-entries : (first count : ℕ) (fault : ℕ → ℕ) (next : Outcome A)
+      → andThen (byEntryFrom first count fault next) then ≡ byEntryFrom first count fault (andThen next then)
+  unfolding byEntryFrom
+  after-entries first zero fault next = refl
+  after-entries first (suc count) fault next =
+      after-fault _ then (fault first) first ∙ ap (refuseAt (fault first) first) (after-entries (suc first) count fault next)

@@ -6,7 +6,7 @@ use mathlib.Core.Logic.{_↔_}
 use mathlib.Core.List.{List}
 use Prim.Native.Nat.{ℕ, _<_}
 use native.Mathlib.Omega.{arith}
-use Rattle.model.specs.Outcome.{Outcome, answer}
+use Rattle.model.specs.Outcome.{Outcome, answer, andThen}
 use Rattle.model.specs.Processors.{workingOf}
 use Rattle.model.specs.Intervals.{intervalCount}
 use Rattle.model.specs.Sites.{Site}
@@ -15,7 +15,7 @@ use Rattle.model.specs.Steps.{stepCount, stepAt, sharesOf}
 use Rattle.model.specs.PriceBytes.{pricesOf}
 use Rattle.model.specs.Checking.{wrongPriceLength, entryFault, priceFault, cheaperFault, pricing}
 use Rattle.model.specs.Accepted.{IsPlan, IsPriceList}
-use Rattle.model.proofs.Outcome.{answered-past, byEntry-answered, byEntry-passes}
+use Rattle.model.proofs.Outcome.{answered-past, byEntry-answered, byEntry-passes, after-test, after-entries}
 use Rattle.model.proofs.Steps.{share-found, share-of-step}
 use Rattle.model.proofs.Faults.{price-length, entry-fault, price-fault, cheaper-fault}
 
@@ -85,3 +85,9 @@ module _ (site : Site) (plan prices : List ℕ) where
       → (pricing site plan prices next ≡ answer a)
       ↔ ((IsPriceList (site .bounds) prices × FittingPrices (workingOf (site .processor)) (site .jobs) (site .bounds) (sharesOf plan) (pricesOf prices)) × (next ≡ answer a))
   pricing-half next a is-plan = (pricing-answered next, λ h. pricing-passes is-plan (h .0 .0) (h .0 .1) next ∙ h .1)
+
+  -- what is done after the second half is done after what comes next
+  pub after-pricing : {A B : Type 0} (then : A → Outcome B) (next : Outcome A)
+      → andThen (pricing site plan prices next) then ≡ pricing site plan prices (andThen next then)
+  unfolding pricing
+  after-pricing then next = simp (after-test, after-entries)

@@ -44,6 +44,8 @@ use Rattle.model.specs.Checking.{
   cheaperFault,
   pricing,
   figureOf,
+  fitsFor,
+  fits,
   checkFor,
   check,
 }
@@ -228,55 +230,74 @@ module _ (numbers : ℕ → Type 0) (has : (n : ℕ) → From 15 18 n → number
       (by-entries numbers 0 (stepCount plan) (stepFault jobs bounds plan) step-fault
       rest))
 
--- What comes after the steps refuses by 19 to 24.
-module _ (site : Site) (plan : List ℕ) where
-  job-sum-fault : (j : ℕ) → FaultBy (From 19 24) (jobSumFault site plan j)
+-- the sums refuse by 19 and 20, whatever else may follow
+module _ (numbers : ℕ → Type 0) (has : (n : ℕ) → From 19 20 n → numbers n) (site : Site) (plan : List ℕ) where
+  job-sum-fault : (j : ℕ) → FaultBy numbers (jobSumFault site plan j)
   unfolding jobSumFault
-  job-sum-fault j = fault-unless (From 19 24) (eqb (jobSum plan j) (jobOf (site .jobs) j .cycles)) 19 (omega arith)
+  job-sum-fault j = fault-unless numbers (eqb (jobSum plan j) (jobOf (site .jobs) j .cycles)) 19 (has 19 (omega arith, omega arith))
 
-  load-fault : (i : ℕ) → FaultBy (From 19 24) (loadFault site plan i)
+  load-fault : (i : ℕ) → FaultBy numbers (loadFault site plan i)
   unfolding loadFault
-  load-fault i = fault-unless (From 19 24) (leb (load (site .jobs) (sharesOf plan) i) (lengthOf (site .bounds) i * topOf (site .processor))) 20 (omega arith)
+  load-fault i =
+      fault-unless numbers (leb (load (site .jobs) (sharesOf plan) i) (lengthOf (site .bounds) i * topOf (site .processor))) 20
+      (has 20 (omega arith, omega arith))
 
-  sums-by : {A : Type 0} {next : Outcome A} → RefusesBy (From 19 24) next
-      → RefusesBy (From 19 24) (byEntry (length (site .jobs)) (jobSumFault site plan) (byEntry (intervalCount (site .bounds)) (loadFault site plan) next))
+  sums-by : {A : Type 0} {next : Outcome A} → RefusesBy numbers next
+      → RefusesBy numbers (byEntry (length (site .jobs)) (jobSumFault site plan) (byEntry (intervalCount (site .bounds)) (loadFault site plan) next))
   sums-by rest =
-      by-entries (From 19 24) 0 (length (site .jobs)) (jobSumFault site plan) job-sum-fault
-      (by-entries (From 19 24) 0 (intervalCount (site .bounds)) (loadFault site plan) load-fault
+      by-entries numbers 0 (length (site .jobs)) (jobSumFault site plan) job-sum-fault
+      (by-entries numbers 0 (intervalCount (site .bounds)) (loadFault site plan) load-fault
       rest)
 
+abbrev FitsNumbers : ℕ → Type 0
+FitsNumbers n = SiteNumbers n ⊎ From 15 20 n
+
+pub fits-by : (levels jobs marks plan : List ℕ) → RefusesBy FitsNumbers (fits levels jobs marks plan)
+unfolding fits fitsFor fitting
+fits-by levels jobs marks plan =
+    by-then FitsNumbers (readSite levels jobs marks) _ (site-then levels jobs marks (From 15 20)) λ site.
+    stepping-by FitsNumbers (λ n from. inr (from .0, omega (arith, from .1))) (site .jobs) (site .bounds) plan
+    (sums-by FitsNumbers (λ n from. inr (omega (arith, from .0), from .1)) site plan
+    (by-answer FitsNumbers (figureOf site plan)))
+
+-- What comes after the steps refuses by 19 to 24, and the prices by 21 to 24.
 module _ (site : Site) (plan prices : List ℕ) where
-  entry-fault : (i : ℕ) → FaultBy (From 19 24) (entryFault site plan prices i)
+  entry-fault : (i : ℕ) → FaultBy (From 21 24) (entryFault site plan prices i)
   unfolding entryFault
   entry-fault i =
-      fault-unless (From 19 24) (eqb (endAt prices i) (boundAt (site .bounds) (suc i)) && isBandNumber (workingOf (site .processor)) (pricesOf prices i)) 22 (omega arith)
+      fault-unless (From 21 24) (eqb (endAt prices i) (boundAt (site .bounds) (suc i)) && isBandNumber (workingOf (site .processor)) (pricesOf prices i)) 22 (omega arith)
 
-  price-fault : (i : ℕ) → FaultBy (From 19 24) (priceFault site plan prices i)
+  price-fault : (i : ℕ) → FaultBy (From 21 24) (priceFault site plan prices i)
   unfolding priceFault
   price-fault i =
-      fault-unless (From 19 24) (fitsLoad (workingOf (site .processor)) (lengthOf (site .bounds) i) (load (site .jobs) (sharesOf plan) i) (pricesOf prices i)) 23 (omega arith)
+      fault-unless (From 21 24) (fitsLoad (workingOf (site .processor)) (lengthOf (site .bounds) i) (load (site .jobs) (sharesOf plan) i) (pricesOf prices i)) 23 (omega arith)
 
-  cheaper-fault : (s : ℕ) → FaultBy (From 19 24) (cheaperFault site plan prices s)
+  cheaper-fault : (s : ℕ) → FaultBy (From 21 24) (cheaperFault site plan prices s)
   unfolding cheaperFault
   cheaper-fault s =
-      fault-cond (From 19 24)
+      fault-cond (From 21 24)
       (someBelow (intervalCount (site .bounds))
       (λ i. isOpen (site .bounds) (jobOf (site .jobs) (stepAt plan s .job)) i && ltb (pricesOf prices i) (pricesOf prices (stepAt plan s .interval))))
       24 0 (omega arith) (inl refl)
 
-  pricing-by : {A : Type 0} {next : Outcome A} → RefusesBy (From 19 24) next → RefusesBy (From 19 24) (pricing site plan prices next)
+  pub pricing-by : {A : Type 0} {next : Outcome A} → RefusesBy (From 21 24) next → RefusesBy (From 21 24) (pricing site plan prices next)
   unfolding pricing
   pricing-by rest =
-      by-when (From 19 24) (wrongPriceLength site plan prices) 21 (omega arith)
-      (by-entries (From 19 24) 0 (intervalCount (site .bounds)) (entryFault site plan prices) entry-fault
-      (by-entries (From 19 24) 0 (intervalCount (site .bounds)) (priceFault site plan prices) price-fault
-      (by-entries (From 19 24) 0 (stepCount plan) (cheaperFault site plan prices) cheaper-fault
+      by-when (From 21 24) (wrongPriceLength site plan prices) 21 (omega arith)
+      (by-entries (From 21 24) 0 (intervalCount (site .bounds)) (entryFault site plan prices) entry-fault
+      (by-entries (From 21 24) 0 (intervalCount (site .bounds)) (priceFault site plan prices) price-fault
+      (by-entries (From 21 24) 0 (stepCount plan) (cheaperFault site plan prices) cheaper-fault
       rest)))
 
   -- the check of a site is its steps, and then something that refuses so
   pub check-past-steps : (rest : Outcome ℕ) × (checkFor site plan prices ≡ stepping (site .jobs) (site .bounds) plan rest) × RefusesBy (From 19 24) rest
   unfolding checkFor fitting
-  check-past-steps = (_, refl, sums-by site plan (pricing-by (by-answer (From 19 24) (figureOf site plan))))
+  check-past-steps = (
+    _,
+    refl,
+    sums-by (From 19 24) (λ n from. (from .0, omega (arith, from .1))) site plan
+        (widen (λ n from. (omega (arith, from .0), from .1)) (pricing-by (by-answer (From 21 24) (figureOf site plan)))),
+  )
 
 pub check-by : (levels jobs marks plan prices : List ℕ) → RefusesBy CheckNumbers (check levels jobs marks plan prices)
 unfolding check

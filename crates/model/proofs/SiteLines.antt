@@ -2,7 +2,8 @@
 -- Assumes nothing.
 use mathlib.Core.Path.{_≡_, refl}
 use mathlib.Core.Bool.{true}
-use Rattle.model.specs.SiteLines.{pLines, workedLines, drawLines, markLines, boardLines, holds, allHold}
+use Rattle.model.specs.SiteLines.{pLines, workedLines, holds, allHold}
+use Rattle.model.specs.ChangeLines.{drawLines, markLines, boardLines, halfLines}
 use Rattle.model.specs.Outcome.{byEntryFrom}
 use Rattle.model.specs.Bytes.{numberAt, bytesOf}
 use Rattle.model.specs.Entries.{listOf, encodeEach}
@@ -32,12 +33,14 @@ use Rattle.model.specs.Checking.{
   priceFault,
   cheaperFault,
   pricing,
+  fitsFor,
+  fits,
   checkFor,
   check,
 }
 use Rattle.model.specs.Planning.{planFor, planning}
 
 pub lines-hold : (allHold pLines ≡ true) × (allHold workedLines ≡ true) × (allHold drawLines ≡ true) × (allHold markLines ≡ true)
-    × (allHold boardLines ≡ true)
-unfolding allHold holds pLines workedLines drawLines markLines boardLines readMarks encodeMarks insertMarks boundsWith earliestRelease latestDeadline readTables byEntryFrom numberAt bytesOf listOf encodeEach readLevels levelAt faultOfLevel runningFault tableFault encodeLevels readJobs jobAt faultOfJob encodeJobs sum product someBelow firstFrom leastBelow points drops dropped selectFrom working gap rise scale price bandOf settingOf setting insertTime boundsOf lengthOf cyclesInside spareOf isOverfull overfullTo earliestStart earliestEnd earliestOverfull spare load bandCycles intervalEnergy exactEnergy bandTotal energyFigure isOpen fitsLoad stepAt sharesOf pricesOf stepFault jobSum jobSumFault loadFault fitting entryFault priceFault cheaperFault pricing readSite checkFor check openCount openPairs planFor planning
-lines-hold = (refl, refl, refl, refl, refl)
+    × (allHold boardLines ≡ true) × (allHold halfLines ≡ true)
+unfolding allHold holds pLines workedLines drawLines markLines boardLines halfLines readMarks encodeMarks insertMarks boundsWith earliestRelease latestDeadline readTables byEntryFrom numberAt bytesOf listOf encodeEach readLevels levelAt faultOfLevel runningFault tableFault encodeLevels readJobs jobAt faultOfJob encodeJobs sum product someBelow firstFrom leastBelow points drops dropped selectFrom working gap rise scale price bandOf settingOf setting insertTime boundsOf lengthOf cyclesInside spareOf isOverfull overfullTo earliestStart earliestEnd earliestOverfull spare load bandCycles intervalEnergy exactEnergy bandTotal energyFigure isOpen fitsLoad stepAt sharesOf pricesOf stepFault jobSum jobSumFault loadFault fitting entryFault priceFault cheaperFault pricing readSite fitsFor fits checkFor check openCount openPairs planFor planning
+lines-hold = (refl, refl, refl, refl, refl, refl)

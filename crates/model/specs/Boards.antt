@@ -12,7 +12,7 @@ use Rattle.model.specs.Sites.{Tables, Site}
 use Rattle.model.specs.Windows.{spareFor}
 use Rattle.model.specs.Plans.{Shares}
 use Rattle.model.specs.Energy.{bandTotal}
-use Rattle.model.specs.Checking.{figureOf, checkFor}
+use Rattle.model.specs.Checking.{figureOf, fitsFor, checkFor}
 use Rattle.model.specs.Planning.{planFor}
 
 -- The working frequencies upward, after idling's, which is 0 on every board.
@@ -45,6 +45,11 @@ module _ (processor other : Processor) where
     -- 11 to 14, and the window of 11
     pub plans : (site : Site) (planRoom priceRoom shareRoom : ℕ)
         → planFor (onBoard other site) planRoom priceRoom shareRoom ≡ planFor (onBoard processor site) planRoom priceRoom shareRoom
+    -- a plan fits on both boards, or is refused on both by the same number and with the same place; the figure is the board's own
+    pub fits : (site : Site) (plan : List ℕ)
+        → fitsFor (onBoard other site) plan
+        ≡ (andThen (fitsFor (onBoard processor site) plan) λ figure.
+        answer (figureOf (onBoard other site) plan))
     -- the check refuses a plan and its prices on both boards, by the same number and with the same place, or accepts them on both;
     -- the figure is the board's own
     pub checks : (site : Site) (plan prices : List ℕ)

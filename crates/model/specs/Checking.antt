@@ -100,6 +100,18 @@ module _ (site : Site) (plan prices : List ℕ) where
 abbrev pub figureOf : Site → (plan : List ℕ) → ℕ
 figureOf site plan = energyFigure (workingOf (site .processor)) (site .jobs) (site .bounds) (sharesOf plan)
 
+-- The first half alone: what fits is answered with the energy figure.
+unfoldable pub fitsFor : Site → (plan : List ℕ) → Outcome ℕ
+fitsFor site plan =
+    fitting site plan
+    (answer (figureOf site plan))
+
+-- Fitting (document 02, Change 8). Levels, jobs, marks, then the first half.
+unfoldable pub fits : (levelBytes jobBytes markBytes plan : List ℕ) → Outcome ℕ
+fits levelBytes jobBytes markBytes plan =
+    andThen (readSite levelBytes jobBytes markBytes) λ site.
+    fitsFor site plan
+
 -- Both halves, one after the other. Accepted: the energy figure.
 unfoldable pub checkFor : Site → (plan prices : List ℕ) → Outcome ℕ
 checkFor site plan prices =

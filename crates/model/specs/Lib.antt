@@ -27,9 +27,11 @@ pub mod Steps
 pub mod PriceBytes
 pub mod Checking
 pub mod Accepted
+pub mod TwoHalves
 pub mod Planning
 pub mod Demands
 pub mod Hypotheses
 pub mod IdleDraw
 pub mod Boards
 pub mod SiteLines
+pub mod ChangeLines

@@ -1,5 +1,6 @@
--- The lines of document 01's "Sites to try" that are marked P, as one table, and lines of document 02's Changes 2, 6 and 7. That every
--- line holds is one statement, proved in proofs/SiteLines.antt by computing the definitions.
+-- What a line of a computed table says, the lines of document 01's "Sites to try" that are marked P, as one table, and further lines
+-- of that document. Lines of document 02 are in ChangeLines. That every line holds is one statement, proved in proofs/SiteLines.antt by
+-- computing the definitions.
 use Prim.Native.Nat.{ℕ, zero, suc, _+_, _*_}
 use mathlib.Core.Bool.{Bool, true, false, _&&_}
 use mathlib.Core.List.{List, [], _∷_, map}
@@ -8,7 +9,7 @@ use lib.Dec.{eqb}
 use Rattle.model.specs.declared.Level.{Level}
 use Rattle.model.specs.declared.Job.{Job}
 use Rattle.model.specs.Outcome.{Outcome, refused, answer}
-use Rattle.model.specs.LevelTables.{idleEntry, readLevels, encodeLevels}
+use Rattle.model.specs.LevelTables.{readLevels, encodeLevels}
 use Rattle.model.specs.Jobs.{encodeJobs}
 use Rattle.model.specs.BuiltIn.{level, firstBuiltIn}
 use Rattle.model.specs.Points.{Point}
@@ -19,7 +20,7 @@ use Rattle.model.specs.Marks.{readMarks, encodeMarks, noMarks, boundsWit
 use Rattle.model.specs.Windows.{spare}
 use Rattle.model.specs.Bands.{scale}
 use Rattle.model.specs.Plans.{Shares}
-use Rattle.model.specs.Checking.{check}
+use Rattle.model.specs.Checking.{fits, check}
 use Rattle.model.specs.Planning.{PlanOutcome, refusal, overfull, comesOut, planning}
 use Rattle.model.specs.Energy.{intervalEnergy, exactEnergy, energyFigure}
 
@@ -66,6 +67,9 @@ pub data SiteLine : Type 0 where
   wantsMarked : List Level → List Job → (marks : List ℕ) → (planRoom priceRoom shareRoom : ℕ) → (number place : ℕ) → SiteLine
   acceptsMarked : List Level → List Job → (marks plan prices : List ℕ) → (figure : ℕ) → SiteLine
   refusesMarked : List Level → List Job → (marks plan prices : List ℕ) → (number place : ℕ) → SiteLine
+  -- a plan fits with an energy figure, or is refused by the first half of the check
+  fitsIn : List Level → List Job → (marks plan : List ℕ) → (figure : ℕ) → SiteLine
+  failsIn : List Level → List Job → (marks plan : List ℕ) → (number place : ℕ) → SiteLine
 
 unfoldable pub pLines : List SiteLine
 pLines =
@@ -113,21 +117,6 @@ listedPlan =
 abbrev pub listedPrices : List ℕ
 listedPrices = 3 ∷ 0 ∷ 2 ∷ 0 ∷ 0 ∷ 0 ∷ 3 ∷ 0 ∷ 0 ∷ 0 ∷ 4 ∷ 0 ∷ 0 ∷ 0 ∷ 1 ∷ 2 ∷ 1 ∷ []
 
--- The shares of a plan for jobs 0 2 150 and 5 6 100: 150 cycles in the first interval, 100 in the last.
-abbrev pub drawShares : Shares
-drawShares zero zero = 150
-drawShares zero (suc j) = 0
-drawShares (suc zero) j = 0
-drawShares (suc (suc i)) zero = 0
-drawShares (suc (suc i)) (suc j) = 100
-
--- Its bytes, and those of its prices.
-abbrev pub drawPlan : List ℕ
-drawPlan = 3 ∷ 0 ∷ 2 ∷ 0 ∷ 0 ∷ 0 ∷ 129 ∷ 0 ∷ 150 ∷ 0 ∷ 0 ∷ 0 ∷ 100 ∷ 0 ∷ 0 ∷ 0 ∷ []
-
-abbrev pub drawPrices : List ℕ
-drawPrices = 3 ∷ 0 ∷ 2 ∷ 0 ∷ 0 ∷ 0 ∷ 5 ∷ 0 ∷ 0 ∷ 0 ∷ 6 ∷ 0 ∷ 0 ∷ 0 ∷ 1 ∷ 1 ∷ 1 ∷ []
-
 -- Further worked lines of document 01 that the definitions compute.
 unfoldable pub workedLines : List SiteLine
 workedLines =
@@ -142,114 +131,6 @@ workedLines =
     ∷ plans T (job 0 4 6 ∷ job 2 3 4 ∷ []) 28 17 6
     ∷ needs T (job 0 4 6 ∷ job 2 3 4 ∷ []) listedShares 2_200 0 1
     ∷ accepts T (job 0 4 6 ∷ job 2 3 4 ∷ []) listedPlan listedPrices 2_200
-    ∷ []
-
--- Levels 100 10 and 200 10 on a board that draws while it idles.
-abbrev pub idlesAt : (draw : ℕ) → List Level
-idlesAt draw = idleEntry draw ∷ level 100 10 ∷ level 200 10 ∷ []
-
--- Lines of document 02, Change 2.
-unfoldable pub drawLines : List SiteLine
-drawLines =
-    -- a draw of 9 is below the first running level's power, 10,000; a draw of 10 is not
-    reads (idlesAt 9)
-    ∷ refusesReading (idlesAt 10) 32 1
-    -- a draw is not a voltage: 65,535 may stand before 300
-    ∷ reads (idleEntry 65_535 ∷ level 1_000 300 ∷ [])
-    -- the idle entry stands alone, and a running level may
-    ∷ refusesReading (idleEntry 9 ∷ []) 31 0
-    ∷ reads (level 100 10 ∷ [])
-    -- frequency 0 is an idle entry in the first place alone
-    ∷ refusesReading (idleEntry 9 ∷ idleEntry 9 ∷ level 100 10 ∷ []) 4 1
-    -- 100 works only because idling draws power
-    ∷ works (idlesAt 0) (200 ∷ [])
-    ∷ works (idlesAt 1) (100 ∷ 200 ∷ [])
-    ∷ sets (idlesAt 0) 2 150 1 150 200
-    ∷ sets (idlesAt 9) 2 150 1 150 100
-    -- without load the draw is all: 9,000 for each of 6 ticks, those between the jobs too
-    ∷ idleEnergy (idlesAt 9) (job 0 2 150 ∷ job 5 6 100 ∷ []) 54_000
-    -- and with 250 cycles at price 10 the energy is 2,500 above it
-    ∷ plans (idlesAt 9) (job 0 2 150 ∷ job 5 6 100 ∷ []) 16 17 6
-    ∷ needs (idlesAt 9) (job 0 2 150 ∷ job 5 6 100 ∷ []) drawShares 56_500 0 1
-    ∷ accepts (idlesAt 9) (job 0 2 150 ∷ job 5 6 100 ∷ []) drawPlan drawPrices 56_500
-    -- first built-in table with a draw of 100, one job 0 2 with 401 cycles: 401 × 2,330,000 / 300 and 2 × 100,000
-    ∷ needs (idleEntry 100 ∷ firstBuiltIn) (job 0 2 401 ∷ []) (λ i j. 401) 3_314_433 1 3
-    ∷ []
-
--- Job 0 2 of 4 cycles with a mark at 1: 2 cycles before it and 2 after it, in bytes, with the prices of both intervals.
-abbrev pub halvesPlan : List ℕ
-halvesPlan = 2 ∷ 0 ∷ 2 ∷ 0 ∷ 0 ∷ 0 ∷ 64 ∷ 0 ∷ 2 ∷ 0 ∷ 0 ∷ 0 ∷ 2 ∷ 0 ∷ 0 ∷ 0 ∷ []
-
-abbrev pub halvesPrices : List ℕ
-halvesPrices = 2 ∷ 0 ∷ 1 ∷ 0 ∷ 0 ∷ 0 ∷ 2 ∷ 0 ∷ 0 ∷ 0 ∷ 1 ∷ 1 ∷ []
-
--- Lines of document 02, Change 6.
-unfoldable pub markLines : List SiteLine
-markLines =
-    -- no marks; 8 marks, one at 0 and one at the highest tick of 32 bits
-    readsMarks noMarks []
-    ∷ readsMarks (encodeMarks (0 ∷ 1 ∷ 2 ∷ 3 ∷ 4 ∷ 5 ∷ 6 ∷ 4_294_967_295 ∷ [])) (0 ∷ 1 ∷ 2 ∷ 3 ∷ 4 ∷ 5 ∷ 6 ∷ 4_294_967_295 ∷ [])
-    -- more than 8 marks; not rising; a wrong length
-    ∷ refusesMarks (encodeMarks (0 ∷ 1 ∷ 2 ∷ 3 ∷ 4 ∷ 5 ∷ 6 ∷ 7 ∷ 8 ∷ []))
-    ∷ refusesMarks (encodeMarks (2 ∷ 1 ∷ []))
-    ∷ refusesMarks (encodeMarks (1 ∷ 2 ∷ 2 ∷ []))
-    ∷ refusesMarks []
-    ∷ refusesMarks (0 ∷ [])
-    ∷ refusesMarks (0 ∷ 0 ∷ 0 ∷ [])
-    ∷ refusesMarks (1 ∷ 0 ∷ 7 ∷ 0 ∷ 0 ∷ [])
-    -- from release 2 to deadline 6 the ticks 3 and 5 cut; 2, 6 and those outside do not, and 4 is a bound already
-    ∷ cutsAt (job 2 4 1 ∷ job 4 6 1 ∷ []) (3 ∷ 5 ∷ []) (2 ∷ 3 ∷ 4 ∷ 5 ∷ 6 ∷ [])
-    ∷ cutsAt (job 2 4 1 ∷ job 4 6 1 ∷ []) (0 ∷ 1 ∷ 2 ∷ 4 ∷ 6 ∷ 7 ∷ 1_000_001 ∷ []) (2 ∷ 4 ∷ 6 ∷ [])
-    -- a mark in a stretch where no job is open; no jobs, no bounds
-    ∷ cutsAt (job 0 1 1 ∷ job 5 6 1 ∷ []) (3 ∷ []) (0 ∷ 1 ∷ 3 ∷ 5 ∷ 6 ∷ [])
-    ∷ cutsAt [] (3 ∷ []) []
-    -- T, one job 0 2 of 4 cycles, a mark at 1: two intervals, and the same figure, 400, as with one
-    ∷ plansMarked T (job 0 2 4 ∷ []) (1 ∷ []) 16 12 2
-    ∷ wantsMarked T (job 0 2 4 ∷ []) (1 ∷ []) 15 12 2 12 16
-    ∷ wantsMarked T (job 0 2 4 ∷ []) (1 ∷ []) 16 11 2 13 12
-    ∷ wantsMarked T (job 0 2 4 ∷ []) (1 ∷ []) 16 12 1 14 2
-    ∷ acceptsMarked T (job 0 2 4 ∷ []) (1 ∷ []) halvesPlan halvesPrices 400
-    ∷ accepts T (job 0 2 4 ∷ []) (1 ∷ 0 ∷ 1 ∷ 0 ∷ 0 ∷ 0 ∷ 4 ∷ 0 ∷ 0 ∷ 0 ∷ []) (1 ∷ 0 ∷ 2 ∷ 0 ∷ 0 ∷ 0 ∷ 1 ∷ []) 400
-    -- a plan for other marks has a wrong number of intervals
-    ∷ refusesMarked T (job 0 2 4 ∷ []) (2 ∷ []) halvesPlan halvesPrices 16 0
-    -- marks that fall are refused before the plan is looked at, and after the jobs were
-    ∷ refusesMarked T (job 0 2 4 ∷ []) (1 ∷ 1 ∷ []) [] [] 34 0
-    ∷ refusesMarked T (job 0 2 0 ∷ []) (1 ∷ 1 ∷ []) [] [] 10 0
-    ∷ []
-
--- Boards for the jobs 0 4 6 and 2 3 4, beside T, whose working frequencies are 2 and 4. Powers 288 and 2,500, prices 144 and 1,106:
-abbrev pub otherVoltages : List Level
-otherVoltages = level 2 12 ∷ level 4 25 ∷ []
-
--- idling draws 1,000; powers 1,058, 2,700 and 3,600, and 3 is dropped; prices 29 and 1,271
-abbrev pub drawsAndDrops : List Level
-drawsAndDrops = idleEntry 1 ∷ level 2 23 ∷ level 3 30 ∷ level 4 30 ∷ []
-
--- the frequencies of T with powers 800 and 1,600, so that 2 is dropped
-abbrev pub oneWorks : List Level
-oneWorks = level 2 20 ∷ level 4 20 ∷ []
-
--- powers 1,200 and 3,600, prices 400 and 2,400, and a level 2 that is dropped
-abbrev pub otherFrequencies : List Level
-otherFrequencies = level 2 20 ∷ level 3 20 ∷ level 4 30 ∷ []
-
--- Lines of document 02, Change 7.
-unfoldable pub boardLines : List SiteLine
-boardLines =
-    -- three boards of the same working frequencies: the plan and the prices that document 01 lists are accepted on each, with 8 cycles
-    -- in the first band and 2 in the second, and each has a figure of its own
-    works T (2 ∷ 4 ∷ [])
-    ∷ accepts T (job 0 4 6 ∷ job 2 3 4 ∷ []) listedPlan listedPrices 2_200
-    ∷ works otherVoltages (2 ∷ 4 ∷ [])
-    ∷ accepts otherVoltages (job 0 4 6 ∷ job 2 3 4 ∷ []) listedPlan listedPrices 3_364
-    ∷ works drawsAndDrops (2 ∷ 4 ∷ [])
-    ∷ accepts drawsAndDrops (job 0 4 6 ∷ job 2 3 4 ∷ []) listedPlan listedPrices 6_774
-    -- T's given frequencies are not enough: where 2 is dropped there is no second price
-    ∷ works oneWorks (4 ∷ [])
-    ∷ refuses oneWorks (job 0 4 6 ∷ job 2 3 4 ∷ []) listedPlan listedPrices 22 1
-    -- and other working frequencies need not refuse: here 9 cycles are in the first band and 1 in the second
-    ∷ works otherFrequencies (3 ∷ 4 ∷ [])
-    ∷ accepts otherFrequencies (job 0 4 6 ∷ job 2 3 4 ∷ []) listedPlan listedPrices 6_000
     ∷ []
 
 sameSetting : Outcome Setting → (band extra gap : ℕ) → Bool
@@ -346,6 +227,8 @@ holds (acceptsMarked levels jobs marks plan prices figure) =
     sameNumber (check (encodeLevels levels) (encodeJobs jobs) (encodeMarks marks) plan prices) figure
 holds (refusesMarked levels jobs marks plan prices number place) =
     refusedAt (check (encodeLevels levels) (encodeJobs jobs) (encodeMarks marks) plan prices) number place
+holds (fitsIn levels jobs marks plan figure) = sameNumber (fits (encodeLevels levels) (encodeJobs jobs) (encodeMarks marks) plan) figure
+holds (failsIn levels jobs marks plan number place) = refusedAt (fits (encodeLevels levels) (encodeJobs jobs) (encodeMarks marks) plan) number place
 
 -- All lines hold.
 unfoldable pub allHold : List SiteLine → Bool
