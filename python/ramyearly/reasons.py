@@ -155,7 +155,11 @@ def sum_of_job(call, place):
 
 
 def overloaded(call, place):
-    return f"interval {place} has {load_of(call, place)} cycles, more than the top frequency gives in it"
+    """The archive says how much there may be: the spare of an interval without jobs."""
+    start, end = intervals_of(call)[place]
+    most = archive.spare(call.levels, tables.NO_JOBS, start, end).spare
+    about = f"interval {place}, from {start} to {end}, has {load_of(call, place)} cycles"
+    return f"{about}, but the top frequency gives {most} in {ticks(end - start)}"
 
 
 def load_of(call, place):

@@ -215,7 +215,7 @@ class Refused(BoardFolders):
         self.assertTrue(self.printed_of(site, 1).endswith(ALIKE))
 
     def test_a_lower_top_frequency(self):
-        fault = "interval 1 has 4 cycles, more than the top frequency gives in it (refusal 20, interval 1)"
+        fault = "interval 1, from 2 to 3, has 4 cycles, but the top frequency gives 3 in 1 tick (refusal 20, interval 1)"
         faults = [f"levels-slow.txt: the plan for levels.txt: {fault}"]
         self.refuse(self.boards(slow="2 10\n3 20\n"), faults, "The plan serves 1 of 2 boards." + LEAST)
 

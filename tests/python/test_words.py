@@ -135,7 +135,7 @@ class Checking(InFolder):
             (plan(3, [(0, 0, 4), (1, 1, 4)]), "jobs.txt line 2: the plan gives job 0 4 cycles, but it has 6 (refusal 19, job 0)"),
             (
                 plan(3, [(1, 0, 1), (1, 1, 4), (0, 0, 5)]),
-                "plan.tbl: interval 1 has 5 cycles, more than the top frequency gives in it (refusal 20, interval 1)",
+                "plan.tbl: interval 1, from 2 to 3, has 5 cycles, but the top frequency gives 4 in 1 tick (refusal 20, interval 1)",
             ),
         ):
             self.expect(said, plan_tbl=content)
