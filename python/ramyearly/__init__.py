@@ -6,16 +6,16 @@
     >>> ramyearly.plan(levels=[(2, 10), (4, 20)], jobs=[(0, 4, 6), (2, 3, 4)], marks=[1]).spans
     [(0, 1), (1, 2), (2, 3), (3, 4)]
 
-plan, check, order, touching, setting, spare, rounds and working_frequencies take plain values and answer plain values;
+plan, check, fits, order, touching, setting, spare, rounds and working_frequencies take plain values and answer plain values;
 refusals are exceptions with number, place and words. Levels that begin with (0, 5) are those of a board that draws 5,000
-while it idles. The first four take handover marks, which cut intervals, by name. A plan that is accepted with its prices for
-one board is accepted for every board with the same working frequencies. Every answer is the archive's: the package decides
-nothing.
+while it idles. The first five take handover marks, which cut intervals, by name. A plan that fits meets all deadlines; that no
+schedule needs less energy only check says, which takes prices. A plan that is accepted with its prices for one board is
+accepted for every board with the same working frequencies. Every answer is the archive's: the package decides nothing.
 """
 
 from .errors import Trouble
 from .operations import Ordered, Planned, Rounds, Setting, Touched
-from .operations import check, order, plan, rounds, setting, spare, touching, working_frequencies
+from .operations import check, fits, order, plan, rounds, setting, spare, touching, working_frequencies
 from .refusals import Overfull, Refused
 
 __all__ = [
@@ -28,6 +28,7 @@ __all__ = [
     "Touched",
     "Trouble",
     "check",
+    "fits",
     "order",
     "plan",
     "rounds",

@@ -19,6 +19,10 @@ class CheckAnswer(ctypes.Structure):
     _fields_ = [("number", ctypes.c_uint32), ("place", ctypes.c_uint32), ("energy", ctypes.c_uint64)]
 
 
+class FitsAnswer(ctypes.Structure):
+    _fields_ = CheckAnswer._fields_
+
+
 class SettingAnswer(ctypes.Structure):
     _fields_ = [
         ("number", ctypes.c_uint32),
@@ -76,6 +80,7 @@ BUFFER = (ctypes.c_void_p, ctypes.c_size_t)
 # For each function what it answers and what it is lent, as in the header.
 FUNCTIONS = {
     "ramyearly_check": (CheckAnswer, TABLE * 5),
+    "ramyearly_fits": (FitsAnswer, TABLE * 4),
     "ramyearly_setting": (SettingAnswer, TABLE + (ctypes.c_uint32, ctypes.c_uint64)),
     "ramyearly_spare": (SpareAnswer, TABLE * 2 + (ctypes.c_uint32, ctypes.c_uint32)),
     "ramyearly_plan": (PlanAnswer, TABLE * 3 + BUFFER * 3),
@@ -120,6 +125,10 @@ def tables(*tables_in_bytes):
 
 def check(levels, jobs, marks, plan, prices):
     return library().ramyearly_check(*tables(levels, jobs, marks, plan, prices))
+
+
+def fits(levels, jobs, marks, plan):
+    return library().ramyearly_fits(*tables(levels, jobs, marks, plan))
 
 
 def setting(levels, length, load):

@@ -129,6 +129,31 @@ def check_tables(levels, jobs, marks, plan_bytes, price_bytes):
     return answer.energy
 
 
+def fits(levels, jobs, plan, *, marks=()):
+    """The energy figure of a plan that fits: it gives each job exactly its cycles between release and deadline and, carried out,
+    meets all deadlines. Whether another schedule needs less energy is not said: that is what check says, with prices. A plan is
+    (intervals, steps): how many intervals it has, and its steps, in any order. Its marks are those that it was made with.
+    Levels may begin with (0, draw)."""
+    return fits_tables(level_table(levels), job_table(jobs), mark_table(marks), plan_table(*plan))
+
+
+def fits_tables(levels, jobs, marks, plan_bytes):
+    """The energy figure of a plan that fits, of tables that are bytes."""
+    answer = archive.fits(levels, jobs, marks, plan_bytes)
+    if answer.number:
+        raise refused(answer.number, answer.place, Call(levels, jobs, marks, plan_bytes))
+    return answer.energy
+
+
+def spans_of_tables(levels, jobs, marks):
+    """From and to of each interval of a site whose tables are bytes. Wrong tables are refused: the archive does so before it
+    reads a plan, and so without one, which is then what it refuses."""
+    answer = archive.fits(levels, jobs, marks, b"")
+    if answer.number != 15:
+        raise refused(answer.number, answer.place, Call(levels, jobs, marks))
+    return interval_spans(jobs, marks)
+
+
 def order(levels, jobs, steps, prices, *, marks=()):
     """A plan that is accepted with its prices, with its steps in cell order; the prices are those of the ordered plan too.
     A plan has as many intervals as there are prices, and its marks are those that it was made with. Levels may begin with

@@ -18,6 +18,11 @@ The first entry of a level list may be the idle entry: frequency 0 and, in the p
 idling draws in thousands of power units. With '0 5' idling draws 5,000; without an idle
 entry it draws nothing.
 
+A plan that is made by hand is plan.txt or plan.csv. A line is a step: an interval, a job and
+cycles, intervals and jobs being numbered from 0. How many intervals there are is not
+written: the site's jobs and marks say it. In this form decode prints a plan, and fits reads
+one; the other verbs read plan.tbl alone.
+
 Numbers are not compared with the limits of a site: that is the planner's work, and its
 refusal names the entry. Only what has no room in the bytes is an error here.
 """
@@ -69,14 +74,17 @@ PLAN = Table("plan", "step", ("intervals", "steps"), ((("cell", 16),), (("cycles
 PRICES = Table("prices", "interval", ("intervals",), ((("end", 32),), (("price", 8),)))
 # A plan with its steps in cell order, beside the plan that it was made from.
 ORDERED = PLAN._replace(name="ordered")
+# A plan in text: people number intervals and jobs, and a cell has both, in these bits of its 16.
+STEPS = PLAN._replace(arrays=((("interval", 10), ("job", 6)), (("cycles", 32),)))
 
 # What stands in place of what: a site has one of the two.
 IN_PLACE_OF = {TASKS: JOBS, JOBS: TASKS}
 SITE_TABLES = (TASKS, JOBS, MARKS, LEVELS)
 PLAN_TABLES = (PLAN, PRICES)
 ALL_TABLES = (*SITE_TABLES, *PLAN_TABLES, ORDERED)
-# What planning is lent, checking and ordering, and what touches a span, in their order.
+# What planning is lent, whether a plan fits, checking and ordering, and what touches a span, in their order.
 LENT_TO_PLAN = (LEVELS, JOBS, MARKS)
+LENT_TO_FITS = (LEVELS, JOBS, MARKS, PLAN)
 LENT_TO_CHECK = (LEVELS, JOBS, MARKS, PLAN, PRICES)
 LENT_TO_TOUCHING = (JOBS, MARKS, PLAN)
 NO_JOBS = bytes(SIZE_BYTES)  # a job table without jobs
@@ -88,6 +96,11 @@ def named(table, place, is_zero):
     """The table with the names that an entry's columns have there. A level table's first entry is the idle entry where its
     first number is zero; the level lists of further boards differ from the first in name alone."""
     return IDLE if table.entry == LEVELS.entry and place == 0 and is_zero else table
+
+
+def in_text(table):
+    """The table with the columns that its text has. They are those of its bytes but for a plan."""
+    return STEPS if table in (PLAN, ORDERED) else table
 
 
 def has_idle_entry(table, entries):
@@ -142,24 +155,24 @@ def is_header(words, table):
 def parse_text(text, table, name):
     """The entries of a text, and the line of each. An error names the file and the line."""
     entries, lines = [], []
-    first = True
+    first, shown = True, in_text(table)
     for number, line in enumerate(text.split("\n"), start=1):
         line = line.split("#")[0].strip()
         if line == "":
             continue
         words = re.split(r"\s*,\s*|\s+", line)
-        header = first and is_header(words, table)
+        header = first and is_header(words, shown)
         first = False
         if header:
             continue
         if len(entries) == MOST_ENTRIES:
             raise TableError(f"{name} line {number}: more than {MOST_ENTRIES} entries do not fit in the count's 16 bits")
         try:
-            entries.append(read_entry(words, named(table, len(entries), re.fullmatch(ZERO, words[0]))))
+            entries.append(read_entry(words, named(shown, len(entries), re.fullmatch(ZERO, words[0]))))
         except ValueError as error:
             raise TableError(f"{name} line {number}: {error}") from None
         lines.append(number)
-    return entries, lines
+    return join_cells(entries) if shown is STEPS else entries, lines
 
 
 def read_text(path, table):
@@ -268,9 +281,8 @@ def join_cells(steps):
 
 def to_text(sizes, entries, table, csv=False):
     """The text of a table: its sizes as a comment, what an idle entry has, the names of the columns, the entries."""
-    names = [name for name, _ in table.columns()]
-    if table in (PLAN, ORDERED):
-        names = ["interval", "job", "cycles"]
+    names = [name for name, _ in in_text(table).columns()]
+    if in_text(table) is STEPS:
         entries = split_cells(entries)
     said = ", ".join(f"{name} {size}" for name, size in zip(table.sizes, sizes))
     between = "," if csv else " "
