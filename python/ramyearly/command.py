@@ -7,12 +7,13 @@ from . import __version__
 from .errors import Trouble
 from .files import Stopped, stop_in_order
 from .terminal import NAME, accept_any_name, put, say
-from .verbs import boards, check, decode, encode, listing, order, plan, report, rounds, span
+from .verbs import boards, check, decode, encode, fits, listing, order, plan, report, rounds, span
 from .verbs.folders import DONE, FAILED, STATUSES
 
 VERBS = {
     "plan": plan,
     "check": check,
+    "fits": fits,
     "boards": boards,
     "order": order,
     "span": span,
@@ -63,6 +64,12 @@ of the periods, and their plan may be repeated any number of times:
   tasks.tbl                  the same in bytes
 
 The marks of such a site are ticks of one round.
+
+A plan is plan.tbl, with its price list prices.tbl. One that is made by hand may be text, and has no
+prices. The verb fits says whether it fits, and can write it as plan.tbl; the other verbs read
+plan.tbl alone:
+
+  plan.txt   or plan.csv     interval, job and cycles, a step to a line
 
 Where a table is there in text and in bytes, the text is used: people edit the text, and the
 bytes are made from it. A table in bytes that can't be read counts as empty.

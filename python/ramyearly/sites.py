@@ -92,6 +92,26 @@ def read_plan(site):
     return site.adding({table: read_bytes(site.folder, table) for table in tables.PLAN_TABLES})
 
 
+def read_plan_by_hand(site):
+    """The site with a plan that people may have written: as with the other tables, its text is read before its bytes."""
+    source = read_source(site.folder, tables.PLAN)
+    if is_missing(source):
+        form = "a line of plan.txt is a step: interval, job, cycles"
+        raise SiteError(f"{site.folder}: no plan (plan.txt, plan.csv or plan.tbl); {form} (--help says more)")
+    return site.adding({tables.PLAN: source})
+
+
+def with_intervals(site):
+    """The site with the number of its intervals in a plan that was read from text. A plan in bytes has its own, right or wrong.
+    What is wrong with the site's tables is refused."""
+    source = site.sources[tables.PLAN]
+    if source.lines is None:
+        return site
+    spans = operations.spans_of_tables(*map(site.data, tables.LENT_TO_PLAN))
+    entries = tables.entries_of(source.data, tables.PLAN)
+    return site.adding({tables.PLAN: source._replace(data=tables.to_bytes(entries, tables.PLAN, sizes=(len(spans),)))})
+
+
 def lay_out(site):
     """The site with its jobs: where it has tasks, those of one round. They are said to be in the lines of their tasks."""
     if tables.TASKS not in site.sources:
@@ -112,7 +132,9 @@ def read_source(folder, table):
         entries, lines = tables.read_text(path, table)
     except OSError as error:
         raise TableError(f"{path}: {error.strerror}") from None
-    return Source(path, tables.to_bytes(entries, table), lines=lines)
+    # A size that is not the number of entries does not stand in the text, and is 0 until it is known.
+    unknown = (0,) * (len(table.sizes) - 1)
+    return Source(path, tables.to_bytes(entries, table, sizes=unknown), lines=lines)
 
 
 def read_bytes(folder, table):

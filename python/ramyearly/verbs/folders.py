@@ -61,9 +61,9 @@ def parser_of(verb, description, several=False, ticks=()):
     return parser
 
 
-def parse_with_out(parser, arguments):
-    """The options of a verb that writes plans beside the tables of each site, or to one other folder."""
-    parser.add_argument("-o", dest="out", metavar="OUT", help="the folder to write to (that of the site if left out)")
+def parse_with_out(parser, arguments, left_out="that of the site"):
+    """The options of a verb that writes plans to a folder: one that is given or, where that is left out, what is said of it."""
+    parser.add_argument("-o", dest="out", metavar="OUT", help=f"the folder to write to ({left_out} if left out)")
     options = parser.parse_args(arguments)
     if options.out is not None and len(options.folders) > 1:
         parser.error("-o takes one site, or the plans would be written over each other")
