@@ -44,6 +44,46 @@ def random_steps(draw, jobs, marks=()):
     return draw.sample(steps, len(steps))
 
 
+def plan_by_hand(draw, jobs, marks=()):
+    """All cycles of each job, in any of the intervals where it is open, however many these may take."""
+    steps = []
+    for number, (release, deadline, cycles) in enumerate(jobs):
+        places = [place for place, (start, end) in enumerate(spans_of(jobs, marks)) if release <= start and end <= deadline]
+        # Cuts at random places leave some parts empty, which are no steps.
+        cuts = sorted(draw.randint(0, cycles) for _ in places[1:])
+        parts = [after - before for before, after in zip([0, *cuts], [*cuts, cycles])]
+        steps += [(place, number, part) for place, part in zip(places, parts) if part]
+    return draw.sample(steps, len(steps))
+
+
+def fits_by_definition(levels, jobs, plan, marks=()):
+    """For tables without a fault: number and place of the first of refusals 16 to 20 of a plan, given as intervals and steps, or
+    0 and 0, and then its energy figure."""
+    (intervals, steps), spans = plan, spans_of(jobs, marks)
+
+    def is_open(interval, job):
+        if interval >= len(spans) or job >= len(jobs):
+            return False
+        (start, end), (release, deadline, _) = spans[interval], jobs[job]
+        return release <= start and end <= deadline
+
+    if intervals != len(spans):
+        return 16, 0, 0
+    for place, (interval, job, cycles) in enumerate(steps):
+        if not is_open(interval, job) or (interval, job) in [step[:2] for step in steps[:place]]:
+            return 17, place, 0
+        if not 1 <= cycles <= jobs[job][2]:
+            return 18, place, 0
+    for number, (_, _, wanted) in enumerate(jobs):
+        if sum(cycles for _, job, cycles in steps if job == number) != wanted:
+            return 19, number, 0
+    loads = [sum(cycles for at, _, cycles in steps if at == interval) for interval in range(len(spans))]
+    for interval, (start, end) in enumerate(spans):
+        if loads[interval] > (end - start) * levels[-1][0]:
+            return 20, interval, 0
+    return 0, 0, energies_of_loads(levels, spans, loads)[0]
+
+
 def working_by_definition(levels):
     """Idling and the levels that work, as frequency and power."""
     idle = 1000 * levels[0][1] if levels[0][0] == 0 else 0
@@ -58,12 +98,17 @@ def working_by_definition(levels):
 
 def energies_by_definition(levels, planned):
     """The figure and the exact energy of a plan, by band and over all intervals."""
+    return energies_of_loads(levels, planned.spans, [sum(shares) for shares in planned.shares])
+
+
+def energies_of_loads(levels, spans, loads):
+    """The figure and the exact energy of so many cycles in each interval."""
     points = working_by_definition(levels)
-    lengths = [end - start for start, end in planned.spans]
+    lengths = [end - start for start, end in spans]
     figure = exact = sum(lengths) * points[0][1]
     for (low, less), (high, more) in zip(points, points[1:]):
-        loads = zip(lengths, map(sum, planned.shares))
-        cycles = sum(min(max(load - length * low, 0), length * (high - low)) for length, load in loads)
+        within = zip(lengths, loads)
+        cycles = sum(min(max(load - length * low, 0), length * (high - low)) for length, load in within)
         exact += Fraction(cycles * (more - less), high - low)
         figure += cycles * (more - less) // (high - low)
     return figure, exact
