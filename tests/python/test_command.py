@@ -125,7 +125,7 @@ class Verbs(InFolder):
 
     def test_wrong_usage(self):
         good = self.good()
-        for words in ([], ["plan"], ["check"], ["order"], ["boards"], ["span"], ["report"], ["--nonsense"],
+        for words in ([], ["plan"], ["check"], ["fits"], ["order"], ["boards"], ["span"], ["report"], ["--nonsense"],
                       ["plan", "--nonsense", good], ["order", "--nonsense", good], ["boards", "--nonsense", good],
                       ["span", "0", "4"], ["span", good], ["span", "0", "x", good],
                       ["span", "0", "4", "--nonsense", good], ["report", good, good], ["plan", good, good, "-o", self.folder],

@@ -51,6 +51,7 @@ class MarkFolders(InFolder):
         files = [read(os.path.join(site, name)) for name in ("plan.tbl", "prices.tbl")]
         self.assertEqual(files, [CUT_PLAN, CUT_PRICES])
         self.expect(["check", site], 0, f"{site}: accepted, energy 2200{repeats}\n")
+        self.expect(["fits", site], 0, f"{site}: plan.tbl fits, energy 2200{repeats}\n")
         self.expect(["order", site], 0, f"{site}: {sizes}, in order already{repeats}; wrote {site}/ordered.tbl\n")
         self.assertEqual(read(os.path.join(site, "ordered.tbl")), CUT_PLAN)
         touched = self.run_command("span", "1", "2", site)

@@ -160,6 +160,15 @@ class RoundTrips(InFolder):
                 text = tables.to_text(*tables.from_bytes(data, table, ""), table)
                 self.assertEqual(tables.to_bytes(tables.parse_text(text, table, "")[0], table), data)
 
+    def test_plans(self):
+        """In text a plan has intervals and jobs in place of cells. The number of its intervals stands in a comment alone."""
+        draw = random.Random(3)
+        for _ in range(200):
+            entries = self.entries(draw, tables.PLAN)
+            for table in (tables.PLAN, tables.ORDERED):
+                text = tables.to_text([draw.randrange(136), len(entries)], entries, table, draw.random() < 0.5)
+                self.assertEqual(tables.parse_text(text, table, "")[0], entries)
+
     def test_folders(self):
         for words, ending in ((), ".txt"), (("--csv",), ".csv"):
             site, text, again = self.site(jobs_tbl=TWO_JOBS, levels_tbl=PAIR), self.site(), self.site()

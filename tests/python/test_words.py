@@ -108,7 +108,8 @@ class Reading(InFolder):
 
 
 class Checking(InFolder):
-    """Refusals of plans and price lists, by the check and by ordering, and those of steps by what touches a span too."""
+    """Refusals of plans and price lists, by the check and by ordering, those of plans by fits too, and those of steps by what
+    touches a span too."""
 
     def expect(self, said, verbs=(["check"], ["order"]), **files):
         site = self.site(**{"levels_txt": T, "jobs_txt": JOBS, "plan_tbl": PLAN, "prices_tbl": PRICES, **files})
@@ -128,7 +129,7 @@ class Checking(InFolder):
             (plan(3, [*sound, (1, 0, 0)]), "plan.tbl: 0 cycles of job 0 in interval 1 (refusal 18, step 3)"),
             (plan(3, [(1, 1, 5)]), "plan.tbl: 5 cycles of job 1 in interval 1, but the job has 4 (refusal 18, step 0)"),
         ):
-            self.expect(said, (["check"], ["order"], ["span", "0", "4"]), plan_tbl=content)
+            self.expect(said, (["check"], ["order"], ["fits"], ["span", "0", "4"]), plan_tbl=content)
 
     def test_sums(self):
         for content, said in (
@@ -138,7 +139,7 @@ class Checking(InFolder):
                 "plan.tbl: interval 1, from 2 to 3, has 5 cycles, but the top frequency gives 4 in 1 tick (refusal 20, interval 1)",
             ),
         ):
-            self.expect(said, plan_tbl=content)
+            self.expect(said, (["check"], ["order"], ["fits"]), plan_tbl=content)
 
     def test_price_lists(self):
         for content, said in (
