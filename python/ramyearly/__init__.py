@@ -5,6 +5,8 @@
     2200
     >>> ramyearly.plan(levels=[(2, 10), (4, 20)], jobs=[(0, 4, 6), (2, 3, 4)], marks=[1]).spans
     [(0, 1), (1, 2), (2, 3), (3, 4)]
+    >>> ramyearly.fits(levels=[(2, 10), (4, 20)], jobs=[(0, 4, 6), (2, 3, 4)], plan=(3, [(0, 0, 6), (1, 1, 4)]))
+    3400
 
 plan, check, fits, order, touching, setting, spare, rounds and working_frequencies take plain values and answer plain values;
 refusals are exceptions with number, place and words. Levels that begin with (0, 5) are those of a board that draws 5,000
