@@ -24,7 +24,7 @@ use Rattle.model.specs.Sites.{Tables, readTables, Site, siteOf, readSite, Valid
 use Rattle.model.specs.Windows.{Window, earliestOverfull, wrongSpan}
 use Rattle.model.specs.Steps.{sharesOf}
 use Rattle.model.specs.PriceBytes.{pricesOf}
-use Rattle.model.specs.Checking.{check}
+use Rattle.model.specs.Checking.{fits, check}
 use Rattle.model.specs.Accepted.{Accepted, exactFor, gapsOf}
 use Rattle.model.specs.Planning.{
   PlanOutcome,
@@ -56,7 +56,7 @@ use Rattle.touching.specs.Touching.{Lists, touchingFor, touching}
 use Rattle.demands.specs.ThreeDemands.{Call, PlanComesOut, planWritten}
 use Rattle.demands.specs.HandoverMarks.{AreMarks, IsBound, OfAJob, Cuts, SameWith, RefusedBy34, OtherMarks, Roomy, HandoverMarks}
 use Rattle.demands.proofs.SiteParts.{site-tables}
-use Rattle.demands.proofs.SameSites.{contract-kept, checks-kept, orders-kept}
+use Rattle.demands.proofs.SameSites.{contract-kept, fits-kept, checks-kept, orders-kept}
 
 -- what was read is marks, and marks are what is read
 are-marks : (bytes marks : List ℕ) → IsBytes bytes → (readMarks bytes ≡ answer marks) ↔ (AreMarks marks × (bytes ≡ encodeMarks marks))
@@ -115,9 +115,10 @@ refused-is-no-plan : (answered : PlanAnswer) (number place : ℕ) → outcomeOf 
 refused-is-no-plan answered number place e is = let z : _≡_ {A = ℕ} 0 1 = cc (sym e ∙ is) in omega (arith, z)
 
 refused-by-34 : (levelBytes jobBytes markBytes : List ℕ) → readSite levelBytes jobBytes markBytes ≡ refused 34 0 → RefusedBy34 levelBytes jobBytes markBytes
-unfolding check order planning
+unfolding fits check order planning
 refused-by-34 levelBytes jobBytes markBytes e =
     record {
+      fitting = λ plan. rw e;
       checks = λ plan prices. rw e;
       orders = λ plan prices room. rw e;
       plans = λ before after answered contract.
@@ -173,6 +174,7 @@ module _ (jobBytes markBytes : List ℕ) (jobs : List Job) (marks : List ℕ) (j
       let same = same-site levelBytes in
       record {
         sites = same;
+        fitting = fits-kept _ _ _ _ _ _ same;
         checks = checks-kept _ _ _ _ _ _ same;
         orders = orders-kept _ _ _ _ _ _ same;
         touches = same-touching;

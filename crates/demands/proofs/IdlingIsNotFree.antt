@@ -26,7 +26,7 @@ use Rattle.model.proofs.Sites.{sites-are-valid}
 use Rattle.model.proofs.IdleDraw.{idling-is-a-point, draw-keeps-levels, energies-gain-the-draw, schedules-pay-the-draw, draw-moves-no-window}
 use Rattle.reading.proofs.Encodings.{encodings-are-bytes}
 use Rattle.demands.specs.IdlingIsNotFree.{TableOf, with-entry, without-entry, SameAnswers, IdlingIsNotFree}
-use Rattle.demands.proofs.SameSites.{contract-kept, checks-kept, orders-kept}
+use Rattle.demands.proofs.SameSites.{contract-kept, fits-kept, checks-kept, orders-kept}
 use Rattle.demands.proofs.RepeatedRounds.{repeated-rounds}
 
 -- a valid table has an idle entry before its running levels, or none
@@ -85,6 +85,7 @@ same-answers one two same tables =
       sites = sites;
       settings = λ length load. rw same;
       spares = λ jobs start end. rw (tables jobs);
+      fitting = λ jobs marks. fits-kept one jobs marks two jobs marks (sites jobs marks);
       checks = λ jobs marks. checks-kept one jobs marks two jobs marks (sites jobs marks);
       orders = λ jobs marks. orders-kept one jobs marks two jobs marks (sites jobs marks);
       plans = λ jobs marks before after answered. (

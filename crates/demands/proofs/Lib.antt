@@ -1,5 +1,5 @@
 -- The three demands hold, rounds repeat, idling is not free, a plan has one spelling, the window test keeps a running sum, what touches
--- a span is listed, handover marks cut intervals, and one plan serves many boards.
+-- a span is listed, handover marks cut intervals, one plan serves many boards, and the check has two halves.
 pub mod SiteParts
 pub mod SameSites
 pub mod ThreeDemands
@@ -11,3 +11,4 @@ pub mod TouchedMembers
 pub mod TouchedSpans
 pub mod HandoverMarks
 pub mod ManyBoards
+pub mod TwoHalves

@@ -14,7 +14,7 @@ use Rattle.model.specs.Setting.{setting}
 use Rattle.model.specs.Sites.{Tables, readTables, Site, siteOf, readSite}
 use Rattle.model.specs.Windows.{spareFor, spare}
 use Rattle.model.specs.Steps.{sharesOf}
-use Rattle.model.specs.Checking.{figureOf, checkFor, check}
+use Rattle.model.specs.Checking.{figureOf, fitsFor, fits, checkFor, check}
 use Rattle.model.specs.Planning.{comesOut, afterReading, planFor, planning, Planned}
 use Rattle.model.specs.Demands.{ValidTables}
 use Rattle.model.specs.Boards.{workingFrequencies, onBoard, Alike}
@@ -75,36 +75,56 @@ module _ (one two : List ℕ) {processor other : Processor} (read-one : readProc
       boards-are-alike processor other
       (processors-are-valid one processor read-one .rising) (processors-are-valid two other read-two .rising) same
 
-  -- the check of the other: as that of the one, with the figure of its own board
+  -- An operation that is alike on both boards but for a plan's figure: that of the other is that of the one, with its own figure.
+  module _ (plan : List ℕ) (run : Site → Outcome ℕ)
+      (runs-alike : (site : Site) → run (onBoard other site) ≡ (andThen (run (onBoard processor site)) λ figure. answer (figureOf (onBoard other site) plan)))
+      (jobs marks : List ℕ) where
+    ran-on : andThen (readSite two jobs marks) run
+        ≡ (andThen (readSite one jobs marks) λ site.
+        andThen (run site) λ figure.
+        answer (figureOf (onBoard other site) plan))
+    ran-on = rw (site-on one two read-one read-two jobs marks) (go (readSite one jobs marks) (own-board one read-one jobs marks))
+      where
+        go : (read : Outcome Site) → ((site : Site) → read ≡ answer site → site ≡ onBoard processor site)
+            → andThen (andThen read (λ site. answer (onBoard other site))) run
+            ≡ (andThen read λ site.
+            andThen (run site) λ figure.
+            answer (figureOf (onBoard other site) plan))
+        go (refused number place) its = refl
+        go (answer site) its =
+            runs-alike site
+            ∙ ap (λ (s : Site). andThen (run s) λ figure. answer (figureOf (onBoard other site) plan)) (sym (its site refl))
+
+    refused-run : (number place : ℕ) → andThen (readSite one jobs marks) run ≡ refused number place
+        → andThen (readSite two jobs marks) run ≡ refused number place
+    refused-run number place e = ran-on ∙ go (readSite one jobs marks) e
+      where
+        go : (read : Outcome Site) → andThen read run ≡ refused number place
+            → (andThen read λ site.
+            andThen (run site) λ figure.
+            answer (figureOf (onBoard other site) plan)) ≡ refused number place
+        go (refused n p) e = e
+        go (answer site) e = rw e
+
+  -- the check, accepting or not
   check-on : (jobs marks plan prices : List ℕ) → check two jobs marks plan prices
       ≡ (andThen (readSite one jobs marks) λ site.
       andThen (checkFor site plan prices) λ figure.
       answer (figureOf (onBoard other site) plan))
   unfolding check
-  check-on jobs marks plan prices = rw (site-on one two read-one read-two jobs marks) (go (readSite one jobs marks) (own-board one read-one jobs marks))
-    where
-      go : (read : Outcome Site) → ((site : Site) → read ≡ answer site → site ≡ onBoard processor site)
-          → andThen (andThen read (λ site. answer (onBoard other site))) (λ site. checkFor site plan prices)
-          ≡ (andThen read λ site.
-          andThen (checkFor site plan prices) λ figure.
-          answer (figureOf (onBoard other site) plan))
-      go (refused number place) its = refl
-      go (answer site) its =
-          alike .checks site plan prices
-          ∙ ap (λ (s : Site). andThen (checkFor s plan prices) λ figure. answer (figureOf (onBoard other site) plan)) (sym (its site refl))
+  check-on jobs marks plan prices = ran-on plan (λ site. checkFor site plan prices) (λ site. alike .checks site plan prices) jobs marks
 
   -- of refused plans
   refused-on : (jobs marks plan prices : List ℕ) (number place : ℕ) → check one jobs marks plan prices ≡ refused number place
       → check two jobs marks plan prices ≡ refused number place
   unfolding check
-  refused-on jobs marks plan prices number place e = check-on jobs marks plan prices ∙ go (readSite one jobs marks) e
-    where
-      go : (read : Outcome Site) → andThen read (λ site. checkFor site plan prices) ≡ refused number place
-          → (andThen read λ site.
-          andThen (checkFor site plan prices) λ figure.
-          answer (figureOf (onBoard other site) plan)) ≡ refused number place
-      go (refused n p) e = e
-      go (answer site) e = rw e
+  refused-on jobs marks plan prices = refused-run plan (λ site. checkFor site plan prices) (λ site. alike .checks site plan prices) jobs marks
+
+  -- of plans that do not fit
+  unfitting-on : (jobs marks plan : List ℕ) (number place : ℕ) → fits one jobs marks plan ≡ refused number place
+      → fits two jobs marks plan ≡ refused number place
+  unfolding fits
+  unfitting-on jobs marks plan = refused-run plan (λ site. fitsFor site plan) (λ site. alike .fits site plan) jobs marks
 
   -- and of accepted ones
   accepted-on : (jobs marks plan prices : List ℕ) (figure : ℕ) → check one jobs marks plan prices ≡ answer figure
@@ -159,10 +179,14 @@ module _ (one two : List ℕ) {processor other : Processor} (read-one : readProc
   )
 
   same-on-both : (reverse : (jobs marks plan prices : List ℕ) (number place : ℕ) → check two jobs marks plan prices ≡ refused number place
-      → check one jobs marks plan prices ≡ refused number place) → SameOnBoth one two
-  same-on-both reverse =
+      → check one jobs marks plan prices ≡ refused number place)
+      → (reverse-fits : (jobs marks plan : List ℕ) (number place : ℕ) → fits two jobs marks plan ≡ refused number place
+      → fits one jobs marks plan ≡ refused number place)
+      → SameOnBoth one two
+  same-on-both reverse reverse-fits =
       record {
         refusals = λ jobs marks plan prices number place. (refused-on jobs marks plan prices number place, reverse jobs marks plan prices number place);
+        unfitting = λ jobs marks plan number place. (unfitting-on jobs marks plan number place, reverse-fits jobs marks plan number place);
         settings = settings-on;
         spares = spares-on;
         orders = orders-on;
@@ -298,7 +322,8 @@ one-plan-many-boards =
           written-for-both call intervals steps energy told two alike second second-read;
       same = λ one two alike.
           let (processor, other, read-one, read-two, same) = boards one two alike in
-          same-on-both one two read-one read-two same (refused-on two one read-two read-one (sym same));
+          same-on-both one two read-one read-two same
+          (refused-on two one read-two read-one (sym same)) (unfitting-on two one read-two read-one (sym same));
       every-pair = λ one two processor other read-one read-two same. (
         workingFrequencies other,
         rw (read-one, same),

@@ -1,10 +1,11 @@
--- Tables that are read as the same site have the same answers: planning's contract, the check and ordering look at the site alone.
+-- Tables that are read as the same site have the same answers: planning's contract, both halves of the check and ordering look at
+-- the site alone.
 -- Assumes nothing.
 use mathlib.Core.Path.{_≡_, _∙_}
 use mathlib.Core.List.{List}
 use Prim.Native.Nat.{ℕ}
 use Rattle.model.specs.Sites.{readSite}
-use Rattle.model.specs.Checking.{check}
+use Rattle.model.specs.Checking.{fits, check}
 use Rattle.model.specs.Planning.{planning}
 use Rattle.planning.specs.declared.operation.PlanAnswer.{PlanAnswer}
 use Rattle.planning.specs.MadePlans.{Buffers}
@@ -25,6 +26,10 @@ module _ (levels jobs marks otherLevels otherJobs otherMarks : List ℕ) (same :
         never-served = λ site read. contract .never-served site (same ∙ read);
         exactly-when-served = λ site read. contract .exactly-when-served site (same ∙ read);
       }
+
+  pub fits-kept : (plan : List ℕ) → fits levels jobs marks plan ≡ fits otherLevels otherJobs otherMarks plan
+  unfolding fits
+  fits-kept plan = rw same
 
   pub checks-kept : (plan prices : List ℕ) → check levels jobs marks plan prices ≡ check otherLevels otherJobs otherMarks plan prices
   unfolding check

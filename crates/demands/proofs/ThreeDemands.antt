@@ -11,13 +11,14 @@ use Rattle.model.specs.Sites.{Site, siteOf, ValidSite}
 use Rattle.model.specs.Steps.{sharesOf}
 use Rattle.model.specs.Checking.{figureOf}
 use Rattle.model.specs.Accepted.{Accepted}
+use Rattle.model.specs.TwoHalves.{Fits}
 use Rattle.model.specs.Demands.{ValidTables, LongEnough}
 use Rattle.model.proofs.Sites.{sites-are-valid, sound-site}
 use Rattle.model.proofs.LeastEnergy.{plans-are-schedules}
 use Rattle.model.proofs.Accepted.{check-accepts, check-read, check-reads}
 use Rattle.model.proofs.Demands.{long-enough-decides}
 use Rattle.model.proofs.Hypotheses.{every-valid-table}
-use Rattle.model.proofs.RefusalNumbers.{levels-by, jobs-by, marks-by, setting-by, spare-by, walk-by, check-by, planning-by}
+use Rattle.model.proofs.RefusalNumbers.{levels-by, jobs-by, marks-by, setting-by, spare-by, walk-by, fits-by, check-by, planning-by}
 use Rattle.planning.specs.declared.operation.PlanAnswer.{PlanAnswer}
 use Rattle.planning.specs.declared.operation.PlanAnswer.the-variants.{Plan, Overfull, Refused}
 use Rattle.planning.specs.PlanAnswers.{outcomeOf}
@@ -73,6 +74,7 @@ demand-one =
       reading-marks = marks-by;
       setting-one = setting-by;
       spare-of-window = spare-by;
+      fitting = fits-by;
       checking = check-by;
       walking = walk-by;
       planning = λ call number place e. planning-by _ _ _ _ _ _ number place (sym (call .contract .outcome) ∙ e);
@@ -88,18 +90,22 @@ demand-one =
           unlisted-keeps before after (touching jobs marks plan start end before) number place (sym is ∙ contract .answer-is) (contract .lists-are);
     }
 
--- an accepted plan is such a plan, and its prices fit
-module _ {site : Site} (valid : ValidSite site) {plan prices : List ℕ} (accepted : Accepted site plan prices) where
-  such-a-plan : {figure : ℕ} → figure ≡ figureOf site plan → SuchAPlan site plan figure
-  such-a-plan is =
-      record {
-        is-plan = accepted .is-plan;
-        gives = accepted .gives;
-        carried-out =
-            plans-are-schedules (site .processor .idlePower) (site .processor .levels) (site .jobs) (sound-site valid)
-            (site .bounds) (valid .bounds) (sharesOf plan) (accepted .gives);
-        energy-figure = is;
-      }
+-- a plan that fits is such a plan
+pub such-a-plan : {site : Site} → ValidSite site → {plan : List ℕ} → Fits site plan → {figure : ℕ} → figure ≡ figureOf site plan → SuchAPlan site plan figure
+such-a-plan {site} valid {plan} fits is =
+    record {
+      is-plan = fits .is-plan;
+      gives = fits .gives;
+      carried-out =
+          plans-are-schedules (site .processor .idlePower) (site .processor .levels) (site .jobs) (sound-site valid)
+          (site .bounds) (valid .bounds) (sharesOf plan) (fits .gives);
+      energy-figure = is;
+    }
+
+-- an accepted plan fits, and its prices do
+module _ {site : Site} {plan prices : List ℕ} (accepted : Accepted site plan prices) where
+  plan-fits : Fits site plan
+  plan-fits = record { is-plan = accepted .is-plan; gives = accepted .gives }
 
   prices-fit : PricesFit site plan prices
   prices-fit = record { is-price-list = accepted .is-price-list; fitting = accepted .fitting }
@@ -109,7 +115,7 @@ demand-two =
     record {
       planner = λ call site tables intervals steps energy is.
           let best = call .contract .best site tables intervals steps energy is in
-          such-a-plan (sites-are-valid _ _ _ site tables) (best .placed-and-priced) (best .figure);
+          such-a-plan (sites-are-valid _ _ _ site tables) (plan-fits (best .placed-and-priced)) (best .figure);
       accepts = λ levelBytes jobBytes markBytes plan prices figure. (
         λ e.
             let (site, tables, e) = check-reads levelBytes jobBytes markBytes plan prices figure e in
@@ -117,8 +123,8 @@ demand-two =
             record {
               site = site;
               tables = tables;
-              such-a-plan = such-a-plan (sites-are-valid _ _ _ site tables) accepted is;
-              prices-fit = prices-fit (sites-are-valid _ _ _ site tables) accepted;
+              such-a-plan = such-a-plan (sites-are-valid _ _ _ site tables) (plan-fits accepted) is;
+              prices-fit = prices-fit accepted;
             },
         λ acceptable.
             let plans = acceptable .such-a-plan in
@@ -139,8 +145,8 @@ demand-three =
           let best = call .contract .best site tables intervals steps energy is in
           record {
             least = best .least .least;
-            placed = such-a-plan (sites-are-valid _ _ _ site tables) (best .placed-and-priced) (best .figure);
-            priced = prices-fit (sites-are-valid _ _ _ site tables) (best .placed-and-priced);
+            placed = such-a-plan (sites-are-valid _ _ _ site tables) (plan-fits (best .placed-and-priced)) (best .figure);
+            priced = prices-fit (best .placed-and-priced);
             smallest = best .smallest;
             checked = check-read _ _ _ _ _ site tables ∙ call .contract .written site tables intervals steps energy is .planned .accepted;
           };

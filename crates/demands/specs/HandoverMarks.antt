@@ -16,7 +16,7 @@ use Rattle.model.specs.Intervals.{boundsOf, intervalCount, boundAt, earliestRel
 use Rattle.model.specs.Marks.{readMarks, encodeMarks, noMarks}
 use Rattle.model.specs.Sites.{Tables, readTables, Site, readSite}
 use Rattle.model.specs.Windows.{wrongSpan}
-use Rattle.model.specs.Checking.{check}
+use Rattle.model.specs.Checking.{fits, check}
 use Rattle.model.specs.Accepted.{exactFor, gapsOf}
 use Rattle.model.specs.Demands.{ValidTables, LongEnough}
 use Rattle.planning.specs.declared.operation.PlanAnswer.{PlanAnswer}
@@ -49,6 +49,7 @@ Cuts jobs marks time =
 -- With one mark table every operation that takes marks answers and writes what it does with another.
 pub record SameWith (levelBytes jobBytes one two : List ℕ) : Type 0 where
   pub sites : readSite levelBytes jobBytes one ≡ readSite levelBytes jobBytes two
+  pub fitting : (plan : List ℕ) → fits levelBytes jobBytes one plan ≡ fits levelBytes jobBytes two plan
   pub checks : (plan prices : List ℕ) → check levelBytes jobBytes one plan prices ≡ check levelBytes jobBytes two plan prices
   pub orders : (plan prices : List ℕ) (room : ℕ) → order levelBytes jobBytes one plan prices room ≡ order levelBytes jobBytes two plan prices room
   pub touches : (plan : List ℕ) (start end : ℕ) (before : Lists) → touching jobBytes one plan start end before ≡ touching jobBytes two plan start end before
@@ -57,6 +58,7 @@ pub record SameWith (levelBytes jobBytes one two : List ℕ) : Type 0 where
 
 -- Every operation that reads levels and takes marks refuses by 34, whatever else it is lent.
 pub record RefusedBy34 (levelBytes jobBytes markBytes : List ℕ) : Type 0 where
+  pub fitting : (plan : List ℕ) → fits levelBytes jobBytes markBytes plan ≡ refused 34 0
   pub checks : (plan prices : List ℕ) → check levelBytes jobBytes markBytes plan prices ≡ refused 34 0
   pub orders : (plan prices : List ℕ) (room : ℕ) → order levelBytes jobBytes markBytes plan prices room ≡ refused 34 0
   pub plans : (before after : Buffers) (answered : PlanAnswer) → PlanContract levelBytes jobBytes markBytes before after answered

@@ -19,7 +19,7 @@ use Rattle.model.specs.Sites.{Site, readTables, readSite}
 use Rattle.model.specs.Windows.{spare}
 use Rattle.model.specs.Schedules.{horizon, slotPowers}
 use Rattle.model.specs.Steps.{sharesOf}
-use Rattle.model.specs.Checking.{check}
+use Rattle.model.specs.Checking.{fits, check}
 use Rattle.model.specs.Accepted.{ScheduleFor, powersFor, exactFor, gapsOf}
 use Rattle.model.specs.Demands.{ValidTables}
 use Rattle.model.specs.IdleDraw.{IdlingIsAPoint, Works, energyOfBands, figureOfBands, idleSlots, DrawMovesNoWindow}
@@ -82,6 +82,7 @@ pub record SameAnswers (one two : List ℕ) : Type 0 where
   pub sites : (jobs marks : List ℕ) → readSite one jobs marks ≡ readSite two jobs marks
   pub settings : (length load : ℕ) → setting one length load ≡ setting two length load
   pub spares : (jobs : List ℕ) (start end : ℕ) → spare one jobs start end ≡ spare two jobs start end
+  pub fitting : (jobs marks plan : List ℕ) → fits one jobs marks plan ≡ fits two jobs marks plan
   pub checks : (jobs marks plan prices : List ℕ) → check one jobs marks plan prices ≡ check two jobs marks plan prices
   pub orders : (jobs marks plan prices : List ℕ) (room : ℕ) → order one jobs marks plan prices room ≡ order two jobs marks plan prices room
   pub plans : (jobs marks : List ℕ) (before after : Buffers) (answered : PlanAnswer)
@@ -93,8 +94,8 @@ pub record IdlingIsNotFree : Type 0 where
   pub read : (bytes : List ℕ) → IsBytes bytes → (processor : Processor) → (readProcessor bytes ≡ answer processor) ↔ TableOf bytes processor
   -- "Idling is then the point (0, draw) in the test for working levels and in all energies"
   pub point : IdlingIsAPoint
-  -- both energies gain the draw, of every plan that planning writes and of every plan that the check accepts: demand 2 says of
-  -- both that they are such plans
+  -- both energies gain the draw, of every plan that planning writes, that fits or that the check accepts: demand 2 and Change 8 say
+  -- of them that they are such plans
   pub gained : (levelBytes jobBytes markBytes : List ℕ) (site : Site) → ValidTables levelBytes jobBytes markBytes site
       → (plan : List ℕ) (figure : ℕ) → SuchAPlan site plan figure → GainsTheDraw site plan figure
   -- every schedule pays

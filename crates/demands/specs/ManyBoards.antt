@@ -12,7 +12,7 @@ use Rattle.model.specs.Sites.{Site}
 use Rattle.model.specs.Windows.{spare}
 use Rattle.model.specs.Energy.{bandTotal}
 use Rattle.model.specs.Steps.{sharesOf}
-use Rattle.model.specs.Checking.{check, figureOf}
+use Rattle.model.specs.Checking.{fits, check, figureOf}
 use Rattle.model.specs.Accepted.{LeastPlan}
 use Rattle.model.specs.Planning.{planning}
 use Rattle.model.specs.Demands.{ValidTables}
@@ -44,6 +44,9 @@ pub record SameOnBoth (one two : List ℕ) : Type 0 where
   -- a refusal of a plan and its prices, 15 to 24, or of the jobs and marks, is the same refusal with the same place
   pub refusals : (jobs marks plan prices : List ℕ) (number place : ℕ)
       → (check one jobs marks plan prices ≡ refused number place) ↔ (check two jobs marks plan prices ≡ refused number place)
+  -- and a plan that does not fit, without prices, is refused alike
+  pub unfitting : (jobs marks plan : List ℕ) (number place : ℕ)
+      → (fits one jobs marks plan ≡ refused number place) ↔ (fits two jobs marks plan ≡ refused number place)
   -- the reader's clock, for every interval; the spare of every window; a plan's bytes in cell order
   pub settings : (length load : ℕ) → setting one length load ≡ setting two length load
   pub spares : (jobs : List ℕ) (start end : ℕ) → spare one jobs start end ≡ spare two jobs start end

@@ -8,6 +8,7 @@
 --     read_marks bytes                   markTable (readMarks bytes)
 --     setting levels length load         settingAnswer (setting levels length load)
 --     spare levels jobs start end        spareAnswer (spare levels jobs start end)
+--     fits levels jobs marks plan        fitsAnswer (fits levels jobs marks plan)
 --     check levels jobs marks plan       checkAnswer (check levels jobs marks plan prices)
 --       prices
 --     start, next and step_at            stepAnswer (walk plan) at the number of the step
@@ -43,7 +44,7 @@ use Rattle.model.specs.Schedules.{Serves}
 use Rattle.model.specs.LeastEnergy.{CarriedOut}
 use Rattle.model.specs.Steps.{walk, sharesOf}
 use Rattle.model.specs.PriceBytes.{pricesOf}
-use Rattle.model.specs.Checking.{check, figureOf}
+use Rattle.model.specs.Checking.{fits, check, figureOf}
 use Rattle.model.specs.Accepted.{IsPlan, IsPriceList, ScheduleFor, powersFor, exactFor, gapsOf}
 use Rattle.model.specs.Planning.{comesOut, refusal}
 use Rattle.model.specs.Demands.{ValidTables, LongEnough, CanBeServed, NeedsMore, EarliestWindow, SmallestPrices}
@@ -95,6 +96,7 @@ pub record DemandOne : Type 0 where
   pub reading-marks : (bytes : List ℕ) → RefusesBy (From 34 34) (readMarks bytes)
   pub setting-one : (levels : List ℕ) (length load : ℕ) → RefusesBy (λ n. LevelNumbers n ⊎ From 25 26 n) (setting levels length load)
   pub spare-of-window : (levels jobs : List ℕ) (start end : ℕ) → RefusesBy (λ n. TableNumbers n ⊎ From 27 27 n) (spare levels jobs start end)
+  pub fitting : (levels jobs marks plan : List ℕ) → RefusesBy (λ n. SiteNumbers n ⊎ From 15 20 n) (fits levels jobs marks plan)
   pub checking : (levels jobs marks plan prices : List ℕ) → RefusesBy (λ n. SiteNumbers n ⊎ From 15 24 n) (check levels jobs marks plan prices)
   pub walking : (plan : List ℕ) → RefusesBy (From 15 15) (walk plan)
   -- 11 is the case Overfull, with its window and spare

@@ -53,22 +53,23 @@ unfolding check
 check-reads levelBytes jobBytes markBytes plan prices figure e = andThen-answered (readSite levelBytes jobBytes markBytes) _ e
 
 -- the figure of a plan is at most its exact energy, and less than m below it
-pub figure-close : (site : Site) → ValidSite site → (plan : List ℕ)
-    → (gapsOf site * figureOf site plan ≤ exactFor site plan)
-    × (exactFor site plan < gapsOf site * (figureOf site plan + bandCount (workingOf (site .processor))))
-figure-close site valid plan =
-    figure-below-exact (workingOf (site .processor)) (working-curve (allPoints (site .processor)) (valid .processor .rising))
-    (site .jobs) (site .bounds) (sharesOf plan)
+pub figure-close : (site : Site) → ValidSite site → (plan : List ℕ) (figure : ℕ) → figure ≡ figureOf site plan
+    → (gapsOf site * figure ≤ exactFor site plan)
+    × (exactFor site plan < gapsOf site * (figure + bandCount (workingOf (site .processor))))
+figure-close site valid plan figure is =
+    rw is
+    (figure-below-exact (workingOf (site .processor)) (working-curve (allPoints (site .processor)) (valid .processor .rising))
+    (site .jobs) (site .bounds) (sharesOf plan))
 
 -- An accepted plan has least energy, and the figure lies less than m below it.
 pub accepted-is-least : AcceptedIsLeast
 accepted-is-least site valid plan prices figure e =
     let (accepted, figure-is) = check-accepts site plan prices figure .0 e in
-    let ends = figure-close site valid plan in
+    let ends = figure-close site valid plan figure figure-is in
     record {
       least =
           certificate (site .processor .idlePower) (site .processor .levels) (site .jobs) (sound-site valid) (site .bounds) (valid .bounds)
           (sharesOf plan) (accepted .gives) (pricesOf prices) (accepted .fitting);
-      figure-low = rw figure-is (ends .0);
-      figure-high = rw figure-is (ends .1);
+      figure-low = ends .0;
+      figure-high = ends .1;
     }

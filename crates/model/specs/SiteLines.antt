@@ -137,7 +137,7 @@ sameSetting : Outcome Setting → (band extra gap : ℕ) → Bool
 sameSetting (refused number place) band extra gap = false
 sameSetting (answer setting) band extra gap = eqb (setting .band) band && eqb (setting .extra) extra && eqb (setting .gap) gap
 
-sameNumber : Outcome ℕ → (wanted : ℕ) → Bool
+unfoldable pub sameNumber : Outcome ℕ → (wanted : ℕ) → Bool
 sameNumber (refused number place) wanted = false
 sameNumber (answer n) wanted = eqb n wanted
 
