@@ -33,6 +33,11 @@
 extern "C" {
 #endif
 
+struct ramyearly_fits_answer {
+    uint32_t number, place;
+    uint64_t energy;
+};
+
 struct ramyearly_check_answer {
     uint32_t number, place;
     uint64_t energy;
@@ -67,12 +72,24 @@ struct ramyearly_touching_answer {
     uint32_t number, place, open, inside, steps, deadline;
 };
 
-/* Accepts a plan and its price list exactly when the plan gives each job its cycles between release and deadline and the
- * prices fit, and answers the energy figure. Refusals 1 to 10, 31, 32, 34, and then 15 to 24. No schedule over the same levels
- * that meets all deadlines has less than an accepted plan's exact energy. Of the levels only the working frequencies decide what is
- * accepted: with every level table that has the same ones, whatever its voltages, its idle draw and the levels that are dropped, the
- * same plans are accepted with the same prices, each with that table's own figure, or refused with the same number and place. So one
- * plan and one price list serve all such boards, and ramyearly_setting and ramyearly_spare answer the same for them. */
+/* Whether a plan fits, for the bench that makes plans by hand: no prices are lent. Number 0: it gives each job exactly its cycles
+ * between release and deadline, and loads no interval past its length x top frequency. Carried out, it then meets all deadlines, and
+ * energy is its energy figure. Whether some schedule needs less it does not say: that is what prices show, and ramyearly_check alone
+ * promises it. Otherwise refusals 1 to 10, 31, 32, 34, and then 15 to 20, in the order and with the places of ramyearly_check. */
+struct ramyearly_fits_answer ramyearly_fits(
+    const uint8_t *levels, size_t levels_length,
+    const uint8_t *jobs, size_t jobs_length,
+    const uint8_t *marks, size_t marks_length,
+    const uint8_t *plan, size_t plan_length);
+
+/* Accepts a plan and its price list exactly when the plan gives each job its cycles between release and deadline and the prices
+ * fit, and answers the energy figure. Refusals 1 to 10, 31, 32, 34, and then 15 to 24. It runs ramyearly_fits first: what that
+ * refuses has the same number and place here, whatever the prices, and a plan that fits meets one of 21 to 24 or is accepted with
+ * the same energy. No schedule over the same levels that meets all deadlines has less than an accepted plan's exact energy. Of the
+ * levels only the working frequencies decide what is accepted: with every level table that has the same ones, whatever its
+ * voltages, its idle draw and the levels that are dropped, the same plans are accepted with the same prices, each with that
+ * table's own figure, or refused with the same number and place. So one plan and one price list serve all such boards, and
+ * ramyearly_setting and ramyearly_spare answer the same for them. */
 struct ramyearly_check_answer ramyearly_check(
     const uint8_t *levels, size_t levels_length,
     const uint8_t *jobs, size_t jobs_length,
