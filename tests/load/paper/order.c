@@ -7,19 +7,9 @@
 /* The most that an accepted plan has: no cell is there twice. */
 enum { STEPS = PAPER_INTERVALS * PAPER_JOBS };
 
-struct step {
-    uint32_t cell, cycles;
-};
-
-static struct step step_at(struct paper_bytes plan, unsigned s)
-{
-    unsigned steps = paper_number(plan, 2, 2);
-    return (struct step) { paper_number(plan, 4 + 2 * s, 2), paper_number(plan, 4 + 2 * steps + 4 * s, 4) };
-}
-
 static int by_cell(const void *a, const void *b)
 {
-    const struct step *x = a, *y = b;
+    const struct paper_step *x = a, *y = b;
     return (x->cell > y->cell) - (x->cell < y->cell);
 }
 
@@ -29,10 +19,10 @@ static void put(uint8_t *at, unsigned width, uint32_t number)
         at[i] = (uint8_t)(number >> (8 * i));
 }
 
-static void sort_steps(struct paper_bytes plan, unsigned steps, struct step *sorted)
+static void sort_steps(struct paper_bytes plan, unsigned steps, struct paper_step *sorted)
 {
     for (unsigned s = 0; s < steps; s++)
-        sorted[s] = step_at(plan, s);
+        sorted[s] = paper_step(plan, s);
     if (steps > 0)
         qsort(sorted, steps, sizeof *sorted, by_cell);
 }
@@ -40,8 +30,8 @@ static void sort_steps(struct paper_bytes plan, unsigned steps, struct step *sor
 /* The plan's own N and S, then all cells, then all cycles. */
 static void write_ordered(struct paper_bytes plan, uint8_t *ordered)
 {
-    struct step sorted[STEPS];
-    unsigned steps = paper_number(plan, 2, 2);
+    struct paper_step sorted[STEPS];
+    unsigned steps = paper_step_count(plan);
     sort_steps(plan, steps, sorted);
     memcpy(ordered, plan.at, 4);
     for (unsigned s = 0; s < steps; s++) {
@@ -66,8 +56,8 @@ struct ramyearly_order_answer paper_order(struct paper_tables tables, struct pap
 static void take_shares(struct paper_bytes plan, uint32_t shares[STEPS])
 {
     memset(shares, 0, STEPS * sizeof *shares);
-    for (unsigned s = 0; s < paper_number(plan, 2, 2); s++)
-        shares[step_at(plan, s).cell] = step_at(plan, s).cycles;
+    for (unsigned s = 0; s < paper_step_count(plan); s++)
+        shares[paper_step(plan, s).cell] = paper_step(plan, s).cycles;
 }
 
 /* Whether every job has the same cycles in every interval, by two accepted plans for one job table and the same marks. */

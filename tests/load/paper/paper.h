@@ -1,4 +1,4 @@
-/* Document 01 and Changes 1 to 3 and 5 to 7 of document 02 in plain C, written from the pages alone, to be held against the archive.
+/* Document 01 and Changes 1 to 3 and 5 to 8 of document 02 in plain C, written from the pages alone, to be held against the archive.
  * It reads tables, lays out tasks, judges plans, puts them in order, lists what touches a span and says when planning must
  * refuse. It does not plan.
  * Nothing here is meant to be fast: each function follows the words of the pages. */
@@ -101,6 +101,12 @@ struct paper_touched {
     enum paper_list too_short;
 };
 
+/* A step of a plan. */
+struct paper_step {
+    unsigned cell, interval, job;
+    uint32_t cycles;
+};
+
 /* The cycles of each interval. */
 struct paper_loads {
     uint64_t at[PAPER_INTERVALS];
@@ -143,9 +149,17 @@ uint64_t paper_gaps(const struct paper_points *points);
 uint64_t paper_exact(const struct paper_site *site, const struct paper_loads *loads);
 uint64_t paper_carried_out(const struct paper_site *site, const struct paper_loads *loads);
 
-/* check.c */
+/* steps.c */
+unsigned paper_step_count(struct paper_bytes plan);
+struct paper_step paper_step(struct paper_bytes plan, unsigned s);
 struct paper_refusal paper_steps_refusal(const struct paper_jobs *jobs, const struct paper_intervals *intervals, struct paper_bytes plan);
+
+/* fits.c */
 struct paper_loads paper_loads(struct paper_bytes plan);
+struct paper_refusal paper_fits_refusal(const struct paper_site *site, struct paper_bytes plan);
+struct ramyearly_fits_answer paper_fits(struct paper_tables tables, struct paper_bytes plan);
+
+/* check.c */
 struct ramyearly_check_answer paper_check(struct paper_tables tables, struct paper_bytes plan, struct paper_bytes prices);
 
 /* planning.c */
@@ -166,6 +180,9 @@ bool paper_same_shares(struct paper_bytes plan, struct paper_bytes other);
 /* touching.c */
 struct ramyearly_touching_answer paper_touching(struct paper_bytes jobs, struct paper_bytes marks, struct paper_bytes plan, uint32_t start,
     uint32_t end, size_t open_length, size_t inside_length, size_t steps_length, struct paper_touched *touched);
+
+/* carrying.c */
+bool paper_carries_out(const struct paper_site *site, struct paper_bytes plan);
 
 /* search.c */
 bool paper_search(const struct paper_site *site, uint64_t *least);
