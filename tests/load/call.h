@@ -22,6 +22,10 @@ struct paper_bytes call_lend(struct numbers *numbers, unsigned which, const stru
 struct paper_tables call_lend_site(struct numbers *numbers, const struct site_tables *site);
 /* Calls the check. */
 struct ramyearly_check_answer call_check(struct paper_tables site, struct paper_bytes plan, struct paper_bytes prices);
+/* Calls the first half of the check, counts it and holds it against the paper. */
+struct ramyearly_fits_answer call_fits(struct paper_tables site, struct paper_bytes plan);
+/* The same, and holds it against what the check answered for this plan with whatever prices. */
+struct ramyearly_fits_answer call_first_half(struct paper_tables site, struct paper_bytes plan, struct ramyearly_check_answer whole);
 /* Says it when bytes at the start of a part are not the right ones. Nothing is read past the part. */
 void same_bytes(const char *what, const struct guarded *memory, struct part part, struct paper_bytes wanted);
 /* Whether everything looked at since the beginning was right. */

@@ -80,6 +80,12 @@ static void take(struct plan *plan, unsigned cell, uint32_t part)
         remove_step(plan, s);
 }
 
+void move_part(struct plan *plan, unsigned cell, unsigned to, uint32_t part)
+{
+    give(plan, to * 64 + cell % 64, part);
+    take(plan, cell, part);
+}
+
 /* Any interval but this one where the job is open, or this one where there is no other. */
 static unsigned another_open(struct numbers *numbers, const struct paper_site *site, unsigned interval, unsigned job)
 {
@@ -100,10 +106,8 @@ static void move_cycles(struct numbers *numbers, const struct paper_site *site, 
         return;
     unsigned to = another_open(numbers, site, cell / 64, cell % 64);
     uint32_t part = (uint32_t)ONE_OF(numbers, 1, plan->cycles[s], between(numbers, 1, plan->cycles[s]));
-    if (to == cell / 64)
-        return;
-    give(plan, to * 64 + cell % 64, part);
-    take(plan, cell, part);
+    if (to != cell / 64)
+        move_part(plan, cell, to, part);
 }
 
 /* Exchanges cycles of two jobs between two intervals, so that all loads and sums stay. */

@@ -7,11 +7,12 @@
 
 enum { REFUSALS = 34 };
 
-/* What was counted. by_number[0] counts the answers. Of the plans, some have a mark as a bound, and some have as many intervals or
- * open pairs as there can be. Lists too short are those of touching, of which each is counted. */
+/* What was counted. by_number[0] counts the answers, and by_fits those calls that ask whether a plan fits. Of the plans, some have a
+ * mark as a bound, and some have as many intervals or open pairs as there can be. Lists too short are those of touching, of which each
+ * is counted. Of the plans that fit tiny sites, some are least and some are dearer. */
 struct tally {
-    uint64_t calls, plans, accepted, ordered, touched, disagreements, by_number[REFUSALS + 1], too_short[PAPER_LISTS];
-    uint64_t cut, most_intervals, most_pairs;
+    uint64_t calls, plans, accepted, ordered, touched, disagreements, by_number[REFUSALS + 1], by_fits[REFUSALS + 1], too_short[PAPER_LISTS];
+    uint64_t cut, most_intervals, most_pairs, least, dearer;
 };
 
 /* Calls are counted here. */
@@ -30,6 +31,8 @@ struct site_tables {
 void compare_setting(struct numbers *numbers, const struct table *levels, uint32_t length, uint64_t load);
 void compare_spare(struct numbers *numbers, const struct table *levels, const struct table *jobs, uint32_t start, uint32_t end);
 /* Answers what the archive did. */
+struct ramyearly_fits_answer compare_fits(struct numbers *numbers, const struct site_tables *site, const struct table *plan);
+/* The same of the check. Whether the plan fits is asked beside it, and both answers are held against each other. */
 struct ramyearly_check_answer compare_check(struct numbers *numbers, const struct site_tables *site, const struct table *plan,
     const struct table *prices);
 

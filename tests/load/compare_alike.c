@@ -9,6 +9,7 @@ struct answers {
     struct ramyearly_spare_answer spare;
     struct ramyearly_plan_answer planning;
     struct ramyearly_check_answer check;
+    struct ramyearly_fits_answer fits;
     struct ramyearly_order_answer order;
     struct ramyearly_touching_answer touching;
     uint8_t plan[PAPER_PLAN + MOST_MORE], prices[2 + 5 * PAPER_INTERVALS + MOST_MORE], ordered[PAPER_PLAN];
@@ -26,6 +27,7 @@ static void ask_of_plan(struct paper_tables t, struct window span, struct answer
     struct paper_bytes p = { a->plan, 4 + 6 * (size_t)a->planning.steps }, r = { a->prices, 2 + 5 * (size_t)a->planning.intervals };
     a->check = call_check(t, p, r);
     call_count(a->check.number);
+    a->fits = call_first_half(t, p, a->check);
     a->order = ramyearly_order(t.levels.at, t.levels.length, t.jobs.at, t.jobs.length, t.marks.at, t.marks.length, p.at, p.length, r.at, r.length,
         a->ordered, sizeof a->ordered);
     call_count(a->order.number);
@@ -58,6 +60,7 @@ static void leave_energy_out(struct answers *a)
 {
     a->planning.energy = 0;
     a->check.energy = 0;
+    a->fits.energy = 0;
 }
 
 #define ALIKE(field) same(#field " for both sites is the same", memcmp(&one.field, &other.field, sizeof one.field) == 0, 1)
@@ -68,6 +71,7 @@ static void are_alike(void)
     ALIKE(spare);
     ALIKE(planning);
     ALIKE(check);
+    ALIKE(fits);
     ALIKE(order);
     ALIKE(touching);
     ALIKE(plan);

@@ -41,6 +41,7 @@ static void check_ordered(const struct lent *given, const struct lent *written)
     same("the check of the ordered plan: number", found.number, 0);
     same("the check of the ordered plan: place", found.place, 0);
     same("the check of the ordered plan: energy", (int64_t)found.energy, (int64_t)wanted.energy);
+    call_first_half(written->site, written->plan, found);
 }
 
 /* Ordering it again changes nothing. */

@@ -96,6 +96,7 @@ static void judge_plan(const struct buffers *buffers, struct paper_tables t, str
     same("the archive's check of the plan: number", by_archive.number, 0);
     same("the archive's check of the plan: place", by_archive.place, 0);
     same("the archive's check of the plan: energy", (int64_t)by_archive.energy, (int64_t)found.energy);
+    call_first_half(t, p, by_archive);
     if (!call_agrees())
         return;
     shares_match(&site, p, shares);

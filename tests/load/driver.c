@@ -67,10 +67,14 @@ static struct tally total(void)
         all.touched += one->touched;
         all.disagreements += one->disagreements;
         all.cut += one->cut;
+        all.least += one->least;
+        all.dearer += one->dearer;
         all.most_intervals += one->most_intervals;
         all.most_pairs += one->most_pairs;
-        for (unsigned i = 0; i <= REFUSALS; i++)
+        for (unsigned i = 0; i <= REFUSALS; i++) {
             all.by_number[i] += one->by_number[i];
+            all.by_fits[i] += one->by_fits[i];
+        }
         for (unsigned i = 0; i < PAPER_LISTS; i++)
             all.too_short[i] += one->too_short[i];
     }
@@ -79,9 +83,9 @@ static struct tally total(void)
 
 static void print_line(const char *name, const struct tally *t)
 {
-    printf("%-15s %9" PRIu64 " calls %9" PRIu64 " answered %9" PRIu64 " refused %8" PRIu64 " plans %8" PRIu64 " accepted %8" PRIu64 " ordered %8" PRIu64
-        " touched\n",
-        name, t->calls, t->by_number[0], t->calls - t->by_number[0], t->plans, t->accepted, t->ordered, t->touched);
+    printf("%-15s %9" PRIu64 " calls %9" PRIu64 " answered %9" PRIu64 " refused %8" PRIu64 " plans %8" PRIu64 " fitting %8" PRIu64 " accepted %8" PRIu64
+        " ordered %8" PRIu64 " touched\n",
+        name, t->calls, t->by_number[0], t->calls - t->by_number[0], t->plans, t->by_fits[0], t->accepted, t->ordered, t->touched);
 }
 
 /* Answers whether each refusal occurred. */
@@ -111,6 +115,26 @@ static bool print_cut_plans(const struct tally *t)
     return t->cut > 0 && t->most_intervals > 0 && t->most_pairs > 0;
 }
 
+/* Of levels, jobs and marks, and 15 to 20. */
+static bool is_of_fits(unsigned number)
+{
+    return (1 <= number && number <= 10) || (15 <= number && number <= 20) || number == 31 || number == 32 || number == 34;
+}
+
+/* Answers whether each refusal of a plan without prices occurred, and whether plans that fit were least and not. */
+static bool print_fitting(const struct tally *t)
+{
+    bool all = t->by_fits[0] > 0 && t->least > 0 && t->dearer > 0;
+    printf("whether a plan fits: %" PRIu64 " do, refused by number", t->by_fits[0]);
+    for (unsigned i = 1; i <= REFUSALS; i++)
+        if (is_of_fits(i)) {
+            printf(" %u: %" PRIu64, i, t->by_fits[i]);
+            all = all && t->by_fits[i] > 0;
+        }
+    printf("\nplans that fit tiny sites: %" PRIu64 " least, %" PRIu64 " dearer\n", t->least, t->dearer);
+    return all;
+}
+
 static int run(uint64_t calls)
 {
     for (case_number = 0; total().calls < calls; case_number++)
@@ -122,6 +146,10 @@ static int run(uint64_t calls)
     printf("refusals by number:\n");
     bool each = print_refusals(&all);
     each = print_short_lists(&all) && each;
+    if (!print_fitting(&all)) {
+        printf("load: the plans without prices were not of every kind\n");
+        return 1;
+    }
     if (!print_cut_plans(&all)) {
         printf("load: no plan with marks was as large as there can be\n");
         return 1;

@@ -6,6 +6,7 @@
 #include "change.h"
 #include "damage.h"
 #include "exact.h"
+#include "fits_cases.h"
 #include "loads.h"
 #include "marks.h"
 #include "marks_cases.h"
@@ -52,11 +53,11 @@ static void spares(struct numbers *numbers)
     ask_spares(numbers, &site, 4);
 }
 
-/* One of the six functions that take levels or jobs, with tables as they stand. The jobs were made for this site. */
+/* One of the seven functions that take levels or jobs, with tables as they stand. The jobs were made for this site. */
 static void call_any(struct numbers *numbers, const struct paper_site *site)
 {
     uint64_t load = below(numbers, 100);
-    switch (below(numbers, 6)) {
+    switch (below(numbers, 7)) {
     case 0:
         compare_setting(numbers, &levels, 10, load);
         break;
@@ -67,9 +68,12 @@ static void call_any(struct numbers *numbers, const struct paper_site *site)
         compare_check(numbers, &tables, &plan, &prices);
         break;
     case 3:
-        compare_order(numbers, &tables, &plan, &prices, any_buffer(numbers, plan.length), &ordered);
+        compare_fits(numbers, &tables, &plan);
         break;
     case 4:
+        compare_order(numbers, &tables, &plan, &prices, any_buffer(numbers, plan.length), &ordered);
+        break;
+    case 5:
         touch_any(numbers, site, &tables, &plan);
         break;
     default:
@@ -208,6 +212,7 @@ static void tiny_sites(struct numbers *numbers)
     if (serves)
         same("a plan came out and no schedule has less", planned.came_out && planned.exact * q <= slots * paper_gaps(&site.points), 1);
     call_report("the search");
+    fit_tiny_site(numbers, &site, found, least);
 }
 
 /* An idle entry of draw 0 changes no answer and no byte. */
@@ -239,13 +244,14 @@ static void large_sites(struct numbers *numbers)
 struct group groups[GROUPS] = {
     { .name = "settings", .run = settings, .weight = 16 },
     { .name = "spares", .run = spares, .weight = 16 },
-    { .name = "damaged tables", .run = damaged, .weight = 44 },
+    { .name = "damaged tables", .run = damaged, .weight = 40 },
     { .name = "random bytes", .run = random_bytes, .weight = 20 },
     { .name = "planning", .run = planning, .weight = 24 },
-    { .name = "changed plans", .run = changed_plans, .weight = 24 },
-    { .name = "other plans", .run = other_plans, .weight = 18 },
+    { .name = "changed plans", .run = changed_plans, .weight = 20 },
+    { .name = "other plans", .run = other_plans, .weight = 14 },
     { .name = "tiny sites", .run = tiny_sites, .weight = 12 },
     { .name = "free idling", .run = free_idling, .weight = 8 },
+    { .name = "fitting plans", .run = fitting_plans, .weight = 12 },
     { .name = "ordered plans", .run = ordered_plans, .weight = 12 },
     { .name = "touched spans", .run = touched_spans, .weight = 12 },
     { .name = "marked sites", .run = marked_sites, .weight = 12 },

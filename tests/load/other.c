@@ -68,6 +68,20 @@ void full_plan(struct numbers *numbers, const struct paper_site *site, struct pl
         spread_thin(numbers, site, plan, j);
 }
 
+void hand_made_plan(struct numbers *numbers, const struct paper_site *site, struct plan *plan)
+{
+    switch (below(numbers, 4)) {
+    case 0:
+        first_plan(site, plan);
+        break;
+    case 1:
+        full_plan(numbers, site, plan);
+        break;
+    default:
+        any_plan(numbers, site, plan);
+    }
+}
+
 static uint8_t band_price(const struct paper_site *site, unsigned interval, uint64_t load)
 {
     uint64_t length = paper_length(&site->intervals, interval);

@@ -11,6 +11,8 @@ void any_plan(struct numbers *numbers, const struct paper_site *site, struct pla
 void first_plan(const struct paper_site *site, struct plan *plan);
 /* A plan that gives each job cycles in every interval where it is open, if it has so many. */
 void full_plan(struct numbers *numbers, const struct paper_site *site, struct plan *plan);
+/* One of these three. */
+void hand_made_plan(struct numbers *numbers, const struct paper_site *site, struct plan *plan);
 /* The band of each load as the price, m where it is overloaded. */
 void band_prices(const struct paper_site *site, const struct plan *plan, struct prices *prices);
 

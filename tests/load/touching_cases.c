@@ -33,23 +33,10 @@ void touch_any(struct numbers *numbers, const struct paper_site *near, const str
 /* The plan that planning writes, where one comes out; or one that nobody made least. */
 static void make_steps(struct numbers *numbers, const struct paper_site *site)
 {
-    switch (below(numbers, 4)) {
-    case 0:
-        if (compare_plan(numbers, &tables, enough(site), &plan, &prices)) {
-            plan_of_table(&steps, &plan);
-            return;
-        }
-        any_plan(numbers, site, &steps);
-        return;
-    case 1:
-        first_plan(site, &steps);
-        return;
-    case 2:
-        full_plan(numbers, site, &steps);
-        return;
-    default:
-        any_plan(numbers, site, &steps);
-    }
+    if (one_in(numbers, 4) && compare_plan(numbers, &tables, enough(site), &plan, &prices))
+        plan_of_table(&steps, &plan);
+    else
+        hand_made_plan(numbers, site, &steps);
 }
 
 /* Half of the plans have sums that do not add up, though each step is right by itself; some have a change or damaged bytes. */
