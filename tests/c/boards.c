@@ -96,6 +96,7 @@ static void is_least_on(const struct board *board)
     struct ramyearly_plan_answer planned = { .intervals = INTERVALS, .steps = STEPS, .energy = board->energy };
     check_is(board->name, levels, jobs, plan, prices_at(SMALLEST), accepted);
     check_is(board->name, levels, jobs, plan, prices_at(LARGEST), accepted);
+    fits_is(board->name, levels, jobs, plan, (struct ramyearly_fits_answer) { .energy = board->energy });
     check_is(board->name, levels, jobs, plan_of(INTERVALS, STEPS, mixed), prices_at(SMALLEST), accepted);
     order_is(board->name, levels, jobs, plan_of(INTERVALS, STEPS, mixed), prices_at(LARGEST), plan.length, ordered, plan);
     written_is(board->name, plan_is(board->name, levels, jobs, PLAN, PRICES, SHARES, planned), plan, prices_at(SMALLEST), shares, SHARES);

@@ -77,6 +77,7 @@ static void levels_refused(const char *name, struct bytes levels, uint32_t numbe
     struct bytes jobs = cut(one_job(0, 2, 150)), none = { .length = 0 };
     setting_is(name, levels, 0, 1, (struct ramyearly_setting_answer) { .number = number, .place = place });
     spare_is(name, levels, jobs, 2, 2, (struct ramyearly_spare_answer) { .number = number, .place = place });
+    fits_is(name, levels, jobs, none, (struct ramyearly_fits_answer) { .number = number, .place = place });
     check_is(name, levels, jobs, none, none, (struct ramyearly_check_answer) { .number = number, .place = place });
     plan_is(name, levels, jobs, 0, 0, 0, (struct ramyearly_plan_answer) { .number = number, .place = place });
     order_refused(name, levels, jobs, none, none, 0, number, place);

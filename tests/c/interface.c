@@ -172,7 +172,8 @@ int main(void)
     touching();
     marks();
     boards();
+    fits();
     if (!wrong)
-        printf("interface: check, setting, spare, plan, rounds, order and touching answer C as they should\n");
+        printf("interface: check, fits, setting, spare, plan, rounds, order and touching answer C as they should\n");
     return wrong;
 }

@@ -300,6 +300,8 @@ static void most_marks(void)
 static void refused(const char *name, struct bytes marks)
 {
     struct bytes t = level_pair(), jobs = two_jobs(), overfull_jobs = table(4, 1, (const uint32_t[]) { 0, 4, 17 }, 3), nothing = { .length = 0 };
+    fits_marked_is(name, t, jobs, marks, whole_plan(), (struct ramyearly_fits_answer) { .number = 34 });
+    fits_marked_is(name, t, jobs, marks, nothing, (struct ramyearly_fits_answer) { .number = 34 });
     check_marked_is(name, t, jobs, marks, whole_plan(), whole_prices(), (struct ramyearly_check_answer) { .number = 34 });
     check_marked_is(name, t, jobs, marks, nothing, nothing, (struct ramyearly_check_answer) { .number = 34 });
     check_marked_is(name, t, jobs, marks, plan_of(5, 0, NULL), nothing, (struct ramyearly_check_answer) { .number = 34 });

@@ -109,6 +109,23 @@ void spare_is(const char *name, struct bytes level_table, struct bytes job_table
     same(name, a.spare, wanted.spare);
 }
 
+void fits_marked_is(const char *name, struct bytes level_table, struct bytes job_table, struct bytes mark_table, struct bytes plan_table,
+    struct ramyearly_fits_answer wanted)
+{
+    const uint8_t *levels = level_table.at, *jobs = job_table.at, *marks = mark_table.at, *plan = plan_table.at;
+    size_t levels_length = level_table.length, jobs_length = job_table.length, marks_length = mark_table.length;
+    size_t plan_length = plan_table.length;
+    struct ramyearly_fits_answer a = CALL_FITS;
+    same(name, a.number, wanted.number);
+    same(name, a.place, wanted.place);
+    same(name, a.energy, wanted.energy);
+}
+
+void fits_is(const char *name, struct bytes level_table, struct bytes job_table, struct bytes plan_table, struct ramyearly_fits_answer wanted)
+{
+    fits_marked_is(name, level_table, job_table, marks_at(""), plan_table, wanted);
+}
+
 void check_marked_is(const char *name, struct bytes level_table, struct bytes job_table, struct bytes mark_table, struct bytes plan_table,
     struct bytes price_list, struct ramyearly_check_answer wanted)
 {

@@ -55,6 +55,9 @@ struct bytes level_pair(void);
 void same(const char *name, int64_t found, int64_t wanted);
 void setting_is(const char *name, struct bytes level_table, uint32_t length, uint64_t load, struct ramyearly_setting_answer wanted);
 void spare_is(const char *name, struct bytes level_table, struct bytes job_table, uint32_t start, uint32_t end, struct ramyearly_spare_answer wanted);
+void fits_is(const char *name, struct bytes level_table, struct bytes job_table, struct bytes plan_table, struct ramyearly_fits_answer wanted);
+void fits_marked_is(const char *name, struct bytes level_table, struct bytes job_table, struct bytes mark_table, struct bytes plan_table,
+    struct ramyearly_fits_answer wanted);
 void check_is(const char *name, struct bytes level_table, struct bytes job_table, struct bytes plan_table, struct bytes price_list,
     struct ramyearly_check_answer wanted);
 void check_marked_is(const char *name, struct bytes level_table, struct bytes job_table, struct bytes mark_table, struct bytes plan_table,
@@ -105,5 +108,7 @@ void touching(void);
 void marks(void);
 /* boards.c: the cases of one plan on many boards. */
 void boards(void);
+/* fits.c: the cases of whether a plan fits. */
+void fits(void);
 
 #endif
