@@ -73,9 +73,10 @@ struct ramyearly_touching_answer {
 };
 
 /* Whether a plan fits, for the bench that makes plans by hand: no prices are lent. Number 0: it gives each job exactly its cycles
- * between release and deadline, and loads no interval past its length x top frequency. Carried out, it then meets all deadlines, and
- * energy is its energy figure. Whether some schedule needs less it does not say: that is what prices show, and ramyearly_check alone
- * promises it. Otherwise refusals 1 to 10, 31, 32, 34, and then 15 to 20, in the order and with the places of ramyearly_check. */
+ * between release and deadline, and loads no interval past its length x top frequency. Carried out, it then meets all deadlines,
+ * and energy is its energy figure. That no schedule needs less is not said here: prices show it, and of the two only
+ * ramyearly_check, which is lent them, promises it. Otherwise refusals 1 to 10, 31, 32, 34, and then 15 to 20, in the order and
+ * with the places of ramyearly_check. */
 struct ramyearly_fits_answer ramyearly_fits(
     const uint8_t *levels, size_t levels_length,
     const uint8_t *jobs, size_t jobs_length,
