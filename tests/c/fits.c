@@ -241,20 +241,20 @@ static void plans_refused(void)
     refused("past the top twice", CHANGED(0, { 2, 0, 5 }, { 1, 0, 1 }, { 1, 1, 4 }, { 4, 2, 5 }), 20, 1);
 }
 
-/* Each of them beside a later one, which would have another place. */
+/* Each of them beside a later one, which would have another place wherever it can. */
 static void in_order(void)
 {
     refused("15 before 16", with_plan(cut(plan_of(INTERVALS - 1, STEPS, hand_made))), 15, 0);
     refused("15 before 17", with_plan(extended(CHANGED(3, { 5, 2, 5 }).plan)), 15, 0);
-    refused("16 before 17", with_plan(plan_of(INTERVALS + 1, 1, (const uint32_t[][3]) { { 5, 0, 3 } })), 16, 0);
-    refused("16 before 19", with_plan(plan_of(0, 0, NULL)), 16, 0);
+    refused("16 before 17", with_plan(plan_of(INTERVALS + 1, 2, (const uint32_t[][3]) { { 0, 0, 3 }, { 5, 0, 3 } })), 16, 0);
+    refused("16 before 19", with_plan(plan_of(INTERVALS - 1, STEPS - 1, hand_made)), 16, 0);
     refused("17 before 18 at one step", CHANGED(3, { 3, 2, 0 }), 17, 3);
     refused("17 before 18 at a later step", CHANGED(2, { 0, 0, 3 }, { 4, 2, 6 }), 17, 2);
     refused("18 before 17 at a later step", CHANGED(2, { 2, 0, 7 }, { 3, 2, 5 }), 18, 2);
     refused("18 before 19", CHANGED(1, { 2, 0, 3 }, { 4, 2, 6 }), 18, 2);
-    refused("17 before 20", CHANGED(0, { 2, 0, 6 }, { 1, 1, 4 }, { 3, 2, 5 }), 17, 2);
-    /* The third job lacks a cycle, and the first loads the third interval past the top. */
-    refused("19 before 20", CHANGED(0, { 2, 0, 5 }, { 0, 0, 1 }, { 1, 1, 4 }, { 4, 2, 4 }), 19, 2);
+    refused("17 before 20", CHANGED(0, { 2, 0, 6 }, { 3, 2, 5 }, { 1, 1, 4 }), 17, 1);
+    /* The third job lacks a cycle, and the first loads the second interval past the top. */
+    refused("19 before 20", CHANGED(0, { 0, 0, 5 }, { 1, 0, 1 }, { 1, 1, 4 }, { 4, 2, 4 }), 19, 2);
     refused("19 of the first job", CHANGED(1, { 2, 0, 2 }, { 4, 2, 4 }), 19, 0);
 }
 
