@@ -102,9 +102,7 @@ figureOf site plan = energyFigure (workingOf (site .processor)) (site .jobs) (si
 
 -- The first half alone: what fits is answered with the energy figure.
 unfoldable pub fitsFor : Site → (plan : List ℕ) → Outcome ℕ
-fitsFor site plan =
-    fitting site plan
-    (answer (figureOf site plan))
+fitsFor site plan = fitting site plan (answer (figureOf site plan))
 
 -- Fitting (document 02, Change 8). Levels, jobs, marks, then the first half.
 unfoldable pub fits : (levelBytes jobBytes markBytes plan : List ℕ) → Outcome ℕ

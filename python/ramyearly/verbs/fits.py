@@ -25,7 +25,8 @@ def run(arguments, prepare):
         "prints of a plan is read back. Where neither file is there, the plan is that of plan.tbl.\n"
         "\n"
         "With -o a plan that fits is written to OUT as plan.tbl, which the reader's kernel loads, whole or not\n"
-        "at all, over an older one; no price list is written. A site that is refused keeps an older one." + LISTS,
+        "at all, over an older one. No price list is written, and one that is there stays: it is of another\n"
+        "plan, as check tells. Where the plan does not fit, an older plan.tbl stays." + LISTS,
         several=True,
     )
     options = parse_with_out(parser, arguments, left_out="nothing is written")
