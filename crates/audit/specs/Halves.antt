@@ -37,14 +37,14 @@ pub record FittedSite (site : Site) (plan : List ℕ) (table : SiteTable) (times
   pub planned : Planned (table .jobs) (table .bounds) plan loads
 
 -- What the first half answers for each valid site that stands in the arrays and, where the plan fits, leaves.
-pub record SiteFitted (table : SiteTable) (releases deadlines cycles times plan : List ℕ) (answered : FitsAnswer) (sets loads cells : List ℕ) : Type 0 where
+pub record SiteAnswered (table : SiteTable) (releases deadlines cycles times plan : List ℕ) (answered : FitsAnswer) (sets loads cells : List ℕ) : Type 0 where
   pub judged : (site : Site) → ValidSite site → HoldsSite site table releases deadlines cycles times → answered ≡ fitsAnswer (fitsFor site plan)
   pub left : (energy : ℕ) → answered ≡ Fits energy
       → (site : Site) → ValidSite site → HoldsSite site table releases deadlines cycles times → FittedSite site plan table times sets loads
   pub seen : (energy : ℕ) → answered ≡ Fits energy → CellsSeen plan cells
 
 -- The same from bytes.
-pub record FirstHalfRun (levelBytes jobBytes markBytes plan : List ℕ) (half : FirstHalf) (times sets loads cells : List ℕ) : Type 0 where
+pub record BytesAnswered (levelBytes jobBytes markBytes plan : List ℕ) (half : FirstHalf) (times sets loads cells : List ℕ) : Type 0 where
   pub judged : half .answer ≡ fitsAnswer (fits levelBytes jobBytes markBytes plan)
   pub left : (energy : ℕ) → half .answer ≡ Fits energy
       → (site : Site) × (readSite levelBytes jobBytes markBytes ≡ answer site) × FittedSite site plan (half .site) times sets loads

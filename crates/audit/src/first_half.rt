@@ -6,7 +6,7 @@ ghost use Rattle.model.specs.Checking.{fits as fitsOf};
 ghost use Rattle.site.specs.SiteTables.{HoldsSome};
 ghost use Rattle.fitting.specs.SetsHave.{NoJobs};
 ghost use Rattle.audit.specs.Answers.{fitsAnswer};
-ghost use Rattle.audit.specs.Halves.{FirstHalfRun, SiteFitted};
+ghost use Rattle.audit.specs.Halves.{BytesAnswered, SiteAnswered};
 use energy::energy_figure;
 use fitting::Verdict;
 use fitting::fit;
@@ -65,7 +65,7 @@ pub(crate) fn run_first_half(
     cells: &mut [u64; SET_WORDS],
 ) -> FirstHalf
     requires { ⌜ (now times ≡ replicate maxBounds 0) × (now loads ≡ replicate maxIntervals 0) × NoJobs (now sets) × NoJobs (now cells) ⌝ }
-    ensures { λ r. ⌜ FirstHalfRun (now (levels .entry)) (now (jobs .entry)) (now (marks .entry)) (now (plan .entry)) r (now (times .exit)) (now (sets .exit)) (now (loads .exit)) (now (cells .exit)) ⌝ }
+    ensures { λ r. ⌜ BytesAnswered (now (levels .entry)) (now (jobs .entry)) (now (marks .entry)) (now (plan .entry)) r (now (times .exit)) (now (sets .exit)) (now (loads .exit)) (now (cells .exit)) ⌝ }
 {
     let mut releases = [0u64; MAX_JOBS];
     let mut deadlines = [0u64; MAX_JOBS];
@@ -116,7 +116,7 @@ fn fit_site(
 ) -> FitsAnswer
     requires { ⌜ HoldsSome site (now releases) (now deadlines) (now cycles) (now times) ⌝ }
     requires { ⌜ NoJobs (now sets) × (now loads ≡ replicate maxIntervals 0) × NoJobs (now cells) ⌝ }
-    ensures { λ r. ⌜ SiteFitted site (now (releases .entry)) (now (deadlines .entry)) (now (cycles .entry)) (now (times .entry)) (now (plan .entry)) r (now (sets .exit)) (now (loads .exit)) (now (cells .exit)) ⌝ }
+    ensures { λ r. ⌜ SiteAnswered site (now (releases .entry)) (now (deadlines .entry)) (now (cycles .entry)) (now (times .entry)) (now (plan .entry)) r (now (sets .exit)) (now (loads .exit)) (now (cells .exit)) ⌝ }
 {
     let bounds = site.bounds;
     let verdict = fit(
