@@ -1,10 +1,10 @@
 /* The benchmark: times the proved functions and their peers on the same sites in the same run, and holds every optimum
- * against ours. Built WITH_BEFORE it also times the planning of an earlier commit, which is linked as before_plan and takes no
- * marks.
+ * against ours. Built WITH_BEFORE it also times planning and checking of an earlier commit, which are linked as before_plan and
+ * before_check.
  *
  *   bench times            a line of comma-separated values for each site
  *   bench marked           the same for the largest sites with 8 handover marks
- *   bench longest          checking, ordering and touching by the plan with the most steps that there can be
+ *   bench longest          fitting, checking, ordering and touching by the plan with the most steps that there can be
  *   bench stack            the deepest stack of each function over all sites, and of rounds over its largest tables
  *   bench one FAMILY JOBS SEED    one call each, for counting instructions */
 #define _GNU_SOURCE
@@ -144,23 +144,36 @@ struct named {
     void (*call)(void);
 };
 
-/* Our functions and the plain planner, in the order of their columns. */
+/* Our functions and the plain planner, in the order of their columns: what is compared stands side by side. The last four take the
+ * plan with its steps mixed, and the last two are functions from above. */
 static const struct named calls[] = {
     { "plan", call_plan },
 #ifdef WITH_BEFORE
-    { "plan before", call_plan_before },
+    { "plan before", call_plan_before }, { "check before", call_check_before },
 #endif
-    { "check", call_check }, { "setting", call_settings }, { "spare", call_spare }, { "check mixed", call_check_mixed }, { "order", call_order },
-    { "touching", call_touching }, { "plain", call_plain }
+    { "check", call_check }, { "fits", call_fits }, { "setting", call_settings }, { "spare", call_spare }, { "plain", call_plain },
+    { "touching", call_touching }, { "order", call_order }, { "check mixed", call_check_mixed }, { "fits mixed", call_fits_mixed }
 };
-enum { CALLS = sizeof calls / sizeof *calls };
+enum { CALLS = sizeof calls / sizeof *calls, MIXED = CALLS - 4, AGAIN = CALLS - 2 };
+
+/* Has the calls timed, all of them or only the last. */
+static void set_calls(struct timed *timed, int from)
+{
+    for (int k = from; k < CALLS; k++)
+        timed[k - from].call = calls[k].call;
+}
+
+static void print_calls(int from)
+{
+    for (int k = from; k < CALLS; k++)
+        printf(",%s", calls[k].name);
+}
 
 static void time_site(void)
 {
     enum { SOLVING = CALLS, WHOLE = CALLS + PEERS, ALL = CALLS + 2 * PEERS };
     struct timed timed[ALL] = { { 0 } };
-    for (int k = 0; k < CALLS; k++)
-        timed[k].call = calls[k].call;
+    set_calls(timed, 0);
     for (int p = 0; p < PEERS; p++) {
         timed[SOLVING + p] = (struct timed){ .by = time_solving, .peer = peers[p] };
         timed[WHOLE + p] = (struct timed){ .by = time_whole, .peer = peers[p] };
@@ -181,8 +194,7 @@ static void time_site(void)
 static void print_names(void)
 {
     printf("family,jobs,seed,intervals,pairs,bands,steps");
-    for (int k = 0; k < CALLS; k++)
-        printf(",%s", calls[k].name);
+    print_calls(0);
     for (int p = 0; p < PEERS; p++)
         printf(",%s", peers[p]->name);
     for (int p = 0; p < PEERS; p++)
@@ -202,7 +214,6 @@ static void times(void)
             }
 }
 
-/* Planning before plans these sites without their marks. */
 static void marked(void)
 {
     print_names();
@@ -243,43 +254,41 @@ static long depth(void (*call)(void))
 
 static void stacks(void)
 {
-    static const struct named called[] = {
-        { "plan", call_plan },
-#ifdef WITH_BEFORE
-        { "plan before", call_plan_before },
-#endif
-        { "check", call_check }, { "order", call_order }, { "touching", call_touching }, { "setting", call_settings }, { "spare", call_spare }, { "rounds", call_rounds },
-        { "plain", call_plain }
-    };
-    enum { CALLED = sizeof called / sizeof *called };
-    long deepest[CALLED] = { 0 };
+    long deepest[AGAIN] = { 0 };
     long empty = depth(nothing);
     open_tasks();
+    long rounds = depth(call_rounds) - empty;
     for (int family = 0; family < family_count; family++)
         for (int n = 0; n < SIZES; n++)
             for (int seed = 1; seed <= SEEDS; seed++) {
                 open_site(family, sizes[n], seed);
-                for (int k = 0; k < CALLED; k++) {
-                    long d = depth(called[k].call) - empty;
+                for (int k = 0; k < AGAIN; k++) {
+                    long d = depth(calls[k].call) - empty;
                     if (d > deepest[k])
                         deepest[k] = d;
                 }
             }
     printf("function,bytes\n");
-    for (int k = 0; k < CALLED; k++)
-        printf("%s,%ld\n", called[k].name, deepest[k]);
+    for (int k = 0; k < AGAIN; k++)
+        printf("%s,%ld\n", calls[k].name, deepest[k]);
+    printf("rounds,%ld\n", rounds);
 }
 
 static void longest(void)
 {
     open_longest();
-    struct timed timed[] = { { .call = call_check_mixed }, { .call = call_order }, { .call = call_touching } };
-    take_samples(timed, 3);
-    printf("steps,check mixed,order,touching\n%u,%.1f,%.1f,%.1f\n", planned.steps, median(timed[0].samples), median(timed[1].samples),
-        median(timed[2].samples));
+    struct timed timed[CALLS - MIXED] = { { 0 } };
+    set_calls(timed, MIXED);
+    take_samples(timed, CALLS - MIXED);
+    printf("steps");
+    print_calls(MIXED);
+    printf("\n%u", planned.steps);
+    for (int k = 0; k < CALLS - MIXED; k++)
+        printf(",%.1f", median(timed[k].samples));
+    printf("\n");
 }
 
-/* Opening a site calls each planner, checking, ordering and touching once. */
+/* Opening a site calls each planner, each check, fitting, ordering and touching once. */
 static int one(char **words)
 {
     int family = 0;

@@ -49,36 +49,55 @@ void call_plain(void)
     answered = plan_with(plain_plan, &theirs);
 }
 
-#ifdef WITH_BEFORE
-struct ramyearly_plan_answer before_plan(
-    const uint8_t *levels, size_t levels_length,
-    const uint8_t *jobs, size_t jobs_length,
-    uint8_t *plan, size_t plan_length,
-    uint8_t *prices, size_t prices_length,
-    uint32_t *shares, size_t shares_length);
-
-void call_plan_before(void)
+static struct ramyearly_fits_answer fitted(const uint8_t *steps)
 {
-    answered = before_plan(site.level_bytes, site.level_length, site.job_bytes, site.job_length, theirs.plan, sizeof theirs.plan,
-        theirs.prices, sizeof theirs.prices, theirs.shares, sizeof theirs.shares / sizeof *theirs.shares);
+    return ramyearly_fits(site.level_bytes, site.level_length, site.job_bytes, site.job_length, site.mark_bytes, site.mark_length,
+        steps, 4 + 6 * planned.steps);
 }
-#endif
 
-static struct ramyearly_check_answer checked(const uint8_t *steps)
+void call_fits(void)
 {
-    return ramyearly_check(site.level_bytes, site.level_length, site.job_bytes, site.job_length, site.mark_bytes, site.mark_length,
+    kept = fitted(ours.plan).energy;
+}
+
+void call_fits_mixed(void)
+{
+    kept = fitted(mixed).energy;
+}
+
+typedef __typeof__(ramyearly_check) checker;
+
+static struct ramyearly_check_answer check_with(checker *call, const uint8_t *steps)
+{
+    return call(site.level_bytes, site.level_length, site.job_bytes, site.job_length, site.mark_bytes, site.mark_length,
         steps, 4 + 6 * planned.steps, ours.prices, 2 + 5 * planned.intervals);
 }
 
 void call_check(void)
 {
-    kept = checked(ours.plan).energy;
+    kept = check_with(ramyearly_check, ours.plan).energy;
 }
 
 void call_check_mixed(void)
 {
-    kept = checked(mixed).energy;
+    kept = check_with(ramyearly_check, mixed).energy;
 }
+
+#ifdef WITH_BEFORE
+/* They take what ours take: bench/run says of which commits. */
+planner before_plan;
+checker before_check;
+
+void call_plan_before(void)
+{
+    answered = plan_with(before_plan, &theirs);
+}
+
+void call_check_before(void)
+{
+    kept = check_with(before_check, ours.plan).energy;
+}
+#endif
 
 void call_order(void)
 {
@@ -158,6 +177,25 @@ static void same_plan(const char *who, void (*call)(void))
         wrong(who, "another plan");
 }
 
+static void accepts(const char *who, uint32_t number, uint64_t energy)
+{
+    if (number || energy != planned.energy)
+        wrong(who, "does not accept the plan");
+}
+
+/* Whether our plan is accepted with its figure, without prices and with them. */
+static void all_accept(void)
+{
+    struct ramyearly_fits_answer f = fitted(ours.plan);
+    accepts("fitting", f.number, f.energy);
+    struct ramyearly_check_answer c = check_with(ramyearly_check, ours.plan);
+    accepts("checking", c.number, c.energy);
+#ifdef WITH_BEFORE
+    c = check_with(before_check, ours.plan);
+    accepts("checking before", c.number, c.energy);
+#endif
+}
+
 /* Whether all jobs are open in all ticks and inside them, and all steps are listed, in the order of our plan. */
 static void all_touched(void)
 {
@@ -170,7 +208,7 @@ static void all_touched(void)
             wrong("touching", "another cell");
 }
 
-/* Plans the site, and holds what comes out against the check, ordering, touching and the plain planner. */
+/* Plans the site, and holds what comes out against all others. Each is called once: instructions are counted here. */
 static void plan_site(void)
 {
     make_network(&network, &site);
@@ -180,24 +218,22 @@ static void plan_site(void)
         wrong("planning", "refused");
     take_loads();
     same_optimum("planning", &loads_by_band);
-    struct ramyearly_check_answer c = checked(ours.plan);
-    if (c.number || c.energy != planned.energy)
-        wrong("checking", "does not accept the plan");
+    all_accept();
     mix_steps(mixed, ours.plan, planned.steps);
     call_order();
     if (kept != 4 + 6 * planned.steps || memcmp(ordered, ours.plan, kept))
         wrong("ordering", "another plan");
     all_touched();
     same_plan("plain planner", call_plain);
+#ifdef WITH_BEFORE
+    same_plan("planning before", call_plan_before);
+#endif
 }
 
 void open_site(int family, int jobs, int seed)
 {
     make_site(&site, family, jobs, seed);
     plan_site();
-#ifdef WITH_BEFORE
-    same_plan("planning before", call_plan_before);
-#endif
 }
 
 void mark_site(void)

@@ -9,8 +9,8 @@ extern struct site site;
 extern struct network network;
 extern struct ramyearly_plan_answer planned;
 
-/* Makes the site of a family without marks and plans it. What comes out is held against the check, ordering, touching, the plain
- * planner and, where it is linked, planning before. */
+/* Makes the site of a family without marks and plans it. What comes out is held against both halves of the check, ordering, touching,
+ * the plain planner and, where they are linked, planning and checking before. */
 void open_site(int family, int jobs, int seed);
 /* Gives the site that is open marks and plans it again. Its least exact energy must stay. */
 void mark_site(void);
@@ -19,9 +19,11 @@ void open_longest(void);
 /* The most tasks and jobs that rounds can be given. */
 void open_tasks(void);
 
-/* On the open site; checking and ordering by the plan as it came out or with its steps mixed, touching of all ticks. */
+/* On the open site; fitting, checking and ordering by the plan as it came out or with its steps mixed, touching of all ticks. */
 void call_plan(void);
 void call_plain(void);
+void call_fits(void);
+void call_fits_mixed(void);
 void call_check(void);
 void call_check_mixed(void);
 void call_order(void);
@@ -31,8 +33,9 @@ void call_settings(void);
 void call_spare(void);
 void call_rounds(void);
 #ifdef WITH_BEFORE
-/* Planning of an earlier commit, without marks. */
+/* Those of an earlier commit. */
 void call_plan_before(void);
+void call_check_before(void);
 #endif
 
 /* Whether another solver's optimum is ours. */

@@ -6,9 +6,10 @@ import sys
 
 FAMILY = "worst"
 WIDTH, HEIGHT, LEFT, RIGHT, TOP, BOTTOM = 760, 460, 70, 150, 44, 52
-NAMES = {"plan": "planning", "plan before": "planning before", "check": "checking", "plain": "plain C planner"}
-COLOURS = {"plan": "#b3261e", "plan before": "#e08a84", "check": "#1f6f43", "plain": "#8a5a00", "LEMON": "#1b4f9c", "GLPK": "#6b6b6b",
-           "CLP": "#7a3e9d"}
+NAMES = {"plan": "planning", "plan before": "planning before", "check": "checking", "check before": "checking before", "fits": "fitting",
+         "plain": "plain C planner"}
+COLOURS = {"plan": "#b3261e", "plan before": "#e08a84", "check": "#1f6f43", "check before": "#8fb8a1", "fits": "#00838f",
+           "plain": "#8a5a00", "LEMON": "#1b4f9c", "GLPK": "#6b6b6b", "CLP": "#7a3e9d"}
 
 
 def label(nanoseconds):

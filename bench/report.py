@@ -7,7 +7,8 @@ import statistics
 import sys
 
 WHOLE = " whole"  # a peer's time with building its model
-BEFORE = "plan before"  # planning of an earlier commit
+BEFORE = " before"  # the same function of an earlier commit
+NAMES = {"plan": "planning", "check": "checking"}  # what may be measured before and now
 TAIL = 8  # growth is fitted from this many jobs on: below it the fixed costs of a call are most of the time
 PEER = "LEMON"  # the solver that the goals name, the fastest of them
 EASY = ("small", "chains")  # where the flow is easy, so that other work shows in the growth
@@ -42,7 +43,10 @@ class Times:
         self.sizes = sorted({int(r["jobs"]) for r in rows})
         self.cells = [(f, n) for f in self.families for n in self.sizes]
         self.peers = [c[: -len(WHOLE)] for c in rows[0] if c.endswith(WHOLE)]
-        self.plans = ["plan"] + [BEFORE] * (BEFORE in rows[0])
+        self.before = [c for c in NAMES if c + BEFORE in rows[0]]
+
+    def with_before(self, column):
+        return [column] + [column + BEFORE] * (column in self.before)
 
     def sites(self, family, jobs):
         return [r for r in self.rows if r["family"] == family and int(r["jobs"]) == jobs]
@@ -52,6 +56,10 @@ class Times:
 
     def ratio(self, family, jobs, above, below):
         return statistics.median(float(r[above]) / float(r[below]) for r in self.sites(family, jobs))
+
+    def faster(self, family, jobs, column):
+        """How often the time of now goes into that of before."""
+        return self.ratio(family, jobs, column + BEFORE, column)
 
     def fastest(self, family, jobs, whole):
         """How often planning goes into the time of the fastest general solver."""
@@ -76,18 +84,25 @@ class Times:
                 / math.log(self.median(family, n, over) / self.median(family, m, over)))
 
 
+def now_and_before(t, column):
+    name = NAMES[column]
+    t.grid(f"{name.capitalize()}, microseconds", lambda f, n: t.median(f, n, column) / 1000)
+    if column in t.before:
+        t.grid(f"{name.capitalize()} before, microseconds", lambda f, n: t.median(f, n, column + BEFORE) / 1000)
+        t.grid(f"Time of {name} before / time of {name} (above 1: {name} is faster now)", lambda f, n: t.faster(f, n, column))
+
+
 def grids(t):
-    t.grid("Planning, microseconds", lambda f, n: t.median(f, n, "plan") / 1000)
-    if BEFORE in t.plans:
-        t.grid("Planning before, microseconds", lambda f, n: t.median(f, n, BEFORE) / 1000)
-        t.grid("Time of planning before / time of planning (above 1: planning is faster now)", lambda f, n: t.ratio(f, n, BEFORE, "plan"))
+    now_and_before(t, "plan")
     for peer in t.peers:
         t.grid(f"Time of {peer}, building and solving / time of planning (above 1: planning is faster)",
                lambda f, n: t.ratio(f, n, peer + WHOLE, "plan"))
         t.grid(f"Time of {peer}, solving alone / time of planning", lambda f, n: t.ratio(f, n, peer, "plan"))
     t.grid("Time of planning / time of the plain C planner (below 1: planning is faster)", lambda f, n: t.ratio(f, n, "plan", "plain"))
-    t.grid("Checking, microseconds", lambda f, n: t.median(f, n, "check") / 1000)
+    now_and_before(t, "check")
     t.grid("Time of planning / time of checking", lambda f, n: t.ratio(f, n, "plan", "check"))
+    t.grid("Fitting, the first half of the check, microseconds", lambda f, n: t.median(f, n, "fits") / 1000)
+    t.grid("Time of fitting / time of checking", lambda f, n: t.ratio(f, n, "fits", "check"))
     t.grid("Ordering a plan whose steps are mixed, microseconds", lambda f, n: t.median(f, n, "order") / 1000)
     t.grid("Time of ordering / time of checking the same plan", lambda f, n: t.ratio(f, n, "order", "check mixed"))
     t.grid("Listing what touches all ticks, by the same plan, microseconds", lambda f, n: t.median(f, n, "touching") / 1000)
@@ -96,30 +111,33 @@ def grids(t):
     table(f"Sites of {last} jobs: sizes, and one call of setting and of spare, nanoseconds",
           ["family", "intervals", "pairs K", "bands", "steps", "setting", "spare"],
           [[f] + [f"{t.median(f, last, c):.0f}" for c in ("intervals", "pairs", "bands", "steps", "setting", "spare")] for f in t.families])
-    columns = t.plans + ["check", "plain"] + t.peers
+    plans = t.with_before("plan")
+    columns = plans + t.with_before("check") + ["fits", "plain"] + t.peers
     for over, name in (("jobs", "the number of jobs"), ("pairs", "the number of pairs K")):
         table(f"Growth: exponent of {name}, fitted from {TAIL} to {last} jobs, and planning's from {t.sizes[-2]} to {last} alone",
-              ["family"] + columns + [f"{p}, last" for p in t.plans],
-              [[f] + [f"{t.exponent(f, c, over):.2f}" for c in columns] + [f"{t.last_step(f, p, over):.2f}" for p in t.plans]
+              ["family"] + columns + [f"{p}, last" for p in plans],
+              [[f] + [f"{t.exponent(f, c, over):.2f}" for c in columns] + [f"{t.last_step(f, p, over):.2f}" for p in plans]
                for f in t.families])
 
 
 def marked_sites(t, folder):
-    """The largest sites with 8 handover marks, and how much longer each call takes than without them."""
+    """The largest sites with 8 handover marks: how much longer each call takes than without them, and the times before / now."""
     rows = read(folder, "marked.csv")
     if not rows:
         return
     marked, last = Times(rows), t.sizes[-1]
-    columns = ("plan", "plain", "check", "order", "touching")
+    columns = ("plan", "plain", "check", "fits", "order", "touching")
 
     def longer(family, column):
         sites = zip(marked.sites(family, last), t.sites(family, last))
         return short(statistics.median(float(with_marks[column]) / float(without[column]) for with_marks, without in sites))
 
     table(f"Sites of {last} jobs with 8 marks: sizes, planning in microseconds, and times / times without marks",
-          ["family", "intervals", "pairs K", "steps", "planning"] + [f"{c}, ratio" for c in columns],
+          ["family", "intervals", "pairs K", "steps", "planning"] + [f"{c}, ratio" for c in columns]
+          + [f"{c}{BEFORE} / {c}" for c in marked.before],
           [[f] + [f"{marked.median(f, last, c):.0f}" for c in ("intervals", "pairs", "steps")]
-           + [short(marked.median(f, last, "plan") / 1000)] + [longer(f, c) for c in columns] for f in marked.families])
+           + [short(marked.median(f, last, "plan") / 1000)] + [longer(f, c) for c in columns]
+           + [short(marked.faster(f, last, c)) for c in marked.before] for f in marked.families])
 
 
 def longest_plans(folder):
@@ -134,9 +152,9 @@ def share_of_check(r, column):
 
 
 def instructions(folder):
-    names = {"ramyearly_plan": "plan", "before_plan": BEFORE, "plain_plan": "plain", "ramyearly_check": "check", "ramyearly_order": "order",
-             "ramyearly_touching": "touching"}
-    ratios = [(BEFORE, "plan"), ("plan", "plain"), ("plan", "check"), ("order", "check"), ("touching", "check")]
+    names = {"ramyearly_plan": "plan", "before_plan": "plan" + BEFORE, "plain_plan": "plain", "ramyearly_check": "check",
+             "before_check": "check" + BEFORE, "ramyearly_fits": "fits", "ramyearly_order": "order", "ramyearly_touching": "touching"}
+    ratios = [(c + BEFORE, c) for c in NAMES] + [("plan", "plain")] + [(c, "check") for c in ("plan", "fits", "order", "touching")]
     counts = {}
     for r in read(folder, "instructions.csv"):
         counts.setdefault((r["family"], r["jobs"]), {})[names[r["function"]]] = int(r["instructions"])
@@ -148,10 +166,11 @@ def instructions(folder):
 
 
 def others(folder):
-    table("The longest plans, their steps mixed: checking, ordering and listing what touches all ticks, microseconds",
-          ["plan", "steps", "checking", "ordering", "listing", "ordering / checking", "listing / checking"],
-          [[name, r["steps"]] + [short(float(r[c]) / 1000) for c in ("check mixed", "order", "touching")]
-           + [short(share_of_check(r, c)) for c in ("order", "touching")] for name, r in longest_plans(folder)])
+    beside = {"fits mixed": "fitting", "order": "ordering", "touching": "listing"}
+    table("The longest plans, their steps mixed: checking, fitting, ordering and listing what touches all ticks, microseconds",
+          ["plan", "steps", "checking", *beside.values()] + [f"{name} / checking" for name in beside.values()],
+          [[name, r["steps"]] + [short(float(r[c]) / 1000) for c in ("check mixed", *beside)]
+           + [short(share_of_check(r, c)) for c in beside] for name, r in longest_plans(folder)])
     stack = read(folder, "stack.csv")
     table("Deepest stack over all sites, bytes", [r["function"] for r in stack], [[r["bytes"] for r in stack]])
     size = read(folder, "size.csv")
@@ -197,9 +216,9 @@ def goals(t):
     slopes = {f: (t.exponent(f, "plan", "jobs"), t.last_step(f, "plan", "jobs")) for f in t.families if f in EASY}
     goal(f"planning grows at most quadratically in the number of jobs on {' and '.join(slopes)}", all(max(s) <= 2 for s in slopes.values()),
          "exponents (fit, last step) " + ", ".join(f"{f} {fit:.2f} and {last:.2f}" for f, (fit, last) in slopes.items()))
-    if BEFORE in t.plans:
-        faster = lambda c: t.ratio(*c, BEFORE, "plan")
-        print(f"planning before / planning: {span(t.cells, faster)}; faster now in {count(t.cells, lambda c: faster(c) > 1)}")
+    for column in t.before:
+        faster = lambda c: t.faster(*c, column)
+        print(f"{NAMES[column]} before / {NAMES[column]}: {span(t.cells, faster)}; faster now in {count(t.cells, lambda c: faster(c) > 1)}")
 
 
 def earlier_goals(t, folder):
@@ -236,8 +255,8 @@ def figures(folder):
     found["plain, largest"] = extreme(max, t.cells, lambda c: t.ratio(*c, "plan", "plain"))
     for f in EASY:
         found[f"growth of {f}"] = f"{t.exponent(f, 'plan', 'jobs'):.2f} and {t.last_step(f, 'plan', 'jobs'):.2f}"
-    if BEFORE in t.plans:
-        found["before / now, smallest"] = extreme(min, t.cells, lambda c: t.ratio(*c, BEFORE, "plan"))
+    for column in t.before:
+        found[f"{NAMES[column]} before / now, smallest"] = extreme(min, t.cells, lambda c: t.faster(*c, column))
     return found
 
 
@@ -245,8 +264,9 @@ def all_tables(folder):
     run = run_of(folder)
     print(f"measured: {run['date']}\nmachine: {run['machine']}\ncompilers: {run['compilers']}")
     times = Times(read(folder, "times.csv"))
-    writers = "the plain planner and planning before write" if BEFORE in times.plans else "the plain planner writes"
+    writers = "the plain planner and planning before write" if "plan" in times.before else "the plain planner writes"
     print(f"{len(times.rows)} sites; {writers} the same bytes as ours"
+          + (", checking before accepts them" if "check" in times.before else "")
           + (f", and {', '.join(times.peers)} find the same exact energy" if times.peers else ""))
     grids(times)
     marked_sites(times, folder)
