@@ -1,15 +1,15 @@
--- The second half of the check after the first, one law for each way out of the code; and the check from bytes where the first half
--- refused, and where it passed.
+-- The second half of the check, one law for each way out of the code; and the check of a site where the first half refused, and where it
+-- passed.
 -- Assumes nothing.
-use mathlib.Core.Path.{_≡_, refl, sym, _∙_, ap}
+use mathlib.Core.Path.{_≡_, sym, _∙_}
 use mathlib.Core.List.{List}
 use Prim.Native.Nat.{ℕ}
 use native.Mathlib.Omega.{arith}
 use Rattle.model.specs.Outcome.{Outcome, refused, answer}
-use Rattle.model.specs.Sites.{Site, readSite}
-use Rattle.model.specs.Checking.{pricing, fits, check}
+use Rattle.model.specs.Sites.{Site}
+use Rattle.model.specs.Checking.{pricing, fitsFor, checkFor}
 use Rattle.model.proofs.PricingHalf.{after-pricing}
-use Rattle.model.proofs.TwoHalves.{check-goes-on}
+use Rattle.model.proofs.TwoHalves.{check-runs-fits}
 use Rattle.fitting.specs.declared.Verdict.{Verdict}
 use Rattle.fitting.specs.declared.Verdict.the-variants.{Passed, Refused}
 use Rattle.fitting.specs.Verdicts.{verdictOf, passed}
@@ -43,15 +43,11 @@ fits-as : (outcome : Outcome ℕ) (energy : ℕ) → Fits energy ≡ fitsAnswer 
 fits-as (refused n p) energy e = let z : _≡_ {A = ℕ} 0 1 = cc e in absurd (omega (arith, z))
 fits-as (answer figure) energy e = cc e
 
-module _ (levelBytes jobBytes markBytes plan prices : List ℕ) where
-  pub check-refused : (number place : ℕ) → RefusedPlan number place ≡ fitsAnswer (fits levelBytes jobBytes markBytes plan)
-      → RefusedCheck number place ≡ checkAnswer (check levelBytes jobBytes markBytes plan prices)
-  check-refused number place e =
-      rw (check-goes-on levelBytes jobBytes markBytes plan prices, refused-as (fits levelBytes jobBytes markBytes plan) number place e)
+module _ (site : Site) (plan prices : List ℕ) where
+  pub check-refused : (number place : ℕ) → RefusedPlan number place ≡ fitsAnswer (fitsFor site plan)
+      → RefusedCheck number place ≡ checkAnswer (checkFor site plan prices)
+  check-refused number place e = rw (check-runs-fits site plan prices, refused-as (fitsFor site plan) number place e)
 
-  pub check-continued : (site : Site) → readSite levelBytes jobBytes markBytes ≡ answer site
-      → (energy : ℕ) → Fits energy ≡ fitsAnswer (fits levelBytes jobBytes markBytes plan)
-      → check levelBytes jobBytes markBytes plan prices ≡ pricing site plan prices (answer energy)
-  check-continued site read energy e =
-      check-goes-on levelBytes jobBytes markBytes plan prices
-      ∙ rw (fits-as (fits levelBytes jobBytes markBytes plan) energy e, read)
+  pub check-continued : (energy : ℕ) → Fits energy ≡ fitsAnswer (fitsFor site plan)
+      → checkFor site plan prices ≡ pricing site plan prices (answer energy)
+  check-continued energy e = check-runs-fits site plan prices ∙ rw (fits-as (fitsFor site plan) energy e)

@@ -4,11 +4,10 @@ use mathlib.Core.Path.{_≡_}
 use mathlib.Core.List.{List}
 use lib.ListN.{length}
 use Rattle.model.specs.Limits.{maxJobs}
-use Rattle.model.specs.Outcome.{answer}
 use Rattle.model.specs.Bands.{Curve}
 use Rattle.model.specs.Processors.{workingOf}
-use Rattle.model.specs.Sites.{Site, ValidSite, readSite}
-use Rattle.model.specs.Checking.{fitsFor, fits}
+use Rattle.model.specs.Sites.{Site, ValidSite}
+use Rattle.model.specs.Checking.{fitsFor}
 use Rattle.levels.specs.PointTables.{pointsOf, SmallPoints}
 use Rattle.intervals.specs.Times.{SmallBounds}
 use Rattle.site.specs.declared.SiteTable.{SiteTable}
@@ -20,7 +19,6 @@ use Rattle.fitting.specs.FirstHalf.{siteIn}
 use Rattle.pricing.specs.SecondHalf.{Planned}
 use Rattle.audit.specs.declared.first_half.FitsAnswer.{FitsAnswer}
 use Rattle.audit.specs.declared.first_half.FitsAnswer.the-variants.{Fits}
-use Rattle.audit.specs.declared.first_half.FirstHalf.{FirstHalf}
 use Rattle.audit.specs.Answers.{fitsAnswer}
 
 -- A site with a plan that fits it, in what the first half leaves: the site's working points, the times of its bounds, the open sets
@@ -42,10 +40,3 @@ pub record SiteAnswered (table : SiteTable) (releases deadlines cycles times pla
   pub left : (energy : ℕ) → answered ≡ Fits energy
       → (site : Site) → ValidSite site → HoldsSite site table releases deadlines cycles times → FittedSite site plan table times sets loads
   pub seen : (energy : ℕ) → answered ≡ Fits energy → CellsSeen plan cells
-
--- The same from bytes.
-pub record BytesAnswered (levelBytes jobBytes markBytes plan : List ℕ) (half : FirstHalf) (times sets loads cells : List ℕ) : Type 0 where
-  pub judged : half .answer ≡ fitsAnswer (fits levelBytes jobBytes markBytes plan)
-  pub left : (energy : ℕ) → half .answer ≡ Fits energy
-      → (site : Site) × (readSite levelBytes jobBytes markBytes ≡ answer site) × FittedSite site plan (half .site) times sets loads
-  pub seen : (energy : ℕ) → half .answer ≡ Fits energy → CellsSeen plan cells

@@ -2,21 +2,25 @@
 ghost use mathlib.Core.Path.{_≡_};
 ghost use Prim.Native.Nat.{ℕ};
 ghost use Rattle.model.specs.Outcome.{answer};
-ghost use Rattle.model.specs.Sites.{Site};
-ghost use Rattle.model.specs.Checking.{pricing, check as checkOf};
+ghost use Rattle.model.specs.Sites.{Site, ValidSite};
+ghost use Rattle.model.specs.Checking.{pricing, checkFor, check as checkOf};
+ghost use Rattle.site.specs.SiteTables.{HoldsSite, HoldsSome};
 ghost use Rattle.fitting.specs.SetsHave.{NoJobs};
 ghost use Rattle.fitting.specs.SeenCells.{CellsSeen};
 ghost use Rattle.audit.specs.declared.checking.CheckAnswer.the-variants.{Accepted};
 ghost use Rattle.audit.specs.Answers.{checkAnswer};
 ghost use Rattle.audit.specs.Halves.{FittedSite};
 use crate::first_half::FitsAnswer;
-use crate::first_half::run_first_half;
+use crate::first_half::fit_site;
 use fitting::Verdict;
 use job_sets::SET_WORDS;
 use model::MAX_BOUNDS;
 use model::MAX_INTERVALS;
+use model::MAX_JOBS;
 use pricing::price;
+use site::SiteReading;
 use site::SiteTable;
+use site::read_site;
 
 // The energy figure of an accepted plan, or the refusal's number and place.
 pub enum CheckAnswer {
@@ -46,24 +50,67 @@ pub fn check_cells(
     ensures { λ r. ⌜ r ≡ checkAnswer (checkOf (now (levels .entry)) (now (jobs .entry)) (now (marks .entry)) (now (plan .entry)) (now (prices .entry))) ⌝ }
     ensures { λ r. ⌜ ((energy : ℕ) → r ≡ Accepted energy → CellsSeen (now (plan .entry)) (now (cells .exit))) ⌝ }
 {
+    let mut releases = [0u64; MAX_JOBS];
+    let mut deadlines = [0u64; MAX_JOBS];
+    let mut cycles = [0u64; MAX_JOBS];
     let mut times = [0u64; MAX_BOUNDS];
-    let mut sets = [0u64; SET_WORDS];
-    let mut loads = [0u64; MAX_INTERVALS];
-    let half = run_first_half(
+    let site = read_site(
         levels,
         jobs,
         marks,
-        plan,
+        &mut releases,
+        &mut deadlines,
+        &mut cycles,
         &mut times,
+    );
+    let reading = site.reading;
+    match reading {
+        SiteReading::Refused { number, place } => CheckAnswer::Refused { number, place },
+        SiteReading::Read => check_site(
+            site,
+            &releases,
+            &deadlines,
+            &cycles,
+            &times,
+            plan,
+            prices,
+            cells,
+        ),
+    }
+}
+
+// The check where the site was read: the first half and, where the plan fits, the second.
+fn check_site(
+    site: SiteTable,
+    releases: &[u64; MAX_JOBS],
+    deadlines: &[u64; MAX_JOBS],
+    cycles: &[u64; MAX_JOBS],
+    times: &[u64; MAX_BOUNDS],
+    plan: &[u8],
+    prices: &[u8],
+    cells: &mut [u64; SET_WORDS],
+) -> CheckAnswer
+    requires { ⌜ HoldsSome site (now releases) (now deadlines) (now cycles) (now times) × NoJobs (now cells) ⌝ }
+    ensures { λ r. ⌜ ((s : Site) → ValidSite s → HoldsSite s site (now (releases .entry)) (now (deadlines .entry)) (now (cycles .entry)) (now (times .entry)) → r ≡ checkAnswer (checkFor s (now (plan .entry)) (now (prices .entry)))) ⌝ }
+    ensures { λ r. ⌜ ((energy : ℕ) → r ≡ Accepted energy → CellsSeen (now (plan .entry)) (now (cells .exit))) ⌝ }
+{
+    let mut sets = [0u64; SET_WORDS];
+    let mut loads = [0u64; MAX_INTERVALS];
+    let first = fit_site(
+        site,
+        releases,
+        deadlines,
+        cycles,
+        times,
+        plan,
         &mut sets,
         &mut loads,
         cells,
     );
-    let answer = half.answer;
-    match answer {
+    match first {
         FitsAnswer::Refused { number, place } => CheckAnswer::Refused { number, place },
         FitsAnswer::Fits { energy } => {
-            check_prices(energy, half.site, &times, &sets, &loads, plan, prices)
+            check_prices(energy, site, times, &sets, &loads, plan, prices)
         }
     }
 }

@@ -1,12 +1,12 @@
 // The first half of the check, from bytes: whether a plan fits a site, without prices.
 ghost use mathlib.Core.Path.{_≡_};
 ghost use lib.ListN.{replicate};
-ghost use Rattle.model.specs.Limits.{maxBounds, maxIntervals};
+ghost use Rattle.model.specs.Limits.{maxIntervals};
 ghost use Rattle.model.specs.Checking.{fits as fitsOf};
 ghost use Rattle.site.specs.SiteTables.{HoldsSome};
 ghost use Rattle.fitting.specs.SetsHave.{NoJobs};
 ghost use Rattle.audit.specs.Answers.{fitsAnswer};
-ghost use Rattle.audit.specs.Halves.{BytesAnswered, SiteAnswered};
+ghost use Rattle.audit.specs.Halves.{SiteAnswered};
 use energy::energy_figure;
 use fitting::Verdict;
 use fitting::fit;
@@ -24,52 +24,15 @@ pub enum FitsAnswer {
     Refused { number: u32, place: u32 },
 }
 
-// What the first half answers, with the site that it read, which the second half works on too.
-pub struct FirstHalf {
-    pub answer: FitsAnswer,
-    pub site: SiteTable,
-}
-
 // Checks that a plan fits a level table, a job table and handover marks: refusals 15 to 20 after those of the tables. Any bytes are
 // answered.
 pub fn fits(levels: &[u8], jobs: &[u8], marks: &[u8], plan: &[u8]) -> FitsAnswer
     ensures { λ r. ⌜ r ≡ fitsAnswer (fitsOf (now (levels .entry)) (now (jobs .entry)) (now (marks .entry)) (now (plan .entry))) ⌝ }
 {
-    let mut times = [0u64; MAX_BOUNDS];
-    let mut sets = [0u64; SET_WORDS];
-    let mut loads = [0u64; MAX_INTERVALS];
-    let mut cells = [0u64; SET_WORDS];
-    let half = run_first_half(
-        levels,
-        jobs,
-        marks,
-        plan,
-        &mut times,
-        &mut sets,
-        &mut loads,
-        &mut cells,
-    );
-    half.answer
-}
-
-// The first half, which also leaves what the second needs where the plan fits: the times of the site's bounds, the open sets of its
-// intervals, the loads that the plan makes there and the cells of its steps. What a refused plan leaves there is free.
-pub(crate) fn run_first_half(
-    levels: &[u8],
-    jobs: &[u8],
-    marks: &[u8],
-    plan: &[u8],
-    times: &mut [u64; MAX_BOUNDS],
-    sets: &mut [u64; SET_WORDS],
-    loads: &mut [u64; MAX_INTERVALS],
-    cells: &mut [u64; SET_WORDS],
-) -> FirstHalf
-    requires { ⌜ (now times ≡ replicate maxBounds 0) × (now loads ≡ replicate maxIntervals 0) × NoJobs (now sets) × NoJobs (now cells) ⌝ }
-    ensures { λ r. ⌜ BytesAnswered (now (levels .entry)) (now (jobs .entry)) (now (marks .entry)) (now (plan .entry)) r (now (times .exit)) (now (sets .exit)) (now (loads .exit)) (now (cells .exit)) ⌝ }
-{
     let mut releases = [0u64; MAX_JOBS];
     let mut deadlines = [0u64; MAX_JOBS];
     let mut cycles = [0u64; MAX_JOBS];
+    let mut times = [0u64; MAX_BOUNDS];
     let site = read_site(
         levels,
         jobs,
@@ -77,33 +40,28 @@ pub(crate) fn run_first_half(
         &mut releases,
         &mut deadlines,
         &mut cycles,
-        times,
+        &mut times,
     );
     let reading = site.reading;
     match reading {
-        SiteReading::Refused { number, place } => FirstHalf {
-            answer: FitsAnswer::Refused { number, place },
+        SiteReading::Refused { number, place } => FitsAnswer::Refused { number, place },
+        SiteReading::Read => fit_site(
             site,
-        },
-        SiteReading::Read => {
-            let answer = fit_site(
-                site,
-                &releases,
-                &deadlines,
-                &cycles,
-                times,
-                plan,
-                sets,
-                loads,
-                cells,
-            );
-            FirstHalf { answer, site }
-        }
+            &releases,
+            &deadlines,
+            &cycles,
+            &times,
+            plan,
+            &mut [0; SET_WORDS],
+            &mut [0; MAX_INTERVALS],
+            &mut [0; SET_WORDS],
+        ),
     }
 }
 
-// The first half where the site was read: 15 to 20, and the energy figure.
-fn fit_site(
+// The first half where the site was read: 15 to 20, and the energy figure. Where the plan fits it leaves what the second half needs: the
+// open sets of the intervals, the loads that the plan makes there, and the cells of its steps. What a refused plan leaves there is free.
+pub(crate) fn fit_site(
     site: SiteTable,
     releases: &[u64; MAX_JOBS],
     deadlines: &[u64; MAX_JOBS],

@@ -1,54 +1,48 @@
--- `checking::check_cells` meets its contract: what the first half refuses is refused, and otherwise the second goes on with what it left.
+-- `checking::check_cells` meets its contract: a site is refused as reading refuses it, and the site that was read is checked.
 -- Assumes nothing.
-use mathlib.Core.Path.{refl, sym, _∙_}
-use lib.ListN.{replicate}
 use borrow.Author.Needs.{needs}
-use Rattle.model.specs.Limits.{maxBounds, maxIntervals}
-use Rattle.fitting.proofs.SetsHave.{no-jobs}
-use Rattle.audit.proofs.SecondHalf.{refused-accepted, check-refused, check-continued}
+use Rattle.model.specs.Checking.{check as checkOf}
+use Rattle.model.proofs.Sites.{sites-are-valid}
+use Rattle.site.proofs.ReadSites.{refused-site, held-site}
+use Rattle.audit.proofs.SecondHalf.{refused-accepted}
 use Rattle.audit.proofs.checking.check_cells.Statement.{statement}
 use Rattle.audit.proofs.checking.check_cells.Tie as tie
 
-run-first-half-requires : tie.Need-run-first-half-requires
-run-first-half-requires c κs =
-    let start = c .before .before .before .before .before .before .before .before .before in
-    (refl {a = replicate maxBounds 0}, refl {a = replicate maxIntervals 0}, no-jobs, start .pre)
+read-site-requires : tie.Need-read-site-requires
+read-site-requires c κs = search needs
 
-enum-known-answer : tie.Need-enum-known-answer
-enum-known-answer c = search needs
+enum-known-reading : tie.Need-enum-known-reading
+enum-known-reading c = search needs
 
-enum-known-answer-2 : tie.Need-enum-known-answer-2
-enum-known-answer-2 c = search needs
+enum-told : tie.Need-enum-told
+enum-told c = search needs
 
-check-prices-requires : tie.Need-check-prices-requires
-check-prices-requires c κs =
-    let told = c .before .before .before .before in
-    let run = told .before .before .run-first-half .ensures in
-    let (site, is, left) = run .left _ (told .answer2 .given .1) in
-    (site, left)
+check-site-requires : tie.Need-check-site-requires
+check-site-requires c κs =
+    let told = c .before .before .before .before .before in
+    let read = told .before .before in
+    let (site, is, holds) = held-site (read .read-site .ensures) (told .enum-told .given .1) in
+    ((site, sites-are-valid _ _ _ site is, holds), read .before .before .before .before .before .before .before .before .before .before .pre)
 
 returns : tie.Need-returns
+unfolding checkOf
 returns c =
-    let run = c .before .before .before .run-first-half .ensures in
-    (check-refused _ _ _ _ _ _ _ (sym (c .before .answer .given .1) ∙ run .judged), λ energy. refused-accepted)
+    (rw (refused-site (c .before .before .before .read-site .ensures) _ _ (c .before .reading .given .1)), λ energy. refused-accepted)
 
 returns-2 : tie.Need-returns-2
+unfolding checkOf
 returns-2 c =
-    let told = c .before .before .before .before .before in
-    let run = told .before .before .run-first-half .ensures in
-    let fits = told .answer2 .given .1 in
-    let (site, is, left) = run .left _ fits in (
-      rw (check-continued _ _ _ _ _ site is _ (sym fits ∙ run .judged)) (c .check-prices .ensures site left),
-      λ energy accepted. run .seen _ fits,
-    )
+    let told = c .before .before .before .before .before .before in
+    let (site, is, holds) = held-site (told .before .before .read-site .ensures) (told .enum-told .given .1) in
+    (rw is (c .check-site .ensures .0 site (sites-are-valid _ _ _ site is) holds), c .check-site .ensures .1)
 
 pub check-cells-spec : {M : Type 1} → statement M
 check-cells-spec =
     tie.close
     (tie.spec
-    run-first-half-requires
-    enum-known-answer
-    enum-known-answer-2
-    check-prices-requires
+    read-site-requires
+    enum-known-reading
+    enum-told
+    check-site-requires
     returns
     returns-2)
