@@ -71,13 +71,14 @@ pub fn step_count(plan: &[u8]) -> usize
     number16(plan, 2) as usize
 }
 
-// A step of a plan of the right length. A cell is interval × 64 + job.
+// A step of a plan of the right length. A cell is interval × 64 + job. The number of steps is taken from the length, which a loop over
+// the steps has at hand where it would read the count again for each of them.
 pub fn decode_step(plan: &[u8], s: usize) -> Step
     requires { ⌜ (length (now plan) ≡ 4 + 6 * stepCount (now plan)) × (s < stepCount (now plan)) ⌝ }
     ensures { λ r. ⌜ (r ≡ codeStep (stepAt (now (plan .entry)) s)) × (r .interval < 1024) × (r .job < maxJobs) × (r .cycles < 4294967296) ⌝ }
 {
     let cell = number16(plan, 4 + 2 * s) as usize;
-    let count = number16(plan, 2) as usize;
+    let count = (plan.len() - 4) / 6;
     Step {
         interval: cell / MAX_JOBS,
         job: cell % MAX_JOBS,
