@@ -34,11 +34,12 @@ use Rattle.rounds.specs.RoundAnswers.{roundsAnswer, RoundsContract}
 use Rattle.ordering.specs.Ordering.{order}
 use Rattle.ordering.specs.declared.operation.OrderAnswer.the-variants.{Ordered, Refused as OrderRefused}
 use Rattle.ordering.specs.OrderAnswers.{orderAnswer, OrderContract}
-use Rattle.touching.specs.Spans.{Touched}
+use Rattle.spans.specs.declared.jobs.NearestDeadline.{NearestDeadline}
+use Rattle.spans.specs.Spans.{Touched}
+use Rattle.spans.specs.SpanAnswers.{nearestAnswer}
 use Rattle.touching.specs.Touching.{Lists, touching}
-use Rattle.touching.specs.declared.jobs.NearestDeadline.{NearestDeadline}
 use Rattle.touching.specs.declared.operation.TouchingAnswer.the-variants.{Touching, Refused as TouchingRefused}
-use Rattle.touching.specs.TouchingAnswers.{nearestAnswer, touchingAnswer, TouchingContract}
+use Rattle.touching.specs.TouchingAnswers.{touchingAnswer, TouchingContract}
 use Rattle.capi.specs.Results.{fitsResult, checkResult, settingResult, spareResult, roundsResult, RoundsCall, orderResult, OrderCall}
 use Rattle.capi.specs.Results.{deadlineNumber, touchingResult, TouchingCall}
 

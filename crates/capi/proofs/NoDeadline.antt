@@ -10,8 +10,8 @@ use Rattle.model.specs.declared.Job.{Job}
 use Rattle.model.specs.Jobs.{ValidJobs}
 use Rattle.model.proofs.Jobs.{jobs-valid}
 use Rattle.model.proofs.Search.{leastBelow-found}
-use Rattle.touching.specs.Spans.{Touched, nearestDeadline, touched}
-use Rattle.touching.specs.TouchingAnswers.{nearestAnswer}
+use Rattle.spans.specs.Spans.{Touched, nearestDeadline, touched}
+use Rattle.spans.specs.SpanAnswers.{nearestAnswer}
 use Rattle.touching.proofs.TouchingOutcomes.{touching-answered, answered-touched}
 use Rattle.capi.specs.Results.{deadlineNumber, ZeroIsNone}
 

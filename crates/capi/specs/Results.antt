@@ -13,11 +13,11 @@ use Rattle.planning.specs.declared.operation.PlanAnswer.the-variants.{Plan, Ove
 use Rattle.planning.specs.MadePlans.{Buffers}
 use Rattle.planning.specs.PlanAnswers.{PlanContract}
 use Rattle.ordering.specs.Ordering.{order, orderedAfter}
-use Rattle.touching.specs.Spans.{Touched}
+use Rattle.spans.specs.declared.jobs.NearestDeadline.{NearestDeadline}
+use Rattle.spans.specs.declared.jobs.NearestDeadline.the-variants.{At, None}
+use Rattle.spans.specs.Spans.{Touched}
+use Rattle.spans.specs.SpanAnswers.{nearestAnswer}
 use Rattle.touching.specs.Touching.{Lists, touching, listsAfter}
-use Rattle.touching.specs.declared.jobs.NearestDeadline.{NearestDeadline}
-use Rattle.touching.specs.declared.jobs.NearestDeadline.the-variants.{At, None}
-use Rattle.touching.specs.TouchingAnswers.{nearestAnswer}
 use Rattle.tasks.specs.Rounds.{Round, tableLength, rounds, bufferAfter}
 use Rattle.capi.specs.declared.FitsResult.{FitsResult}
 use Rattle.capi.specs.declared.CheckResult.{CheckResult}

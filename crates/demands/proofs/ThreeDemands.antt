@@ -31,7 +31,7 @@ use Rattle.ordering.specs.Ordering.{order, orderedAfter}
 use Rattle.ordering.specs.declared.operation.OrderAnswer.the-variants.{Refused as NotOrdered}
 use Rattle.ordering.specs.OrderAnswers.{orderAnswer}
 use Rattle.ordering.proofs.Ordering.{order-refuses}
-use Rattle.touching.specs.Spans.{Touched}
+use Rattle.spans.specs.Spans.{Touched}
 use Rattle.touching.specs.Touching.{Lists, touching, listsAfter}
 use Rattle.touching.specs.declared.operation.TouchingAnswer.the-variants.{Refused as NotListed}
 use Rattle.touching.specs.TouchingAnswers.{touchingAnswer}

@@ -25,10 +25,10 @@ use Rattle.model.proofs.Numbers.{lt-or-le, both-true}
 use Rattle.model.proofs.Search.{someBelow-found, someBelow-holds, leastBelow-found, leastBelow-fails}
 use Rattle.model.proofs.Passing.{passing-all, passing-only, passing-rises}
 use Rattle.model.proofs.FittingHalf.{stepping-answered}
-use Rattle.touching.specs.declared.jobs.NearestDeadline.the-variants.{At, None}
-use Rattle.touching.specs.Spans.{opensWithin, sharesTick, hasCell, jobsOpen, jobsInside, stepsTouched, nearestDeadline}
-use Rattle.touching.specs.TouchingAnswers.{nearestAnswer}
-use Rattle.touching.proofs.SpanTicks.{opens-ticks, inside-ticks, shares-ticks}
+use Rattle.spans.specs.declared.jobs.NearestDeadline.the-variants.{At, None}
+use Rattle.spans.specs.Spans.{opensWithin, sharesTick, hasCell, jobsOpen, jobsInside, stepsTouched, nearestDeadline}
+use Rattle.spans.specs.SpanAnswers.{nearestAnswer}
+use Rattle.spans.proofs.SpanTicks.{opens-ticks, inside-ticks, shares-ticks}
 use Rattle.demands.specs.TouchedSpans.{
   stepsAlone,
   OpenSomewhere,

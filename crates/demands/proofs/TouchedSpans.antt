@@ -24,12 +24,13 @@ use Rattle.model.proofs.Accepted.{check-read}
 use Rattle.model.proofs.Hypotheses.{every-valid-table}
 use Rattle.model.proofs.RefusalNumbers.{check-past-steps}
 use Rattle.fitting.proofs.Verdicts.{both-alone, both-stepping}
-use Rattle.touching.specs.declared.jobs.NearestDeadline.{NearestDeadline}
+use Rattle.spans.specs.declared.jobs.NearestDeadline.{NearestDeadline}
+use Rattle.spans.specs.Spans.{Touched, nearestDeadline, touched}
+use Rattle.spans.specs.SpanAnswers.{nearestAnswer, listed}
 use Rattle.touching.specs.declared.operation.TouchingAnswer.{TouchingAnswer}
 use Rattle.touching.specs.declared.operation.TouchingAnswer.the-variants.{Touching, Refused}
-use Rattle.touching.specs.Spans.{Touched, nearestDeadline, touched}
-use Rattle.touching.specs.Touching.{Lists, whereRoom, touchingFor, touching, listed}
-use Rattle.touching.specs.TouchingAnswers.{nearestAnswer, touchingAnswer, Answers}
+use Rattle.touching.specs.Touching.{Lists, whereRoom, touchingFor, touching}
+use Rattle.touching.specs.TouchingAnswers.{touchingAnswer, Answers}
 use Rattle.touching.proofs.TouchingRefusals.{ReadNumbers, room-by, touching-right-by}
 use Rattle.touching.proofs.TouchingOutcomes.{
   touching-wrong-span,

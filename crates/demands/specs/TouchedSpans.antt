@@ -19,8 +19,8 @@ use Rattle.model.specs.Intervals.{boundAt}
 use Rattle.model.specs.Marks.{readMarks, boundsWith}
 use Rattle.model.specs.Steps.{stepCount, cellAt, stepAt}
 use Rattle.model.specs.Checking.{stepping, check}
-use Rattle.touching.specs.declared.jobs.NearestDeadline.{NearestDeadline}
-use Rattle.touching.specs.declared.jobs.NearestDeadline.the-variants.{At, None}
+use Rattle.spans.specs.declared.jobs.NearestDeadline.{NearestDeadline}
+use Rattle.spans.specs.declared.jobs.NearestDeadline.the-variants.{At, None}
 use Rattle.touching.specs.declared.operation.TouchingAnswer.{TouchingAnswer}
 use Rattle.touching.specs.declared.operation.TouchingAnswer.the-variants.{Touching, Refused}
 use Rattle.touching.specs.Touching.{Lists}

@@ -13,15 +13,16 @@ use Rattle.model.specs.Outcome.{refused}
 use Rattle.model.specs.Search.{passingBelow}
 use Rattle.job_sets.specs.declared.JobSet.{JobSet}
 use Rattle.job_sets.specs.JobSets.{setBelow, memberCount}
-use Rattle.touching.specs.declared.jobs.NearestDeadline.{NearestDeadline}
+use Rattle.spans.specs.declared.jobs.NearestDeadline.{NearestDeadline}
+use Rattle.spans.specs.Spans.{Touched}
+use Rattle.spans.specs.SpanAnswers.{nearestAnswer, listed}
+use Rattle.spans.specs.TouchedIn.{opensAt, insideAt, membersFrom, cellsWithin, touchedIn}
+use Rattle.spans.proofs.MemberLists.{passing-counted}
+use Rattle.spans.proofs.MemberStores.{passing-listed}
 use Rattle.touching.specs.declared.operation.TouchingAnswer.{TouchingAnswer}
 use Rattle.touching.specs.declared.operation.TouchingAnswer.the-variants.{Touching, Refused}
-use Rattle.touching.specs.Spans.{Touched}
-use Rattle.touching.specs.Touching.{Lists, whereRoom, listed}
-use Rattle.touching.specs.TouchingAnswers.{Answers, nearestAnswer}
-use Rattle.touching.specs.TouchedIn.{opensAt, insideAt, membersFrom, cellsWithin, touchedIn}
-use Rattle.touching.proofs.MemberLists.{passing-counted}
-use Rattle.touching.proofs.MemberStores.{passing-listed}
+use Rattle.touching.specs.Touching.{Lists, whereRoom}
+use Rattle.touching.specs.TouchingAnswers.{Answers}
 use Rattle.touching.proofs.TouchingOutcomes.{open-short, inside-short, steps-short, room-enough, refused-answers}
 
 -- The lengths that the three lists want.

@@ -32,10 +32,10 @@ use Rattle.fitting.specs.TestedJobs.{HoldsCycles}
 use Rattle.fitting.specs.FirstHalf.{steppingIn}
 use Rattle.fitting.proofs.StepFaults.{stepping-same}
 use Rattle.fitting.proofs.Verdicts.{both-alone, both-stepping, both-refused, both-passed}
-use Rattle.touching.specs.Spans.{opensWithin, jobsOpen, jobsInside, nearestDeadline, touched}
+use Rattle.spans.specs.Spans.{opensWithin, jobsOpen, jobsInside, nearestDeadline, touched}
+use Rattle.spans.specs.TouchedIn.{opensAt, insideAt, nearestIn, touchedIn, HoldsBounds}
+use Rattle.spans.proofs.StepLists.{cells-touched}
 use Rattle.touching.specs.Touching.{Lists, whereRoom, touchingFor}
-use Rattle.touching.specs.TouchedIn.{opensAt, insideAt, nearestIn, touchedIn, HoldsBounds}
-use Rattle.touching.proofs.StepLists.{cells-touched}
 
 -- values and tests that agree have the same least value
 least-cong : (count : ℕ) (v w : ℕ → ℕ) (f g : ℕ → Bool) → ((i : ℕ) → i < count → v i ≡ w i) → ((i : ℕ) → i < count → f i ≡ g i)

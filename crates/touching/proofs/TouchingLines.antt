@@ -10,7 +10,7 @@ use Rattle.model.specs.Intervals.{insertTime, boundsOf, isOpen, earliestRelease
 use Rattle.model.specs.Marks.{readMarks, encodeMarks, insertMarks, boundsWith}
 use Rattle.model.specs.Steps.{stepAt}
 use Rattle.model.specs.Checking.{stepFault}
-use Rattle.touching.specs.Spans.{touched}
+use Rattle.spans.specs.Spans.{touched}
 use Rattle.touching.specs.Touching.{touchingFor, touching}
 use Rattle.touching.specs.TouchingLines.{TouchingLines}
 

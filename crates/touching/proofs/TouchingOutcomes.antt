@@ -18,9 +18,9 @@ use Rattle.model.specs.Windows.{wrongSpan}
 use Rattle.model.proofs.Outcome.{answer-injective, answered-past, answered-within, andThen-answered}
 use Rattle.model.proofs.FittingHalf.{stepping-answered}
 use Rattle.model.proofs.Tests.{neither}
+use Rattle.spans.specs.Spans.{Touched, touched}
 use Rattle.touching.specs.declared.operation.TouchingAnswer.{TouchingAnswer}
 use Rattle.touching.specs.declared.operation.TouchingAnswer.the-variants.{Refused}
-use Rattle.touching.specs.Spans.{Touched, touched}
 use Rattle.touching.specs.Touching.{Lists, whereRoom, touchingFor, touching}
 use Rattle.touching.specs.TouchingAnswers.{Answers}
 

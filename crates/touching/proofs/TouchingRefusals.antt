@@ -11,7 +11,7 @@ use Rattle.model.specs.Jobs.{readJobs}
 use Rattle.model.specs.Marks.{readMarks, boundsWith}
 use Rattle.model.specs.Windows.{wrongSpan}
 use Rattle.model.proofs.RefusalNumbers.{by-when, by-then, by-under, by-answer, jobs-by, marks-by, stepping-by, widen}
-use Rattle.touching.specs.Spans.{Touched, touched}
+use Rattle.spans.specs.Spans.{Touched, touched}
 use Rattle.touching.specs.Touching.{Lists, whereRoom, touchingFor, touching, TouchingNumbers, TouchingRefuses}
 use Rattle.touching.proofs.TouchingOutcomes.{span-right}
 

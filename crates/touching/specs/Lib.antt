@@ -1,6 +1,4 @@
--- What touches a span of ticks, what the operation promises, and lines of it.
-pub mod Spans
+-- What the operation that lists what touches a span promises, and lines of it.
 pub mod Touching
 pub mod TouchingAnswers
-pub mod TouchedIn
 pub mod TouchingLines

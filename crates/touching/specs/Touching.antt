@@ -1,15 +1,16 @@
 -- The operation that lists what touches a span (document 02, Changes 5 and 6).
 use Prim.Native.Nat.{ℕ}
-use mathlib.Core.List.{List, _++_}
+use mathlib.Core.List.{List}
 use mathlib.Core.Logic.{_⊎_}
-use lib.ListN.{length, drop}
+use lib.ListN.{length}
 use Rattle.model.specs.declared.Job.{Job}
 use Rattle.model.specs.Outcome.{Outcome, refused, answer, andThen, refuseWhen, refuseUnder, From, RefusesBy}
 use Rattle.model.specs.Jobs.{readJobs}
 use Rattle.model.specs.Marks.{readMarks, boundsWith}
 use Rattle.model.specs.Windows.{wrongSpan}
 use Rattle.model.specs.Checking.{stepping}
-use Rattle.touching.specs.Spans.{Touched, touched}
+use Rattle.spans.specs.Spans.{Touched, touched}
+use Rattle.spans.specs.SpanAnswers.{listed}
 
 -- The three lists that are lent, in this order.
 pub record Lists : Type 0 where
@@ -39,10 +40,6 @@ touching jobBytes markBytes plan start end before =
     (andThen (readJobs jobBytes) λ jobs.
     andThen (readMarks markBytes) λ marks.
     touchingFor jobs (boundsWith marks jobs) plan start end before)
-
--- A lent list afterwards: the members at its start, and after them what was there.
-abbrev pub listed : (members before : List ℕ) → List ℕ
-listed members before = members ++ drop (length members) before
 
 -- What the lent lists hold afterwards. A refused call changes nothing.
 abbrev pub listsAfter : Outcome Touched → (before : Lists) → Lists

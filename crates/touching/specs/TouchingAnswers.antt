@@ -3,20 +3,13 @@
 use Prim.Native.Nat.{ℕ}
 use mathlib.Core.Path.{_≡_}
 use mathlib.Core.List.{List}
-use mathlib.Core.Option.{Option, none, some}
 use lib.ListN.{length}
 use Rattle.model.specs.Outcome.{Outcome, refused, answer}
-use Rattle.touching.specs.Spans.{Touched}
+use Rattle.spans.specs.Spans.{Touched}
+use Rattle.spans.specs.SpanAnswers.{nearestAnswer}
 use Rattle.touching.specs.Touching.{Lists, touching, listsAfter}
-use Rattle.touching.specs.declared.jobs.NearestDeadline.{NearestDeadline}
-use Rattle.touching.specs.declared.jobs.NearestDeadline.the-variants.{At, None}
 use Rattle.touching.specs.declared.operation.TouchingAnswer.{TouchingAnswer}
 use Rattle.touching.specs.declared.operation.TouchingAnswer.the-variants.{Touching, Refused}
-
--- None is a case of its own.
-abbrev pub nearestAnswer : Option ℕ → NearestDeadline
-nearestAnswer none = None
-nearestAnswer (some deadline) = At deadline
 
 -- "answered are their three lengths and that deadline", or the refusal's number and place.
 abbrev pub touchingAnswer : Outcome Touched → TouchingAnswer

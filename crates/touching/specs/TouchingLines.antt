@@ -11,7 +11,7 @@ use Rattle.model.specs.Entries.{listOf, encodeEach}
 use Rattle.model.specs.Jobs.{encodeJobs}
 use Rattle.model.specs.Marks.{encodeMarks, noMarks}
 use Rattle.model.specs.SiteLines.{job}
-use Rattle.touching.specs.Spans.{Touched}
+use Rattle.spans.specs.Spans.{Touched}
 use Rattle.touching.specs.Touching.{Lists, touching, listsAfter}
 
 abbrev jobBytes : List ℕ

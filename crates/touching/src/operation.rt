@@ -8,17 +8,10 @@ ghost use Rattle.model.specs.Jobs.{ValidJobs};
 ghost use Rattle.model.specs.Outcome.{andThen};
 ghost use Rattle.model.specs.Marks.{readMarks, boundsWith};
 ghost use Rattle.job_tables.specs.Tables.{jobsIn};
+ghost use Rattle.spans.specs.TouchedIn.{touchedIn, HoldsBounds};
 ghost use Rattle.touching.specs.Touching.{whereRoom, touchingFor};
 ghost use Rattle.touching.specs.TouchingAnswers.{Answers, TouchingContract};
-ghost use Rattle.touching.specs.TouchedIn.{touchedIn, HoldsBounds};
 ghost use Rattle.touching.specs.declared.operation.TouchingAnswer.the-variants.{Refused};
-use crate::jobs::NearestDeadline;
-use crate::jobs::inside_within;
-use crate::jobs::nearest_deadline;
-use crate::jobs::open_within;
-use crate::lists::write_members;
-use crate::steps::count_steps;
-use crate::steps::write_steps;
 use fitting::Verdict;
 use fitting::check_steps;
 use intervals::bound_numbers;
@@ -33,6 +26,13 @@ use model::MAX_BOUNDS;
 use model::MAX_DEADLINE;
 use model::MAX_JOBS;
 use reading::Reading;
+use spans::NearestDeadline;
+use spans::count_steps;
+use spans::inside_within;
+use spans::nearest_deadline;
+use spans::open_within;
+use spans::write_members;
+use spans::write_steps;
 
 // The lengths of the three lists that were written, and the nearest deadline; or the refusal's number and place.
 pub enum TouchingAnswer {

@@ -5,7 +5,7 @@ use native.Mathlib.Omega.{arith}
 use denote.Ref.{now}
 use borrow.Author.Needs.{needs}
 use Rattle.job_sets.proofs.JobSets.{count-most}
-use Rattle.touching.specs.TouchedIn.{opensAt, insideAt, touchedIn}
+use Rattle.spans.specs.TouchedIn.{opensAt, insideAt, touchedIn}
 use Rattle.touching.proofs.Rooms.{LengthsWanted, open-too-short, inside-too-short, steps-too-short, all-listed, lengths-wanted, set-listed}
 use Rattle.touching.proofs.operation.list_touched.Statement.{statement}
 use Rattle.touching.proofs.operation.list_touched.Tie as tie
