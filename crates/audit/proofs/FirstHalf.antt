@@ -32,10 +32,9 @@ use Rattle.energy.proofs.Figures.{figure-of-plan}
 use Rattle.fitting.specs.declared.Verdict.{Verdict}
 use Rattle.fitting.specs.declared.Verdict.the-variants.{Passed, Refused}
 use Rattle.fitting.specs.Verdicts.{verdictOf, passed}
-use Rattle.fitting.specs.FirstHalf.{boundsIn, siteIn, Fitted}
+use Rattle.fitting.specs.FirstHalf.{boundsIn, Fitted}
 use Rattle.fitting.proofs.Verdicts.{Both, both-refused, both-passed}
 use Rattle.fitting.proofs.FirstHalf.{are-loads, load-at}
-use Rattle.pricing.specs.SecondHalf.{Planned}
 use Rattle.audit.specs.declared.first_half.FitsAnswer.the-variants.{Fits, Refused as RefusedPlan}
 use Rattle.audit.specs.Answers.{fitsAnswer}
 use Rattle.audit.specs.Halves.{FittedSite}

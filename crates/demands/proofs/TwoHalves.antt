@@ -1,35 +1,28 @@
 -- The check in two halves, over the tables in bytes and the calls themselves.
 -- Assumes nothing.
-use mathlib.Core.Path.{_≡_, refl, sym, _∙_, ap}
-use mathlib.Core.List.{List, [], _∷_}
+use mathlib.Core.Path.{_≡_, sym, _∙_}
+use mathlib.Core.List.{List}
 use Prim.Native.Nat.{ℕ, _+_, _*_, _<_, _≤_}
 use native.Mathlib.Nat.{mul-le-mul-left, mul-lt-mul-of-pos-left}
 use native.Mathlib.Omega.{arith}
 use Rattle.model.specs.Limits.{maxPoints}
 use Rattle.model.specs.Outcome.{Outcome, refused, answer, andThen, From, RefusesBy}
 use Rattle.model.specs.Bands.{bandCount}
-use Rattle.model.specs.LevelTables.{encodeLevels}
-use Rattle.model.specs.Jobs.{encodeJobs}
-use Rattle.model.specs.Marks.{encodeMarks}
 use Rattle.model.specs.Processors.{workingOf}
 use Rattle.model.specs.Sites.{Site, ValidSite, readSite}
-use Rattle.model.specs.Schedules.{Serves}
-use Rattle.model.specs.Checking.{pricing, figureOf, fitsFor, fits, check}
-use Rattle.model.specs.Accepted.{ScheduleFor, powersFor, exactFor, gapsOf, LeastPlan}
+use Rattle.model.specs.Checking.{pricing, figureOf, fits, check}
+use Rattle.model.specs.Accepted.{powersFor, exactFor, gapsOf, LeastPlan}
 use Rattle.model.specs.Demands.{ValidTables}
-use Rattle.model.specs.SiteLines.{job, T}
 use Rattle.model.specs.ChangeLines.{halvesPlan, earlyPlan}
-use Rattle.model.proofs.Outcome.{answer-injective, andThen-answered}
+use Rattle.model.proofs.Outcome.{andThen-answered}
 use Rattle.model.proofs.Sites.{sites-are-valid}
 use Rattle.model.proofs.PricingHalf.{pricing-answered}
-use Rattle.model.proofs.Accepted.{check-read, check-reads, figure-close, accepted-is-least}
+use Rattle.model.proofs.Accepted.{check-read, figure-close, accepted-is-least}
 use Rattle.model.proofs.TwoHalves.{fits-exactly, fits-read, fits-reads, check-goes-on}
 use Rattle.model.proofs.RefusalNumbers.{fits-by, pricing-by, by-answer}
 use Rattle.model.proofs.SiteLines.{two-plans-fit}
 use Rattle.levels.proofs.SmallPoints.{working-small}
-use Rattle.planning.specs.declared.operation.PlanAnswer.the-variants.{Plan}
 use Rattle.planning.proofs.PlanStages.{plan-read}
-use Rattle.demands.specs.ThreeDemands.{Call, planWritten, SuchAPlan}
 use Rattle.demands.specs.TwoHalves.{FittingPlan, FitsAndIsNotLeast, CheckInTwoHalves}
 use Rattle.demands.proofs.ThreeDemands.{such-a-plan, demand-three}
 
@@ -41,13 +34,12 @@ module _ (levelBytes jobBytes markBytes plan : List ℕ) where
       let (fitting, is) = fits-exactly site plan figure .0 e in
       let valid = sites-are-valid levelBytes jobBytes markBytes site tables in
       let such = such-a-plan valid fitting is in
-      let carried = such .carried-out in
       let ends = figure-close site valid plan figure is in
       record {
         site = site;
         tables = tables;
         gives = fitting .gives;
-        meets-deadlines = record { schedule = carried .schedule; serves = carried .serves; energy = carried .energy };
+        carried-out = such .carried-out;
         such-a-plan = such;
         figure-low = ends .0;
         figure-high = ends .1;
@@ -124,10 +116,10 @@ module _ (levelBytes jobBytes markBytes one two : List ℕ) (low high : ℕ) (ap
       let apart-by-m : low + bandCount (workingOf (site .processor)) ≤ high = omega (arith, bands, apart) in
       omega (arith, first .figure-high, mul-le-mul-left (gapsOf site) apart-by-m, figure-close site valid two high two-figure .0)
 
-  less : gapsOf site * powersFor site (first .meets-deadlines .schedule) < first .meets-deadlines .schedule .q * exactFor site two
+  less : gapsOf site * powersFor site (first .carried-out .schedule) < first .carried-out .schedule .q * exactFor site two
   less =
-      let meets = first .meets-deadlines in
-      rw (meets .energy) (mul-lt-mul-of-pos-left dearer (meets .schedule .q-low))
+      let carried = first .carried-out in
+      rw (carried .energy) (mul-lt-mul-of-pos-left dearer (carried .schedule .q-low))
 
   not-least : FitsAndIsNotLeast levelBytes jobBytes markBytes two high
   not-least =
@@ -135,12 +127,12 @@ module _ (levelBytes jobBytes markBytes one two : List ℕ) (low high : ℕ) (ap
         fitting = two-fits;
         site = site;
         tables = first .tables;
-        schedule = first .meets-deadlines .schedule;
-        serves = first .meets-deadlines .serves;
+        schedule = first .carried-out .schedule;
+        serves = first .carried-out .serves;
         less = less;
         never-accepted = λ prices other e.
             let least = is-least levelBytes jobBytes markBytes two prices other e site (first .tables) .least in
-            omega (arith, less, least (first .meets-deadlines .schedule) (first .meets-deadlines .serves));
+            omega (arith, less, least (first .carried-out .schedule) (first .carried-out .serves));
       }
 
 pub check-in-two-halves : CheckInTwoHalves

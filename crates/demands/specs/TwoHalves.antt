@@ -15,6 +15,7 @@ use Rattle.model.specs.Processors.{workingOf, topOf}
 use Rattle.model.specs.Sites.{Site, readSite, SiteNumbers}
 use Rattle.model.specs.Plans.{Gives}
 use Rattle.model.specs.Schedules.{Serves}
+use Rattle.model.specs.LeastEnergy.{CarriedOut}
 use Rattle.model.specs.Steps.{sharesOf}
 use Rattle.model.specs.Checking.{pricing, fits, check}
 use Rattle.model.specs.Accepted.{ScheduleFor, powersFor, exactFor, gapsOf, LeastPlan}
@@ -24,27 +25,22 @@ use Rattle.model.specs.ChangeLines.{earlyPlan}
 use Rattle.planning.specs.declared.operation.PlanAnswer.the-variants.{Plan}
 use Rattle.demands.specs.ThreeDemands.{Call, planWritten, SuchAPlan}
 
--- A schedule that meets all deadlines and has the exact energy of a plan. Both are multiplied out by all gaps and by q.
-pub record MeetsDeadlines (site : Site) (plan : List ℕ) : Type 0 where
-  pub schedule : ScheduleFor site
-  pub serves : Serves schedule
-  pub energy : gapsOf site * powersFor site schedule ≡ schedule .q * exactFor site plan
-
 -- What is promised of a fitting plan, whatever made it.
 pub record FittingPlan (levelBytes jobBytes markBytes plan : List ℕ) (figure : ℕ) : Type 0 where
   pub site : Site
   pub tables : ValidTables levelBytes jobBytes markBytes site
   -- it gives each job exactly its cycles between release and deadline, and loads no interval past its length × top frequency
   pub gives : Gives (topOf (site .processor)) (site .jobs) (site .bounds) (sharesOf plan)
-  -- "A fitting plan is promised to meet its deadlines": carried out it is a schedule over the levels that does, with the plan's exact
-  -- energy; and it is such a plan as demand 2 speaks of, with the figure that document 01 defines
-  pub meets-deadlines : MeetsDeadlines site plan
+  -- "A fitting plan is promised to meet its deadlines": carried out, slot by slot as document 01 has it under Load, it is a schedule over
+  -- the levels that serves every job, and has the plan's exact energy
+  pub carried-out : CarriedOut (site .processor .idlePower) (site .processor .levels) (site .jobs) (site .bounds) (sharesOf plan)
+  -- so it is such a plan as demand 2 speaks of, with the figure that document 01 defines
   pub such-a-plan : SuchAPlan site plan figure
   -- the figure is at most the exact energy and less than m below it
   pub figure-low : gapsOf site * figure ≤ exactFor site plan
   pub figure-high : exactFor site plan < gapsOf site * (figure + bandCount (workingOf (site .processor)))
 
--- A plan that fits while a schedule that meets all deadlines needs less energy. The check then accepts it with no price list at all.
+-- A plan that fits while some schedule that meets all deadlines needs less energy. The check refuses it, whatever the price list.
 pub record FitsAndIsNotLeast (levelBytes jobBytes markBytes plan : List ℕ) (figure : ℕ) : Type 0 where
   pub fitting : fits levelBytes jobBytes markBytes plan ≡ answer figure
   pub site : Site

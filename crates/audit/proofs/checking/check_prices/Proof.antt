@@ -1,7 +1,5 @@
 -- `checking::check_prices` meets its contract. Each way out rests on the verdict that led there, by the laws of proofs/SecondHalf.antt.
 -- Assumes nothing.
-use mathlib.Core.List.{List}
-use Prim.Native.Nat.{ℕ}
 use borrow.Author.Needs.{needs}
 use Rattle.audit.proofs.SecondHalf.{prices-refused, prices-passed}
 use Rattle.audit.proofs.checking.check_prices.Statement.{statement}

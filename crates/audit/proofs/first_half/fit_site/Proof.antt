@@ -1,6 +1,5 @@
 -- `first_half::fit_site` meets its contract. Each way out rests on the verdict that led there, by the laws of proofs/FirstHalf.antt.
 -- Assumes nothing.
-use mathlib.Core.Path.{refl}
 use borrow.Author.Needs.{needs}
 use Rattle.site.proofs.HeldSites.{held-count, held-small, held-top, held-bounds-small}
 use Rattle.audit.proofs.FirstHalf.{refused-fits, plan-refused, plan-fits, site-left}
