@@ -6,7 +6,7 @@ use mathlib.Core.Option.{Option, none, some}
 use Prim.Native.Nat.{ℕ, zero, suc, _-_, _*_}
 use lib.ListN.{length, length-map, getD, List·getD-map}
 use lib.Dec.{leb}
-use Rattle.model.specs.Outcome.{Outcome, answer, andThen}
+use Rattle.model.specs.Outcome.{Outcome}
 use Rattle.model.specs.Sum.{product}
 use Rattle.model.specs.Search.{firstBelow}
 use Rattle.model.specs.Points.{Point, idlingPoint, RisingPoints}
@@ -18,9 +18,9 @@ use Rattle.model.specs.Sites.{Site}
 use Rattle.model.specs.Plans.{Shares}
 use Rattle.model.specs.Energy.{bandCycles, bandTotal}
 use Rattle.model.specs.Windows.{Window, earliestOverfull}
-use Rattle.model.specs.Checking.{jobSumFault, loadFault, fitting, entryFault, priceFault, cheaperFault, pricing, figureOf, fitsFor, checkFor}
+use Rattle.model.specs.Checking.{jobSumFault, loadFault, fitting, entryFault, priceFault, cheaperFault, pricing, fitsFor, checkFor}
 use Rattle.model.specs.Planning.{PlanOutcome, unlessOverfull, planFor}
-use Rattle.model.specs.Boards.{workingFrequencies, onBoard, Alike, BoardsAreAlike}
+use Rattle.model.specs.Boards.{workingFrequencies, onBoard, withFigureOf, Alike, BoardsAreAlike}
 use Rattle.model.proofs.Sum.{sum-cong, product-cong}
 use Rattle.model.proofs.Working.{working-top}
 use Rattle.model.proofs.FittingHalf.{after-fitting}
@@ -94,9 +94,7 @@ module _ (processor other : Processor) (rising : RisingPoints (allPoints process
     unfolding fitting
     same-fitting next = rw (same-sums, same-loads)
 
-    same-fits : fitsFor (onBoard other site) plan
-        ≡ (andThen (fitsFor (onBoard processor site) plan) λ figure.
-        answer (figureOf (onBoard other site) plan))
+    same-fits : fitsFor (onBoard other site) plan ≡ withFigureOf (onBoard other site) plan (fitsFor (onBoard processor site) plan)
     unfolding fitsFor
     same-fits = rw (after-fitting, same-fitting)
 
@@ -118,8 +116,7 @@ module _ (processor other : Processor) (rising : RisingPoints (allPoints process
       same-pricing next = rw (same-entries, same-prices, same-steps)
 
       same-check : checkFor (onBoard other site) plan prices
-          ≡ (andThen (checkFor (onBoard processor site) plan prices) λ figure.
-          answer (figureOf (onBoard other site) plan))
+          ≡ withFigureOf (onBoard other site) plan (checkFor (onBoard processor site) plan prices)
       unfolding checkFor
       same-check = rw (after-fitting, after-pricing, same-fitting, same-pricing)
 

@@ -29,6 +29,12 @@ readFrequencies levelBytes =
 abbrev pub onBoard : Processor → Site → Site
 onBoard processor site = record { processor = processor; jobs = site .jobs; bounds = site .bounds }
 
+-- An outcome with the figure of a plan on another board in place of its own.
+abbrev pub withFigureOf : Site → (plan : List ℕ) → Outcome ℕ → Outcome ℕ
+withFigureOf site plan outcome =
+    andThen outcome λ figure.
+    answer (figureOf site plan)
+
 module _ (processor other : Processor) where
   -- What is alike on two boards.
   pub record Alike : Type 0 where
@@ -47,15 +53,11 @@ module _ (processor other : Processor) where
         → planFor (onBoard other site) planRoom priceRoom shareRoom ≡ planFor (onBoard processor site) planRoom priceRoom shareRoom
     -- a plan fits on both boards, or is refused on both by the same number and with the same place; the figure is the board's own
     pub fits : (site : Site) (plan : List ℕ)
-        → fitsFor (onBoard other site) plan
-        ≡ (andThen (fitsFor (onBoard processor site) plan) λ figure.
-        answer (figureOf (onBoard other site) plan))
+        → fitsFor (onBoard other site) plan ≡ withFigureOf (onBoard other site) plan (fitsFor (onBoard processor site) plan)
     -- the check refuses a plan and its prices on both boards, by the same number and with the same place, or accepts them on both;
     -- the figure is the board's own
     pub checks : (site : Site) (plan prices : List ℕ)
-        → checkFor (onBoard other site) plan prices
-        ≡ (andThen (checkFor (onBoard processor site) plan prices) λ figure.
-        answer (figureOf (onBoard other site) plan))
+        → checkFor (onBoard other site) plan prices ≡ withFigureOf (onBoard other site) plan (checkFor (onBoard processor site) plan prices)
 
 -- Nothing but the working frequencies decides this.
 abbrev pub BoardsAreAlike : Type 0
