@@ -163,13 +163,20 @@ def place_in(source, entries):
     return f"{source.path} line{'s' if len(lines) > 1 else ''} {listed(lines)}"
 
 
+def entries_of_refusal(refusal, site):
+    """What a refusal speaks of: the jobs inside a window, the steps in an interval that has too many cycles, or one entry."""
+    if isinstance(refusal, Overfull):
+        return refusal.inside
+    if refusal.number == 20:
+        steps = tables.split_cells(tables.entries_of(site.data(tables.PLAN), tables.PLAN))
+        return [number for number, (interval, _, _) in enumerate(steps) if interval == refusal.place]
+    return [] if refusal.entry is None else [refusal.entry]
+
+
 def explain(refusal, site):
     """A refusal as one line, with the file and the lines that it is about."""
     source = site.sources[refusal.table]
-    if isinstance(refusal, Overfull):
-        entries = refusal.inside
-    else:
-        entries = [] if refusal.entry is None else [refusal.entry]
+    entries = entries_of_refusal(refusal, site)
     empty = f"{source.trouble}, so it counts as empty: " if source.trouble else ""
     return f"{place_in(source, entries)}: {empty}{refusal.words} ({refusal.reference()})"
 

@@ -256,7 +256,7 @@ class Refused(FitsFolders):
         self.refuse(site, "/plan.csv line 2: job 1 is not open in interval 0 (refusal 17, step 0)")
 
     def test_sums_and_loads(self):
-        """Cycles of a job, with the line of the job, and of an interval."""
+        """Cycles of a job, with the line of the job, and of an interval, with the lines of its steps."""
         few = "the plan gives job 0 4 cycles, but it has 6 (refusal 19, job 0)"
         self.refuse(self.hand_made(plan_txt="1 1 4\n0 0 4\n"), f"/jobs.txt line 2: {few}")
         self.refuse(self.site(levels_txt=LEVELS, tasks_txt=TASKS, plan_txt="1 1 4\n0 0 4\n"), f"/tasks.txt line 1: {few}")
@@ -265,12 +265,12 @@ class Refused(FitsFolders):
         none = "the plan gives job 0 0 cycles, but it has 6 (refusal 19, job 0)"
         self.refuse(self.hand_made(plan_txt=""), f"/jobs.txt line 2: {none}")
         over = "interval 1, from 2 to 3, has 5 cycles, but the top frequency gives 4 in 1 tick (refusal 20, interval 1)"
-        self.refuse(self.hand_made(plan_txt="1 0 1\n1 1 4\n0 0 5\n"), f"/plan.txt: {over}")
+        self.refuse(self.hand_made(plan_txt="1 0 1\n0 0 5\n\n1 1 4\n"), f"/plan.txt lines 1 and 4: {over}")
         plan = bytes.fromhex("0300 0300 4000 4100 0000 01000000 04000000 05000000")
         self.refuse(self.site(levels_txt=LEVELS, jobs_txt=JOBS, plan_tbl=plan), f"/plan.tbl: {over}")
         over = "interval 0, from 0 to 2, has 6 cycles, but the top frequency gives 4 in 2 ticks (refusal 20, interval 0)"
         site = self.hand_made(levels_txt="1 10\n2 20\n", jobs_txt="0 4 6\n2 3 1\n", plan_txt="0 0 6\n1 1 1\n")
-        self.refuse(site, f"/plan.txt: {over}")
+        self.refuse(site, f"/plan.txt line 1: {over}")
 
     def test_tables(self):
         """Levels, jobs, marks and tasks, each with its line, before the plan."""

@@ -167,7 +167,8 @@ earlyPrices = 2 ∷ 0 ∷ 1 ∷ 0 ∷ 0 ∷ 0 ∷ 2 ∷ 0 ∷ 0 ∷ 0 ∷ 2 ∷ 
 -- Lines of document 02, Change 8.
 unfoldable pub halfLines : List SiteLine
 halfLines =
-    -- a plan that fits is not always least: all cycles before the mark cost 1,600, and two on each side cost 400
+    -- a plan that fits is not always least: all cycles before the mark cost 1,600, and two on each side cost 400. Charged whole at the
+    -- price of their band the first would cost 2,800
     fitsIn T (job 0 2 4 ∷ []) (1 ∷ []) earlyPlan 1_600
     ∷ fitsIn T (job 0 2 4 ∷ []) (1 ∷ []) halvesPlan 400
     -- the check accepts the second, and refuses the first: with the prices of its loads by 24, with others by 23
