@@ -1,18 +1,18 @@
 -- Laws of going through entries: what the verdict is where a loop ends, and what a verdict says of the refusals that
 -- come before whatever is next.
 -- Assumes nothing.
-use mathlib.Core.Path.{_≡_, refl, sym, _∙_}
-use mathlib.Core.Bool.{Bool, true, false, not}
+use mathlib.Core.Path.{_≡_, refl, sym, _∙_, ap}
+use mathlib.Core.Bool.{Bool, not}
 use mathlib.Core.List.{List}
 use Prim.Native.Nat.{ℕ, zero, suc, _+_, _<_}
 use native.Mathlib.Omega.{arith}
 use lib.Dec.{eqb}
 use Rattle.model.specs.declared.Job.{Job}
-use Rattle.model.specs.Outcome.{Outcome, refused, answer, andThen, refuseWhen, refuseAt, byEntryFrom, byEntry}
+use Rattle.model.specs.Outcome.{Outcome, refused, answer, andThen, refuseWhen, byEntryFrom, byEntry}
 use Rattle.model.specs.Intervals.{intervalCount}
 use Rattle.model.specs.Steps.{planIntervals, wrongPlanLength}
 use Rattle.model.specs.Checking.{stepping}
-use Rattle.model.proofs.Outcome.{byEntry-passes, byEntry-stops}
+use Rattle.model.proofs.Outcome.{byEntry-passes, byEntry-stops, after-test, after-entries}
 use Rattle.fitting.specs.declared.Verdict.{Verdict}
 use Rattle.fitting.specs.declared.Verdict.the-variants.{Passed, Refused}
 use Rattle.fitting.specs.Verdicts.{verdictOf, passed}
@@ -56,23 +56,13 @@ module _ {A B : Type 0} {next : Outcome B} where
 
   pub both-when : {first : Outcome A} {all : Outcome B} (condition : Bool) (number : ℕ) → Both first next all
       → Both (refuseWhen condition number first) next (refuseWhen condition number all)
-  both-when true number both = record { is = refl }
-  both-when false number both = both
-
-  both-at : {first : Outcome A} {all : Outcome B} (number place : ℕ) → Both first next all
-      → Both (refuseAt number place first) next (refuseAt number place all)
-  both-at zero place both = both
-  both-at (suc n) place both = record { is = refl }
-
-  both-from : {first : Outcome A} {all : Outcome B} (start count : ℕ) (fault : ℕ → ℕ) → Both first next all
-      → Both (byEntryFrom start count fault first) next (byEntryFrom start count fault all)
-  unfolding byEntryFrom
-  both-from start zero fault both = both
-  both-from start (suc count) fault both = both-at (fault start) start (both-from (suc start) count fault both)
+  both-when {first} condition number both =
+      record { is = ap (refuseWhen condition number) (both .is) ∙ sym (after-test first (λ _. next) condition number) }
 
   pub both-entries : {first : Outcome A} {all : Outcome B} (count : ℕ) (fault : ℕ → ℕ) → Both first next all
       → Both (byEntry count fault first) next (byEntry count fault all)
-  both-entries = both-from 0
+  both-entries {first} count fault both =
+      record { is = ap (byEntry count fault) (both .is) ∙ sym (after-entries (λ _. next) 0 count fault first) }
 
   pub both-stepping : {first : Outcome A} {all : Outcome B} (jobs : List Job) (bounds plan : List ℕ) → Both first next all
       → Both (stepping jobs bounds plan first) next (stepping jobs bounds plan all)
