@@ -1,7 +1,7 @@
-"""Parts of a call, as what is replaced in a sound one, and those that are refused in level and job tables."""
+"""Parts of a call, as what is replaced in a sound one, and those that are refused in level and job tables and in plans."""
 
 from ramyearly import operations, tables
-from support import PAIR, TWO_JOBS
+from support import PAIR, PLAN, TWO_JOBS
 
 
 def levels_of(*entries):
@@ -30,4 +30,15 @@ TABLE_FAULTS = {
     8: {"jobs": TWO_JOBS[:-1]},
     9: jobs_of((0, 4, 6), (3, 3, 1)),
     10: jobs_of((0, 4, 6), (2, 3, 0)),
+}
+
+# The steps of the sound plan, and for each refusal of a plan that needs no prices what is replaced.
+STEPS = [(0, 0, 4), (1, 1, 4), (2, 0, 2)]
+PLAN_FAULTS = {
+    15: {"plan": PLAN[:-1]},
+    16: plan_of(*STEPS, intervals=4),
+    17: plan_of(*STEPS, (0, 1, 4)),
+    18: plan_of(*STEPS, (1, 0, 0)),
+    19: plan_of(*STEPS[:2]),
+    20: plan_of((1, 0, 1), (1, 1, 4), (0, 0, 5)),
 }

@@ -8,12 +8,11 @@ import ramyearly
 from ramyearly import archive, operations, tables
 from ramyearly.calls import Call
 from definitions import fits_by_definition, plan_by_hand, random_jobs, random_levels, spans_of
-from faults import TABLE_FAULTS, jobs_of, plan_of
+from faults import PLAN_FAULTS, STEPS, TABLE_FAULTS, jobs_of, plan_of
 from support import PAIR, PLAN, PRICES, TWO_JOBS
 
 T = [(2, 10), (4, 20)]
 JOBS = [(0, 4, 6), (2, 3, 4)]
-STEPS = [(0, 0, 4), (1, 1, 4), (2, 0, 2)]
 MOST = 2**32 - 1
 
 
@@ -128,12 +127,7 @@ BAD_MARKS = {"marks": operations.mark_table([3, 3])}
 FAULTS = {
     **TABLE_FAULTS,
     34: BAD_MARKS,
-    15: {"plan": PLAN[:-1]},
-    16: plan_of(*STEPS, intervals=4),
-    17: plan_of(*STEPS, (0, 1, 4)),
-    18: plan_of(*STEPS, (1, 0, 0)),
-    19: plan_of(*STEPS[:2]),
-    20: plan_of((1, 0, 1), (1, 1, 4), (0, 0, 5)),
+    **PLAN_FAULTS,
 }
 
 

@@ -9,12 +9,11 @@ import ramyearly
 from ramyearly import archive, operations, tables
 from ramyearly.calls import Call
 from definitions import random_jobs
-from faults import TABLE_FAULTS, jobs_of, plan_of
+from faults import PLAN_FAULTS, STEPS, TABLE_FAULTS, jobs_of, plan_of
 from support import PAIR, PLAN, PRICES, TWO_JOBS
 
 T = [(2, 10), (4, 20)]
 JOBS = [(0, 4, 6), (2, 3, 4)]
-STEPS = [(0, 0, 4), (1, 1, 4), (2, 0, 2)]
 PRICE_LIST = [(2, 1), (3, 2), (4, 1)]
 
 
@@ -96,12 +95,7 @@ SOUND = Call(levels=PAIR, jobs=TWO_JOBS, plan=PLAN, prices=PRICES)
 # For each refusal of the check what is replaced in the sound call.
 FAULTS = {
     **TABLE_FAULTS,
-    15: {"plan": PLAN[:-1]},
-    16: plan_of(*STEPS, intervals=4),
-    17: plan_of(*STEPS, (0, 1, 4)),
-    18: plan_of(*STEPS, (1, 0, 0)),
-    19: plan_of(*STEPS[:2]),
-    20: plan_of((1, 0, 1), (1, 1, 4), (0, 0, 5)),
+    **PLAN_FAULTS,
     21: {"prices": PRICES + b"\0"},
     22: prices_of((2, 1), (4, 2), (4, 1)),
     23: prices_of((2, 1), (3, 1), (4, 1)),
