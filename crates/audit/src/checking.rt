@@ -17,6 +17,7 @@ use job_sets::SET_WORDS;
 use model::MAX_BOUNDS;
 use model::MAX_INTERVALS;
 use model::MAX_JOBS;
+use model::Parameters;
 use pricing::price;
 use site::SiteReading;
 use site::SiteTable;
@@ -28,12 +29,20 @@ pub enum CheckAnswer {
     Refused { number: u32, place: u32 },
 }
 
-// Checks a plan and its price list against a level table, a job table and handover marks. Any bytes are answered.
-pub fn check(levels: &[u8], jobs: &[u8], marks: &[u8], plan: &[u8], prices: &[u8]) -> CheckAnswer
-    ensures { λ r. ⌜ r ≡ checkAnswer (checkOf (now (levels .entry)) (now (jobs .entry)) (now (marks .entry)) (now (plan .entry)) (now (prices .entry))) ⌝ }
+// Checks a plan and its price list against a level table, a job table and handover marks, altered by a site's parameters. Any bytes and
+// numbers are answered.
+pub fn check(
+    levels: &[u8],
+    jobs: &[u8],
+    marks: &[u8],
+    parameters: Parameters,
+    plan: &[u8],
+    prices: &[u8],
+) -> CheckAnswer
+    ensures { λ r. ⌜ r ≡ checkAnswer (checkOf (now (levels .entry)) (now (jobs .entry)) (now (marks .entry)) parameters (now (plan .entry)) (now (prices .entry))) ⌝ }
 {
     let mut cells = [0u64; SET_WORDS];
-    check_cells(levels, jobs, marks, plan, prices, &mut cells)
+    check_cells(levels, jobs, marks, parameters, plan, prices, &mut cells)
 }
 
 // The check, which also leaves the cells of an accepted plan's steps, as one set of jobs for each interval. What a refused plan
@@ -42,12 +51,13 @@ pub fn check_cells(
     levels: &[u8],
     jobs: &[u8],
     marks: &[u8],
+    parameters: Parameters,
     plan: &[u8],
     prices: &[u8],
     cells: &mut [u64; SET_WORDS],
 ) -> CheckAnswer
     requires { ⌜ NoJobs (now cells) ⌝ }
-    ensures { λ r. ⌜ r ≡ checkAnswer (checkOf (now (levels .entry)) (now (jobs .entry)) (now (marks .entry)) (now (plan .entry)) (now (prices .entry))) ⌝ }
+    ensures { λ r. ⌜ r ≡ checkAnswer (checkOf (now (levels .entry)) (now (jobs .entry)) (now (marks .entry)) parameters (now (plan .entry)) (now (prices .entry))) ⌝ }
     ensures { λ r. ⌜ ((energy : ℕ) → r ≡ Accepted energy → CellsSeen (now (plan .entry)) (now (cells .exit))) ⌝ }
 {
     let mut releases = [0u64; MAX_JOBS];
@@ -58,6 +68,7 @@ pub fn check_cells(
         levels,
         jobs,
         marks,
+        parameters,
         &mut releases,
         &mut deadlines,
         &mut cycles,

@@ -14,6 +14,7 @@ use job_sets::SET_WORDS;
 use model::MAX_BOUNDS;
 use model::MAX_INTERVALS;
 use model::MAX_JOBS;
+use model::Parameters;
 use site::SiteReading;
 use site::SiteTable;
 use site::read_site;
@@ -24,10 +25,16 @@ pub enum FitsAnswer {
     Refused { number: u32, place: u32 },
 }
 
-// Checks that a plan fits a level table, a job table and handover marks: refusals 15 to 20 after those of the tables. Any bytes are
-// answered.
-pub fn fits(levels: &[u8], jobs: &[u8], marks: &[u8], plan: &[u8]) -> FitsAnswer
-    ensures { λ r. ⌜ r ≡ fitsAnswer (fitsOf (now (levels .entry)) (now (jobs .entry)) (now (marks .entry)) (now (plan .entry))) ⌝ }
+// Checks that a plan fits a level table, a job table and handover marks, altered by a site's parameters: refusals 15 to 20 after those of
+// the tables and the parameters. Any bytes and numbers are answered.
+pub fn fits(
+    levels: &[u8],
+    jobs: &[u8],
+    marks: &[u8],
+    parameters: Parameters,
+    plan: &[u8],
+) -> FitsAnswer
+    ensures { λ r. ⌜ r ≡ fitsAnswer (fitsOf (now (levels .entry)) (now (jobs .entry)) (now (marks .entry)) parameters (now (plan .entry))) ⌝ }
 {
     let mut releases = [0u64; MAX_JOBS];
     let mut deadlines = [0u64; MAX_JOBS];
@@ -37,6 +44,7 @@ pub fn fits(levels: &[u8], jobs: &[u8], marks: &[u8], plan: &[u8]) -> FitsAnswer
         levels,
         jobs,
         marks,
+        parameters,
         &mut releases,
         &mut deadlines,
         &mut cycles,

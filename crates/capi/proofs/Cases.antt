@@ -9,6 +9,7 @@ use native.Mathlib.Omega.{arith}
 use lib.Dec.{ltb, leb}
 use lib.ListN.{length, List·getD-eq-default}
 use lib.IntN.{ℤ, pos}
+use Rattle.model.specs.declared.Parameters.{Parameters}
 use Rattle.model.specs.Limits.{maxFrequency, maxDeadline}
 use Rattle.model.specs.Outcome.{Outcome, refused, answer}
 use Rattle.model.specs.Points.{Point, idlingPoint}
@@ -164,23 +165,23 @@ untouched-result (refused n p) number place e =
 untouched-result (answer t) number place e = cc e
 
 -- the outcome is that of an operation on bytes
-module _ (levelBytes jobBytes markBytes plan : List ℕ) where
-  pub plan-fits : (energy : ℕ) → Fits energy ≡ fitsAnswer (fits levelBytes jobBytes markBytes plan)
-      → record { number = 0; place = 0; energy = energy } ≡ fitsResult (fits levelBytes jobBytes markBytes plan)
-  plan-fits = fitting-result (fits levelBytes jobBytes markBytes plan)
+module _ (levelBytes jobBytes markBytes : List ℕ) (parameters : Parameters) (plan : List ℕ) where
+  pub plan-fits : (energy : ℕ) → Fits energy ≡ fitsAnswer (fits levelBytes jobBytes markBytes parameters plan)
+      → record { number = 0; place = 0; energy = energy } ≡ fitsResult (fits levelBytes jobBytes markBytes parameters plan)
+  plan-fits = fitting-result (fits levelBytes jobBytes markBytes parameters plan)
 
-  pub plan-refused : (number place : ℕ) → FitsRefused number place ≡ fitsAnswer (fits levelBytes jobBytes markBytes plan)
-      → record { number = number; place = place; energy = 0 } ≡ fitsResult (fits levelBytes jobBytes markBytes plan)
-  plan-refused = unfitting-result (fits levelBytes jobBytes markBytes plan)
+  pub plan-refused : (number place : ℕ) → FitsRefused number place ≡ fitsAnswer (fits levelBytes jobBytes markBytes parameters plan)
+      → record { number = number; place = place; energy = 0 } ≡ fitsResult (fits levelBytes jobBytes markBytes parameters plan)
+  plan-refused = unfitting-result (fits levelBytes jobBytes markBytes parameters plan)
 
-module _ (levelBytes jobBytes markBytes plan prices : List ℕ) where
-  pub check-accepted : (energy : ℕ) → Accepted energy ≡ checkAnswer (check levelBytes jobBytes markBytes plan prices)
-      → record { number = 0; place = 0; energy = energy } ≡ checkResult (check levelBytes jobBytes markBytes plan prices)
-  check-accepted = accepted-result (check levelBytes jobBytes markBytes plan prices)
+module _ (levelBytes jobBytes markBytes : List ℕ) (parameters : Parameters) (plan prices : List ℕ) where
+  pub check-accepted : (energy : ℕ) → Accepted energy ≡ checkAnswer (check levelBytes jobBytes markBytes parameters plan prices)
+      → record { number = 0; place = 0; energy = energy } ≡ checkResult (check levelBytes jobBytes markBytes parameters plan prices)
+  check-accepted = accepted-result (check levelBytes jobBytes markBytes parameters plan prices)
 
-  pub check-refused : (number place : ℕ) → CheckRefused number place ≡ checkAnswer (check levelBytes jobBytes markBytes plan prices)
-      → record { number = number; place = place; energy = 0 } ≡ checkResult (check levelBytes jobBytes markBytes plan prices)
-  check-refused = unaccepted-result (check levelBytes jobBytes markBytes plan prices)
+  pub check-refused : (number place : ℕ) → CheckRefused number place ≡ checkAnswer (check levelBytes jobBytes markBytes parameters plan prices)
+      → record { number = number; place = place; energy = 0 } ≡ checkResult (check levelBytes jobBytes markBytes parameters plan prices)
+  check-refused = unaccepted-result (check levelBytes jobBytes markBytes parameters plan prices)
 
 module _ (bytes : List ℕ) (length load : ℕ) where
   pub setting-set : (band extra gap : ℕ) → Set band extra gap ≡ settingAnswer (setting bytes length load)
@@ -211,27 +212,27 @@ module _ (taskBytes before after : List ℕ) where
   rounds-refused number place h =
       record { result-is = no-round-result (rounds taskBytes (length before)) number place (h .answer-is); buffer-is = h .buffer-is }
 
-module _ (levelBytes jobBytes markBytes plan prices before after : List ℕ) where
-  pub order-ordered : (size : ℕ) → OrderContract levelBytes jobBytes markBytes plan prices before after (Ordered size)
-      → OrderCall levelBytes jobBytes markBytes plan prices before after (record { number = 0; place = 0; length = size })
+module _ (levelBytes jobBytes markBytes : List ℕ) (parameters : Parameters) (plan prices before after : List ℕ) where
+  pub order-ordered : (size : ℕ) → OrderContract levelBytes jobBytes markBytes parameters plan prices before after (Ordered size)
+      → OrderCall levelBytes jobBytes markBytes parameters plan prices before after (record { number = 0; place = 0; length = size })
   order-ordered size h =
       record {
-        result-is = ordered-result (order levelBytes jobBytes markBytes plan prices (length before)) size (h .answer-is);
+        result-is = ordered-result (order levelBytes jobBytes markBytes parameters plan prices (length before)) size (h .answer-is);
         buffer-is = h .buffer-is;
       }
 
-  pub order-refused : (number place : ℕ) → OrderContract levelBytes jobBytes markBytes plan prices before after (OrderRefused number place)
-      → OrderCall levelBytes jobBytes markBytes plan prices before after (record { number = number; place = place; length = 0 })
+  pub order-refused : (number place : ℕ) → OrderContract levelBytes jobBytes markBytes parameters plan prices before after (OrderRefused number place)
+      → OrderCall levelBytes jobBytes markBytes parameters plan prices before after (record { number = number; place = place; length = 0 })
   order-refused number place h =
       record {
-        result-is = no-order-result (order levelBytes jobBytes markBytes plan prices (length before)) number place (h .answer-is);
+        result-is = no-order-result (order levelBytes jobBytes markBytes parameters plan prices (length before)) number place (h .answer-is);
         buffer-is = h .buffer-is;
       }
 
-module _ (jobBytes markBytes plan : List ℕ) (start end : ℕ) (before after : Lists) where
+module _ (jobBytes markBytes : List ℕ) (parameters : Parameters) (plan : List ℕ) (start end : ℕ) (before after : Lists) where
   pub touching-touched : (opened inside steps deadline : ℕ) (nearest : NearestDeadline) → deadline ≡ deadlineNumber nearest
-      → TouchingContract jobBytes markBytes plan start end before after (Touching opened inside steps nearest)
-      → TouchingCall jobBytes markBytes plan start end before after (record {
+      → TouchingContract jobBytes markBytes parameters plan start end before after (Touching opened inside steps nearest)
+      → TouchingCall jobBytes markBytes parameters plan start end before after (record {
         number = 0;
         place = 0;
         «open_jobs» = opened;
@@ -241,12 +242,12 @@ module _ (jobBytes markBytes plan : List ℕ) (start end : ℕ) (before after : 
       })
   touching-touched opened inside steps deadline nearest same h =
       record {
-        result-is = rw same (touched-result (touching jobBytes markBytes plan start end before) opened inside steps nearest (h .answer-is));
+        result-is = rw same (touched-result (touching jobBytes markBytes parameters plan start end before) opened inside steps nearest (h .answer-is));
         lists-are = h .lists-are;
       }
 
-  pub touching-refused : (number place : ℕ) → TouchingContract jobBytes markBytes plan start end before after (TouchingRefused number place)
-      → TouchingCall jobBytes markBytes plan start end before after (record {
+  pub touching-refused : (number place : ℕ) → TouchingContract jobBytes markBytes parameters plan start end before after (TouchingRefused number place)
+      → TouchingCall jobBytes markBytes parameters plan start end before after (record {
         number = number;
         place = place;
         «open_jobs» = 0;
@@ -256,7 +257,7 @@ module _ (jobBytes markBytes plan : List ℕ) (start end : ℕ) (before after : 
       })
   touching-refused number place h =
       record {
-        result-is = untouched-result (touching jobBytes markBytes plan start end before) number place (h .answer-is);
+        result-is = untouched-result (touching jobBytes markBytes parameters plan start end before) number place (h .answer-is);
         lists-are = h .lists-are;
       }
 

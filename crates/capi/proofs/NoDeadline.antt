@@ -27,8 +27,8 @@ module _ (jobs : List Job) (valid : ValidJobs jobs) (start : ℕ) where
 
 pub zero-is-none : ZeroIsNone
 unfolding touched
-zero-is-none jobBytes markBytes plan start end before t answered zero =
-    let (right, (jobs, marks, read, marks-read, rest)) = touching-answered jobBytes markBytes plan start end before t answered in
+zero-is-none jobBytes markBytes free margin plan start end before t answered zero =
+    let (right, (jobs, marks, read, marks-read, rest)) = touching-answered jobBytes markBytes free margin plan start end before t answered in
     let same : nearestDeadline jobs start ≡ t .deadline =
     ap (λ (found : Touched). found .deadline) (answered-touched jobs _ plan start end before t rest) in
     zero-none jobs (jobs-valid jobBytes jobs read) start (t .deadline) same zero

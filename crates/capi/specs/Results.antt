@@ -6,6 +6,7 @@ use mathlib.Core.List.{List}
 use mathlib.Core.Option.{none}
 use lib.ListN.{length}
 use lib.IntN.{ℤ, pos}
+use Rattle.model.specs.declared.Parameters.{Parameters}
 use Rattle.model.specs.Outcome.{Outcome, refused, answer}
 use Rattle.model.specs.Setting.{Setting}
 use Rattle.planning.specs.declared.operation.PlanAnswer.{PlanAnswer}
@@ -54,10 +55,10 @@ planResult (Refused number place) =
     record { number = number; place = place; intervals = 0; steps = 0; energy = 0; start = 0; end = 0; spare = pos 0 }
 
 -- A call of planning from C: what it returns is the struct of an answer that planning's contract holds of.
-pub record PlanCall (levelBytes jobBytes markBytes : List ℕ) (before after : Buffers) (result : PlanResult) : Type 0 where
+pub record PlanCall (levelBytes jobBytes markBytes : List ℕ) (parameters : Parameters) (before after : Buffers) (result : PlanResult) : Type 0 where
   pub answered : PlanAnswer
   pub result-is : result ≡ planResult answered
-  pub contract : PlanContract levelBytes jobBytes markBytes before after answered
+  pub contract : PlanContract levelBytes jobBytes markBytes parameters before after answered
 
 abbrev pub roundsResult : Outcome Round → RoundsResult
 roundsResult (refused number place) = record { number = number; place = place; length = 0; multiple = 0 }
@@ -73,9 +74,9 @@ orderResult (refused number place) = record { number = number; place = place; le
 orderResult (answer ordered) = record { number = 0; place = 0; length = length ordered }
 
 -- A call that orders a plan from C: what it returns, and what the buffer holds afterwards.
-pub record OrderCall (levelBytes jobBytes markBytes plan prices before after : List ℕ) (result : OrderResult) : Type 0 where
-  pub result-is : result ≡ orderResult (order levelBytes jobBytes markBytes plan prices (length before))
-  pub buffer-is : after ≡ orderedAfter (order levelBytes jobBytes markBytes plan prices (length before)) before
+pub record OrderCall (levelBytes jobBytes markBytes : List ℕ) (parameters : Parameters) (plan prices before after : List ℕ) (result : OrderResult) : Type 0 where
+  pub result-is : result ≡ orderResult (order levelBytes jobBytes markBytes parameters plan prices (length before))
+  pub buffer-is : after ≡ orderedAfter (order levelBytes jobBytes markBytes parameters plan prices (length before)) before
 
 -- The nearest deadline as one number. 0 stands for none alone: no deadline is 0 (`ZeroIsNone`).
 abbrev pub deadlineNumber : NearestDeadline → ℕ
@@ -95,12 +96,12 @@ touchingResult (answer t) = record {
 }
 
 -- A call that lists what touches a span from C: what it returns, and what the lists hold afterwards.
-pub record TouchingCall (jobBytes markBytes plan : List ℕ) (start end : ℕ) (before after : Lists) (result : TouchingResult) : Type 0 where
-  pub result-is : result ≡ touchingResult (touching jobBytes markBytes plan start end before)
-  pub lists-are : after ≡ listsAfter (touching jobBytes markBytes plan start end before) before
+pub record TouchingCall (jobBytes markBytes : List ℕ) (parameters : Parameters) (plan : List ℕ) (start end : ℕ) (before after : Lists) (result : TouchingResult) : Type 0 where
+  pub result-is : result ≡ touchingResult (touching jobBytes markBytes parameters plan start end before)
+  pub lists-are : after ≡ listsAfter (touching jobBytes markBytes parameters plan start end before) before
 
 -- In an answer a deadline of 0 says that there is none. Proved in proofs/NoDeadline.antt.
 abbrev pub ZeroIsNone : Type 0
 ZeroIsNone =
-    (jobBytes markBytes plan : List ℕ) (start end : ℕ) (before : Lists) (t : Touched) → touching jobBytes markBytes plan start end before ≡ answer t
+    (jobBytes markBytes : List ℕ) (parameters : Parameters) (plan : List ℕ) (start end : ℕ) (before : Lists) (t : Touched) → touching jobBytes markBytes parameters plan start end before ≡ answer t
     → deadlineNumber (nearestAnswer (t .deadline)) ≡ 0 → t .deadline ≡ none

@@ -12,6 +12,7 @@ use lib.Dec.{ltb, eqb}
 use lib.IntN.{ℤ}
 use Rattle.model.specs.declared.Level.{Level}
 use Rattle.model.specs.declared.Job.{Job}
+use Rattle.model.specs.declared.Parameters.{Parameters}
 use Rattle.model.specs.Limits.{maxMarks}
 use Rattle.model.specs.Outcome.{Outcome, refused, answer, andThen, refuseWhen}
 use Rattle.model.specs.Bytes.{IsBytes}
@@ -90,15 +91,15 @@ by-34 bytes =
     (λ number place e. absurd (refused≢answer (sym e))))))
 
 -- levels and jobs first, then marks
-tables-first : (levelBytes jobBytes markBytes : List ℕ) (number place : ℕ) → readTables levelBytes jobBytes ≡ refused number place
-    → readSite levelBytes jobBytes markBytes ≡ refused number place
+tables-first : (levelBytes jobBytes markBytes : List ℕ) (parameters : Parameters) (number place : ℕ) → readTables levelBytes jobBytes ≡ refused number place
+    → readSite levelBytes jobBytes markBytes parameters ≡ refused number place
 unfolding readSite
-tables-first levelBytes jobBytes markBytes number place e = rw e
+tables-first levelBytes jobBytes markBytes parameters number place e = rw e
 
-marks-next : (levelBytes jobBytes markBytes : List ℕ) (tables : Tables) → readTables levelBytes jobBytes ≡ answer tables
-    → (number place : ℕ) → readMarks markBytes ≡ refused number place → readSite levelBytes jobBytes markBytes ≡ refused 34 0
+marks-next : (levelBytes jobBytes markBytes : List ℕ) (parameters : Parameters) (tables : Tables) → readTables levelBytes jobBytes ≡ answer tables
+    → (number place : ℕ) → readMarks markBytes ≡ refused number place → readSite levelBytes jobBytes markBytes parameters ≡ refused 34 0
 unfolding readSite
-marks-next levelBytes jobBytes markBytes tables read number place e =
+marks-next levelBytes jobBytes markBytes parameters tables read number place e =
     let (is-34, no-place) = by-34 markBytes number place e in
     rw (read, e, is-34, no-place)
 
@@ -114,9 +115,9 @@ refused-answer (Refused n p) number place e =
 refused-is-no-plan : (answered : PlanAnswer) (number place : ℕ) → outcomeOf answered ≡ refusal number place → outcomeOf answered ≡ comesOut → ⊥
 refused-is-no-plan answered number place e is = let z : _≡_ {A = ℕ} 0 1 = cc (sym e ∙ is) in omega (arith, z)
 
-refused-by-34 : (levelBytes jobBytes markBytes : List ℕ) → readSite levelBytes jobBytes markBytes ≡ refused 34 0 → RefusedBy34 levelBytes jobBytes markBytes
+refused-by-34 : (levelBytes jobBytes markBytes : List ℕ) (parameters : Parameters) → readSite levelBytes jobBytes markBytes parameters ≡ refused 34 0 → RefusedBy34 levelBytes jobBytes markBytes parameters
 unfolding fits check order planning
-refused-by-34 levelBytes jobBytes markBytes e =
+refused-by-34 levelBytes jobBytes markBytes parameters e =
     record {
       fitting = λ plan. rw e;
       checks = λ plan prices. rw e;
@@ -151,13 +152,13 @@ uncut : (jobs : List Job) (marks : List ℕ) → ((time : ℕ) → Cuts jobs mar
 unfolding boundsWith insertMarks
 uncut jobs marks none-cut = marked-none (earliestRelease jobs) (latestDeadline jobs) marks (boundsOf jobs) none-cut
 
-module _ (jobBytes markBytes : List ℕ) (jobs : List Job) (marks : List ℕ) (jobs-read : readJobs jobBytes ≡ answer jobs)
+module _ (jobBytes markBytes : List ℕ) (parameters : Parameters) (jobs : List Job) (marks : List ℕ) (jobs-read : readJobs jobBytes ≡ answer jobs)
     (marks-read : readMarks markBytes ≡ answer marks) (none-cut : (time : ℕ) → Cuts jobs marks time → ⊥) where
-  same-touching : (plan : List ℕ) (start end : ℕ) (before : Lists) → touching jobBytes markBytes plan start end before ≡ touching jobBytes noMarks plan start end before
+  same-touching : (plan : List ℕ) (start end : ℕ) (before : Lists) → touching jobBytes markBytes parameters plan start end before ≡ touching jobBytes noMarks plan start end before
   unfolding touching
   same-touching plan start end before = rw (jobs-read, marks-read, no-marks-read, uncut jobs marks none-cut)
 
-  same-site : (levelBytes : List ℕ) → readSite levelBytes jobBytes markBytes ≡ readSite levelBytes jobBytes noMarks
+  same-site : (levelBytes : List ℕ) → readSite levelBytes jobBytes markBytes parameters ≡ readSite levelBytes jobBytes noMarks
   unfolding readSite readTables
   same-site levelBytes = go (readLevels levelBytes)
     where
@@ -169,7 +170,7 @@ module _ (jobBytes markBytes : List ℕ) (jobs : List Job) (marks : List ℕ) (j
       go (refused number place) = refl
       go (answer entries) = rw (jobs-read, marks-read, no-marks-read, uncut jobs marks none-cut)
 
-  same-with : (levelBytes : List ℕ) → SameWith levelBytes jobBytes markBytes noMarks
+  same-with : (levelBytes : List ℕ) → SameWith levelBytes jobBytes markBytes parameters noMarks
   same-with levelBytes =
       let same = same-site levelBytes in
       record {
@@ -291,17 +292,17 @@ overfull-answer (Refused number place) start end spare e = let z : _≡_ {A = �
 
 -- Two calls of planning with the same levels and jobs.
 module _ (call other : Call) (alike-calls : OtherMarks call other)
-    (site : Site) (tables : ValidTables (call .levelBytes) (call .jobBytes) (call .markBytes) site)
-    (otherSite : Site) (other-tables : ValidTables (other .levelBytes) (other .jobBytes) (other .markBytes) otherSite) where
+    (site : Site) (tables : ValidTables (call .levelBytes) (call .jobBytes) (call .markBytes) (call .parameters) site)
+    (otherSite : Site) (other-tables : ValidTables (other .levelBytes) (other .jobBytes) (other .markBytes) (other .parameters) otherSite) where
   -- the other's site, read with the one's levels and jobs
-  moved : ValidTables (call .levelBytes) (call .jobBytes) (other .markBytes) otherSite
+  moved : ValidTables (call .levelBytes) (call .jobBytes) (other .markBytes) (other .parameters) otherSite
   moved = rw (alike-calls .0, alike-calls .1) other-tables
 
   served-too : CanBeServed site → CanBeServed otherSite
-  served-too = same-served (call .levelBytes) (call .jobBytes) (call .markBytes) (other .markBytes) site otherSite tables moved
+  served-too = same-served (call .levelBytes) (call .jobBytes) (call .markBytes) (call .parameters) (other .markBytes) (other .parameters) site otherSite tables moved
 
   served-back : CanBeServed otherSite → CanBeServed site
-  served-back = same-served (call .levelBytes) (call .jobBytes) (other .markBytes) (call .markBytes) otherSite site moved tables
+  served-back = same-served (call .levelBytes) (call .jobBytes) (other .markBytes) (other .parameters) (call .markBytes) (call .parameters) otherSite site moved tables
 
   comes-out-too : Roomy call site → Roomy other otherSite → PlanComesOut call ↔ PlanComesOut other
   comes-out-too room other-room =
@@ -313,14 +314,14 @@ module _ (call other : Call) (alike-calls : OtherMarks call other)
       → (otherIntervals otherSteps otherEnergy : ℕ) → other .answered ≡ Plan otherIntervals otherSteps otherEnergy
       → exactFor site (planWritten call steps) ≡ exactFor otherSite (planWritten other otherSteps)
   energy-too intervals steps energy is otherIntervals otherSteps otherEnergy other-is =
-      same-energy (call .levelBytes) (call .jobBytes) (call .markBytes) (other .markBytes) site otherSite tables moved
+      same-energy (call .levelBytes) (call .jobBytes) (call .markBytes) (call .parameters) (other .markBytes) (other .parameters) site otherSite tables moved
       _ _ (call .contract .best site tables intervals steps energy is .placed-and-priced)
       _ _ (other .contract .best otherSite other-tables otherIntervals otherSteps otherEnergy other-is .placed-and-priced) .0
 
   window-too : (start end : ℕ) (spare : ℤ) → call .answered ≡ Overfull start end spare → other .answered ≡ Overfull start end spare
   window-too start end spare is =
       let here = sym (planned-as _ _ _ site tables _ _ _) ∙ sym (call .contract .outcome) ∙ ap outcomeOf is in
-      let there = same-overfull (call .levelBytes) (call .jobBytes) (call .markBytes) (other .markBytes) site otherSite tables moved
+      let there = same-overfull (call .levelBytes) (call .jobBytes) (call .markBytes) (call .parameters) (other .markBytes) (other .parameters) site otherSite tables moved
       _ _ _ (length (other .before .plan)) (length (other .before .prices)) (length (other .before .shares)) start end spare here in
       overfull-answer (other .answered) start end spare (other .contract .outcome ∙ planned-as _ _ _ otherSite other-tables _ _ _ ∙ there)
 
@@ -330,18 +331,18 @@ handover-marks =
       read = are-marks;
       refused-by-34 = by-34;
       tables-first = tables-first;
-      then-marks = λ levelBytes jobBytes markBytes tables read number place e.
-          refused-by-34 levelBytes jobBytes markBytes (marks-next levelBytes jobBytes markBytes tables read number place e);
-      bounds = λ levelBytes jobBytes markBytes site tables marks marks-read time.
-          let (found, ticks, tables-read, ticks-read, is) = site-tables levelBytes jobBytes markBytes site tables in
+      then-marks = λ levelBytes jobBytes markBytes parameters tables read number place e.
+          refused-by-34 levelBytes jobBytes markBytes parameters (marks-next levelBytes jobBytes markBytes parameters tables read number place e);
+      bounds = λ levelBytes jobBytes markBytes parameters site tables marks marks-read time.
+          let (found, ticks, tables-read, ticks-read, is) = site-tables levelBytes jobBytes markBytes parameters site tables in
           let same : ticks ≡ marks = answer-injective (sym ticks-read ∙ marks-read) in
           subst (λ (s : Site). IsBound (s .bounds) time ↔ (OfAJob (s .jobs) time ⊎ Cuts (s .jobs) marks time))
           (sym (is ∙ ap (siteOf found) same)) (bounds-are (found .jobs) marks time);
-      bounds-rise = λ levelBytes jobBytes markBytes site tables. sites-are-valid levelBytes jobBytes markBytes site tables .bounds .rises;
-      few-intervals = λ levelBytes jobBytes markBytes site tables.
-          omega (arith, sites-are-valid levelBytes jobBytes markBytes site tables .few-bounds);
-      no-effect = λ levelBytes jobBytes markBytes jobs marks jobs-read marks-read none-cut.
-          same-with jobBytes markBytes jobs marks jobs-read marks-read none-cut levelBytes;
+      bounds-rise = λ levelBytes jobBytes markBytes parameters site tables. sites-are-valid levelBytes jobBytes markBytes parameters site tables .bounds .rises;
+      few-intervals = λ levelBytes jobBytes markBytes parameters site tables.
+          omega (arith, sites-are-valid levelBytes jobBytes markBytes parameters site tables .few-bounds);
+      no-effect = λ levelBytes jobBytes markBytes parameters jobs marks jobs-read marks-read none-cut.
+          same-with jobBytes markBytes parameters jobs marks jobs-read marks-read none-cut levelBytes;
       none-read = no-marks-read;
       no-marks = as-before;
       no-marks-touched = touched-as-before;

@@ -124,8 +124,8 @@ idling-is-not-free =
     record {
       read = λ bytes small processor. (read-table bytes small processor, table-read bytes small processor);
       point = idling-is-a-point;
-      gained = λ levelBytes jobBytes markBytes site tables plan figure such.
-          let valid = sites-are-valid levelBytes jobBytes markBytes site tables in
+      gained = λ levelBytes jobBytes markBytes parameters site tables plan figure such.
+          let valid = sites-are-valid levelBytes jobBytes markBytes parameters site tables in
           let gains = energies-gain-the-draw _ (site .processor .levels) (site .jobs) (site .bounds) (valid .bounds) _ in
           record { exact = gains .0; reported = such .energy-figure ∙ gains .1 };
       schedules-pay = λ site schedule. schedules-pay-the-draw _ _ _ schedule;

@@ -261,17 +261,17 @@ serves one two alike jobs marks plan prices figure e =
 
 -- a call that answers a plan
 module _ (call : Call) (intervals steps energy : ℕ) (told : call .answered ≡ Plan intervals steps energy) where
-  its-site : (site : Site) × ValidTables (call .levelBytes) (call .jobBytes) (call .markBytes) site
+  its-site : (site : Site) × ValidTables (call .levelBytes) (call .jobBytes) (call .markBytes) (call .parameters) site
   its-site = plan-read (call .contract) intervals steps energy told
 
   planned-serves : (two : List ℕ) → SameWorkingFrequencies (call .levelBytes) two
-      → ServesOn two (call .jobBytes) (call .markBytes) (planWritten call steps) (pricesWritten call intervals)
+      → ServesOn two (call .jobBytes) (call .markBytes) (call .parameters) (planWritten call steps) (pricesWritten call intervals)
   planned-serves two alike =
       let (site, tables) = its-site in
       serves (call .levelBytes) two alike _ _ _ _ energy (demand-three .written call site tables intervals steps energy told .checked)
 
   module _ (two : List ℕ) (alike : SameWorkingFrequencies (call .levelBytes) two) (second : Site)
-      (second-read : ValidTables two (call .jobBytes) (call .markBytes) second) where
+      (second-read : ValidTables two (call .jobBytes) (call .markBytes) (call .parameters) second) where
     its-figure : ℕ
     its-figure = figureOf second (planWritten call steps)
 
@@ -280,7 +280,7 @@ module _ (call : Call) (intervals steps energy : ℕ) (told : call .answered ≡
     written-there =
         let (site, read) = its-site in
         let (processor, other, read-one, read-two, same) = boards (call .levelBytes) two alike in
-        let (its, on-other) = sites-on (call .levelBytes) two read-one read-two same (call .jobBytes) (call .markBytes) site second read second-read in
+        let (its, on-other) = sites-on (call .levelBytes) two read-one read-two same (call .jobBytes) (call .markBytes) (call .parameters) site second read second-read in
         let written = call .contract .written site read intervals steps energy told in
         rw on-other (
         record {
@@ -295,12 +295,12 @@ module _ (call : Call) (intervals steps energy : ℕ) (told : call .answered ≡
     comes-out-there =
         let (processor, other, read-one, read-two, same) = boards (call .levelBytes) two alike in
         sym (ap outcomeOf told) ∙ call .contract .outcome
-        ∙ plans-on (call .levelBytes) two read-one read-two same (call .jobBytes) (call .markBytes) _ _ _
-        ∙ planned-as two (call .jobBytes) (call .markBytes) second second-read _ _ _
+        ∙ plans-on (call .levelBytes) two read-one read-two same (call .jobBytes) (call .markBytes) (call .parameters) _ _ _
+        ∙ planned-as two (call .jobBytes) (call .markBytes) (call .parameters) second second-read _ _ _
 
-    written-for-both : PlanContract two (call .jobBytes) (call .markBytes) (call .before) (call .after) (Plan intervals steps its-figure)
+    written-for-both : PlanContract two (call .jobBytes) (call .markBytes) (call .parameters) (call .before) (call .after) (Plan intervals steps its-figure)
     written-for-both =
-        site-contract two (call .jobBytes) (call .markBytes) second second-read (
+        site-contract two (call .jobBytes) (call .markBytes) (call .parameters) second second-read (
         record {
           outcome = comes-out-there;
           untouched = λ no-plan. absurd (no-plan refl);

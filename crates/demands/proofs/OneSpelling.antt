@@ -8,6 +8,7 @@ use native.Mathlib.Omega.{arith}
 use lib.ListN.{length, drop}
 use lib.Seq.{take-at, drop-at}
 use Rattle.model.specs.declared.Job.{Job}
+use Rattle.model.specs.declared.Parameters.{Parameters}
 use Rattle.model.specs.Outcome.{Outcome, refused, answer}
 use Rattle.model.specs.Jobs.{readJobs}
 use Rattle.model.specs.Marks.{readMarks, boundsWith}
@@ -37,21 +38,21 @@ answered-of (refused number place) size e = let z : _≡_ {A = ℕ} 0 1 = cc e i
 answered-of (answer ordered) size e = (ordered, refl)
 
 -- a site has the jobs of its job table, and their bounds with the marks
-jobs-of : (levelBytes jobBytes markBytes : List ℕ) (site : Site) → readSite levelBytes jobBytes markBytes ≡ answer site
+jobs-of : (levelBytes jobBytes markBytes : List ℕ) (parameters : Parameters) (site : Site) → readSite levelBytes jobBytes markBytes parameters ≡ answer site
     → (jobs : List Job) → readJobs jobBytes ≡ answer jobs → (marks : List ℕ) → readMarks markBytes ≡ answer marks
     → (site .jobs ≡ jobs) × (site .bounds ≡ boundsWith marks jobs)
-jobs-of levelBytes jobBytes markBytes site read jobs is-jobs marks are-marks =
-    let (found, ticks, jobs-read, marks-read, same-jobs, same-bounds) = site-parts levelBytes jobBytes markBytes site read in
+jobs-of levelBytes jobBytes markBytes parameters site read jobs is-jobs marks are-marks =
+    let (found, ticks, jobs-read, marks-read, same-jobs, same-bounds) = site-parts levelBytes jobBytes markBytes parameters site read in
     let same : found ≡ jobs = answer-injective (sym jobs-read ∙ is-jobs) in
     let same-marks : ticks ≡ marks = answer-injective (sym marks-read ∙ are-marks) in
     (same-jobs ∙ same, same-bounds ∙ ap₂ (λ (m : List ℕ) (j : List Job). boundsWith m j) same-marks same)
 
 module _ (call : OrderingCall) where
   abbrev outcome : Outcome (List ℕ)
-  outcome = order (call .levelBytes) (call .jobBytes) (call .markBytes) (call .plan) (call .prices) (length (call .before))
+  outcome = order (call .levelBytes) (call .jobBytes) (call .markBytes) (call .parameters) (call .plan) (call .prices) (length (call .before))
 
   abbrev Accepts : ℕ → Type 0
-  Accepts figure = check (call .levelBytes) (call .jobBytes) (call .markBytes) (call .plan) (call .prices) ≡ answer figure
+  Accepts figure = check (call .levelBytes) (call .jobBytes) (call .markBytes) (call .parameters) (call .plan) (call .prices) ≡ answer figure
 
   refused-call : (number place : ℕ) → outcome ≡ refused number place → RefusedCall call number place
   refused-call number place e = record { refusal = rw e at (call .contract .answer-is); untouched = rw e at (call .contract .buffer-is) }
@@ -59,18 +60,18 @@ module _ (call : OrderingCall) where
   only-accepted : (size : ℕ) → call .answered ≡ Ordered size → (figure : ℕ) × Accepts figure × (length (call .plan) ≤ length (call .before))
   only-accepted size is =
       let (ordered, e) = answered-of outcome size (sym is ∙ call .contract .answer-is) in
-      order-answered (call .levelBytes) (call .jobBytes) (call .markBytes) (call .plan) (call .prices) (length (call .before)) ordered e
+      order-answered (call .levelBytes) (call .jobBytes) (call .markBytes) (call .parameters) (call .plan) (call .prices) (length (call .before)) ordered e
 
   module _ (figure : ℕ) (accepted : Accepts figure) where
     orderable : Orderable (call .plan)
-    orderable = order-orderable (call .levelBytes) (call .jobBytes) (call .markBytes) (call .plan) (call .prices) figure accepted
+    orderable = order-orderable (call .levelBytes) (call .jobBytes) (call .markBytes) (call .parameters) (call .plan) (call .prices) figure accepted
 
     long : length (orderedPlan (call .plan)) ≡ length (call .plan)
     long = length-ordered (call .plan) orderable
 
     module _ (room : length (call .plan) ≤ length (call .before)) where
       answers : outcome ≡ answer (orderedPlan (call .plan))
-      answers = order-answers (call .levelBytes) (call .jobBytes) (call .markBytes) (call .plan) (call .prices) (length (call .before)) figure accepted room
+      answers = order-answers (call .levelBytes) (call .jobBytes) (call .markBytes) (call .parameters) (call .plan) (call .prices) (length (call .before)) figure accepted room
 
       left : call .after ≡ orderedPlan (call .plan) ++ drop (length (call .plan)) (call .before)
       left = rw (answers, long) at (call .contract .buffer-is)
@@ -104,21 +105,21 @@ module _ (call : OrderingCall) (comes-out : ComesOut call) where
   plan-of-jobs : (jobs : List Job) → readJobs (call .jobBytes) ≡ answer jobs → (marks : List ℕ) → readMarks (call .markBytes) ≡ answer marks
       → IsPlan jobs (boundsWith marks jobs) (call .plan)
   plan-of-jobs jobs is-jobs marks are-marks =
-      let (site, read, checked) = check-reads (call .levelBytes) (call .jobBytes) (call .markBytes) (call .plan) (call .prices) figure-of accepts in
-      let (same-jobs, same-bounds) = jobs-of (call .levelBytes) (call .jobBytes) (call .markBytes) site read jobs is-jobs marks are-marks in
+      let (site, read, checked) = check-reads (call .levelBytes) (call .jobBytes) (call .markBytes) (call .parameters) (call .plan) (call .prices) figure-of accepts in
+      let (same-jobs, same-bounds) = jobs-of (call .levelBytes) (call .jobBytes) (call .markBytes) (call .parameters) site read jobs is-jobs marks are-marks in
       rw (same-jobs, same-bounds) at (check-accepts site (call .plan) (call .prices) figure-of .0 checked .0 .is-plan)
 
-  checked-again : check (call .levelBytes) (call .jobBytes) (call .markBytes) (planOut call) (call .prices)
-      ≡ check (call .levelBytes) (call .jobBytes) (call .markBytes) (call .plan) (call .prices)
+  checked-again : check (call .levelBytes) (call .jobBytes) (call .markBytes) (call .parameters) (planOut call) (call .prices)
+      ≡ check (call .levelBytes) (call .jobBytes) (call .markBytes) (call .parameters) (call .plan) (call .prices)
   checked-again =
-      let (site, read, checked) = check-reads (call .levelBytes) (call .jobBytes) (call .markBytes) (call .plan) (call .prices) figure-of accepts in
-      let again = accepted-again site (sites-are-valid _ _ _ site read) (call .plan) (call .prices) figure-of checked in
+      let (site, read, checked) = check-reads (call .levelBytes) (call .jobBytes) (call .markBytes) (call .parameters) (call .plan) (call .prices) figure-of accepts in
+      let again = accepted-again site (sites-are-valid _ _ _ _ site read) (call .plan) (call .prices) figure-of checked in
       rw plan-out (check-read _ _ _ (orderedPlan (call .plan)) _ site read ∙ again ∙ sym accepts)
 
-  same-energy : (site : Site) → ValidTables (call .levelBytes) (call .jobBytes) (call .markBytes) site → exactFor site (planOut call) ≡ exactFor site (call .plan)
+  same-energy : (site : Site) → ValidTables (call .levelBytes) (call .jobBytes) (call .markBytes) (call .parameters) site → exactFor site (planOut call) ≡ exactFor site (call .plan)
   same-energy site read =
       let checked = sym (check-read _ _ _ _ _ site read) ∙ accepts in
-      rw plan-out (ordered-exact site (sites-are-valid _ _ _ site read) (call .plan) (call .prices) figure-of checked)
+      rw plan-out (ordered-exact site (sites-are-valid _ _ _ _ site read) (call .plan) (call .prices) figure-of checked)
 
 equal-exactly-when : (one two : OrderingCall) → ComesOut one → ComesOut two → one .jobBytes ≡ two .jobBytes
     → (jobs : List Job) → readJobs (one .jobBytes) ≡ answer jobs
@@ -143,7 +144,7 @@ one-spelling =
       ordered-again = λ first second out is-plan out-again.
           plan-out second out-again
           ∙ (ap orderedPlan (is-plan ∙ plan-out first out) ∙ (ordered-again (first .plan) (orderable-plan first out) ∙ sym (plan-out first out)));
-      every-call = λ levelBytes jobBytes markBytes plan prices before after answered contract. (
+      every-call = λ levelBytes jobBytes markBytes parameters plan prices before after answered contract. (
         record {
           levelBytes = levelBytes;
           jobBytes = jobBytes;

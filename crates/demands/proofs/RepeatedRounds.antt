@@ -9,6 +9,7 @@ use lib.ListN.{length as size, drop}
 use lib.Seq.{take-at}
 use borrow.Author.Tests.{lt-ltb}
 use Rattle.model.specs.declared.Job.{Job}
+use Rattle.model.specs.declared.Parameters.{Parameters}
 use Rattle.model.specs.Outcome.{Outcome, refused, answer}
 use Rattle.model.specs.Jobs.{readJobs, encodeJobs}
 use Rattle.model.specs.Processors.{topOf}
@@ -56,18 +57,18 @@ module _ (laid : LayOutCall) (length multiple : ℕ) (found : Answered laid leng
   jobs-read : readJobs (jobsWritten laid length) ≡ answer (found .round .jobs)
   jobs-read = rw written (answered-round-is (laid .taskBytes) (size (laid .before)) (found .round) (found .is) .reads-back)
 
-  same-jobs : (levelBytes markBytes : List ℕ) (site : Site) → ValidTables levelBytes (jobsWritten laid length) markBytes site → site .jobs ≡ found .round .jobs
+  same-jobs : (levelBytes markBytes : List ℕ) (parameters : Parameters) (site : Site) → ValidTables levelBytes (jobsWritten laid length) markBytes site → site .jobs ≡ found .round .jobs
   same-jobs levelBytes markBytes site tables =
       let (jobs, marks, read, marks-read, same-jobs, same-bounds) = site-parts levelBytes (jobsWritten laid length) markBytes site tables in
       same-jobs ∙ answer-injective (sym read ∙ jobs-read)
 
-  repeats : (levelBytes markBytes : List ℕ) (site : Site) → ValidTables levelBytes (jobsWritten laid length) markBytes site
+  repeats : (levelBytes markBytes : List ℕ) (parameters : Parameters) (site : Site) → ValidTables levelBytes (jobsWritten laid length) markBytes site
       → (plan prices : List ℕ) → Accepted site plan prices → (r : ℕ) → Repeated laid multiple site plan prices r
   repeats levelBytes markBytes site tables plan prices accepted r =
       let same = same-jobs levelBytes markBytes site tables in
       let round : Round = record { multiple = multiple; jobs = site .jobs } in
       let e : found .round ≡ round = rw (found .same-multiple, same) in
-      rounds-that-repeat (laid .taskBytes) (size (laid .before)) round (found .is ∙ ap answer e) site (sites-are-valid _ _ _ site tables) refl plan prices accepted r
+      rounds-that-repeat (laid .taskBytes) (size (laid .before)) round (found .is ∙ ap answer e) site (sites-are-valid _ _ _ _ site tables) refl plan prices accepted r
 
 -- a window whose own jobs need more than the top frequency gives there is overfull
 needs-more : (top : ℕ) (jobs : List Job) (start end : ℕ) → (end - start) * top < cyclesInside jobs start end → isOverfull top jobs start end ≡ true
@@ -78,13 +79,13 @@ pub repeated-rounds : RepeatedRounds
 repeated-rounds =
     record {
       planned = λ laid length multiple told call same site tables intervals steps energy is r.
-          repeats laid length multiple (answered-round laid length multiple told) (call .levelBytes) (call .markBytes) site (rw same at tables) _ _
+          repeats laid length multiple (answered-round laid length multiple told) (call .levelBytes) (call .markBytes) (call .parameters) site (rw same at tables) _ _
           (call .contract .best site tables intervals steps energy is .placed-and-priced) r;
       checked = λ laid length multiple told levelBytes markBytes plan prices figure accepted site tables r.
           repeats laid length multiple (answered-round laid length multiple told) levelBytes markBytes site tables plan prices
           (check-accepts site plan prices figure .0 (sym (check-read levelBytes _ markBytes plan prices site tables) ∙ accepted) .0) r;
       overfull = λ laid length multiple told call same site tables start end spare is r some.
-          overfull-repeats site (sound-site (sites-are-valid _ _ _ site tables)) start end
+          overfull-repeats site (sound-site (sites-are-valid _ _ _ _ site tables)) start end
           (needs-more (topOf (site .processor)) (site .jobs) start end (call .contract .window site tables start end spare is .needs-more)) multiple r some;
       every-round = λ laid length multiple told levelBytes markBytes levels marks read marks-read. (
         _,

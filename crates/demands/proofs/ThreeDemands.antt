@@ -115,21 +115,21 @@ demand-two =
     record {
       planner = λ call site tables intervals steps energy is.
           let best = call .contract .best site tables intervals steps energy is in
-          such-a-plan (sites-are-valid _ _ _ site tables) (plan-fits (best .placed-and-priced)) (best .figure);
-      accepts = λ levelBytes jobBytes markBytes plan prices figure. (
+          such-a-plan (sites-are-valid _ _ _ _ site tables) (plan-fits (best .placed-and-priced)) (best .figure);
+      accepts = λ levelBytes jobBytes markBytes parameters plan prices figure. (
         λ e.
-            let (site, tables, e) = check-reads levelBytes jobBytes markBytes plan prices figure e in
+            let (site, tables, e) = check-reads levelBytes jobBytes markBytes parameters plan prices figure e in
             let (accepted, is) = check-accepts site plan prices figure .0 e in
             record {
               site = site;
               tables = tables;
-              such-a-plan = such-a-plan (sites-are-valid _ _ _ site tables) (plan-fits accepted) is;
+              such-a-plan = such-a-plan (sites-are-valid _ _ _ _ site tables) (plan-fits accepted) is;
               prices-fit = prices-fit accepted;
             },
         λ acceptable.
             let plans = acceptable .such-a-plan in
             let fits = acceptable .prices-fit in
-            check-read levelBytes jobBytes markBytes plan prices (acceptable .site) (acceptable .tables)
+            check-read levelBytes jobBytes markBytes parameters plan prices (acceptable .site) (acceptable .tables)
             ∙ check-accepts (acceptable .site) plan prices figure .1 (
               record { is-plan = plans .is-plan; gives = plans .gives; is-price-list = fits .is-price-list; fitting = fits .fitting },
               plans .energy-figure,
@@ -145,7 +145,7 @@ demand-three =
           let best = call .contract .best site tables intervals steps energy is in
           record {
             least = best .least .least;
-            placed = such-a-plan (sites-are-valid _ _ _ site tables) (plan-fits (best .placed-and-priced)) (best .figure);
+            placed = such-a-plan (sites-are-valid _ _ _ _ site tables) (plan-fits (best .placed-and-priced)) (best .figure);
             priced = prices-fit (best .placed-and-priced);
             smallest = best .smallest;
             checked = check-read _ _ _ _ _ site tables ∙ call .contract .written site tables intervals steps energy is .planned .accepted;
@@ -153,7 +153,7 @@ demand-three =
       window-instead = λ call site tables long no-plan. instead call site tables long no-plan (call .answered) refl;
     }
   where
-    instead : (call : Call) (site : Site) → ValidTables (call .levelBytes) (call .jobBytes) (call .markBytes) site
+    instead : (call : Call) (site : Site) → ValidTables (call .levelBytes) (call .jobBytes) (call .markBytes) (call .parameters) site
         → LongEnough site (length (call .before .plan)) (length (call .before .prices)) (length (call .before .shares))
         → (PlanComesOut call → ⊥) → (answered : PlanAnswer) → call .answered ≡ answered → NoPlan call site
     instead call site tables long no-plan (Plan intervals steps energy) is = absurd (no-plan (ap outcomeOf is))
@@ -175,7 +175,7 @@ demand-three =
 pub nothing-shut-out : NothingShutOut
 nothing-shut-out =
     record {
-      every-call = λ levelBytes jobBytes markBytes before after answered contract. (
+      every-call = λ levelBytes jobBytes markBytes parameters before after answered contract. (
         record {
           levelBytes = levelBytes;
           jobBytes = jobBytes;
@@ -192,9 +192,9 @@ nothing-shut-out =
         refl,
         refl,
       );
-      every-table = λ levelBytes jobBytes markBytes entries jobs marks levels-read jobs-read marks-read. (
+      every-table = λ levelBytes jobBytes markBytes parameters entries jobs marks levels-read jobs-read marks-read. (
         siteOf (record { processor = processorOf entries; jobs = jobs }) marks,
-        every-valid-table levelBytes jobBytes markBytes entries jobs marks levels-read jobs-read marks-read,
+        every-valid-table levelBytes jobBytes markBytes parameters entries jobs marks levels-read jobs-read marks-read,
         refl,
         refl,
         refl,

@@ -108,7 +108,7 @@ same-lists one two first second third = make first second third
 
 module _ (call : TouchingCall) where
   abbrev outcome : Outcome Touched
-  outcome = touching (call .jobBytes) (call .markBytes) (call .plan) (call .start) (call .end) (call .before)
+  outcome = touching (call .jobBytes) (call .markBytes) (call .free) (call .margin) (call .plan) (call .start) (call .end) (call .before)
 
   -- what touches the span, where these are the jobs and the marks
   abbrev found : List Job → (marks : List ℕ) → Touched
@@ -160,13 +160,13 @@ module _ (call : TouchingCall) where
 
       as-the-check : (levelBytes prices : List ℕ) (entries : List Level) → readLevels levelBytes ≡ answer entries
           → (number place : ℕ) → From 15 18 number
-          → (call .answered ≡ Refused number place) ↔ (check levelBytes (call .jobBytes) (call .markBytes) (call .plan) prices ≡ refused number place)
+          → (call .answered ≡ Refused number place) ↔ (check levelBytes (call .jobBytes) (call .markBytes) (call .free) (call .margin) (call .plan) prices ≡ refused number place)
       as-the-check levelBytes prices entries levels-read number place from =
           let bounds = boundsWith marks jobs in
           let site = siteOf (record { processor = processorOf entries; jobs = jobs }) marks in
           let (rest, is, past) = check-past-steps site (call .plan) prices in
           let checked =
-          check-read levelBytes (call .jobBytes) (call .markBytes) (call .plan) prices site (every-valid-table _ _ _ entries jobs marks levels-read read marks-read) in
+          check-read levelBytes (call .jobBytes) (call .markBytes) (call .free) (call .margin) (call .plan) prices site (every-valid-table _ _ _ entries jobs marks levels-read read marks-read) in
           let same =
           same-steps (stepsAlone jobs bounds (call .plan)) (whereRoom (call .before) (found jobs marks)) rest (room-by (call .before) (found jobs marks)) past
           number place from in (
@@ -261,7 +261,7 @@ touched-spans =
       steps-too-short = λ call jobs marks sound wanted is. rw (is-made call jobs marks sound wanted is) (steps-too-short call jobs marks sound);
       comes-out = λ call jobs marks sound wanted is. rw (is-made call jobs marks sound wanted is) (answered-call call jobs marks sound);
       only-then = only-then;
-      every-call = λ jobBytes markBytes plan start end before after answered contract. (
+      every-call = λ jobBytes markBytes free margin plan start end before after answered contract. (
         record {
           jobBytes = jobBytes;
           markBytes = markBytes;

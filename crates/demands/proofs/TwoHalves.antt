@@ -5,6 +5,7 @@ use mathlib.Core.List.{List}
 use Prim.Native.Nat.{ℕ, _+_, _*_, _<_, _≤_}
 use native.Mathlib.Nat.{mul-le-mul-left, mul-lt-mul-of-pos-left}
 use native.Mathlib.Omega.{arith}
+use Rattle.model.specs.declared.Parameters.{Parameters}
 use Rattle.model.specs.Limits.{maxPoints}
 use Rattle.model.specs.Outcome.{Outcome, refused, answer, andThen, From, RefusesBy}
 use Rattle.model.specs.Bands.{bandCount}
@@ -26,13 +27,13 @@ use Rattle.planning.proofs.PlanStages.{plan-read}
 use Rattle.demands.specs.TwoHalves.{FittingPlan, FitsAndIsNotLeast, CheckInTwoHalves}
 use Rattle.demands.proofs.ThreeDemands.{such-a-plan, demand-three}
 
-module _ (levelBytes jobBytes markBytes plan : List ℕ) where
+module _ (levelBytes jobBytes markBytes : List ℕ) (parameters : Parameters) (plan : List ℕ) where
   -- what is answered fits
-  fitting-plan : (figure : ℕ) → fits levelBytes jobBytes markBytes plan ≡ answer figure → FittingPlan levelBytes jobBytes markBytes plan figure
+  fitting-plan : (figure : ℕ) → fits levelBytes jobBytes markBytes parameters plan ≡ answer figure → FittingPlan levelBytes jobBytes markBytes parameters plan figure
   fitting-plan figure e =
-      let (site, tables, e) = fits-reads levelBytes jobBytes markBytes plan figure e in
+      let (site, tables, e) = fits-reads levelBytes jobBytes markBytes parameters plan figure e in
       let (fitting, is) = fits-exactly site plan figure .0 e in
-      let valid = sites-are-valid levelBytes jobBytes markBytes site tables in
+      let valid = sites-are-valid levelBytes jobBytes markBytes parameters site tables in
       let such = such-a-plan valid fitting is in
       let ends = figure-close site valid plan figure is in
       record {
@@ -46,70 +47,70 @@ module _ (levelBytes jobBytes markBytes plan : List ℕ) where
       }
 
   -- and what fits is answered
-  fits-plan : (figure : ℕ) → FittingPlan levelBytes jobBytes markBytes plan figure → fits levelBytes jobBytes markBytes plan ≡ answer figure
+  fits-plan : (figure : ℕ) → FittingPlan levelBytes jobBytes markBytes parameters plan figure → fits levelBytes jobBytes markBytes parameters plan ≡ answer figure
   fits-plan figure fitting =
       let such = fitting .such-a-plan in
-      fits-read levelBytes jobBytes markBytes plan (fitting .site) (fitting .tables)
+      fits-read levelBytes jobBytes markBytes parameters plan (fitting .site) (fitting .tables)
       ∙ fits-exactly (fitting .site) plan figure .1 (record { is-plan = such .is-plan; gives = such .gives }, such .energy-figure)
 
   module _ (prices : List ℕ) where
     -- what comes after the first half
     abbrev goesOn : (figure : ℕ) → Outcome ℕ
     goesOn figure =
-        andThen (readSite levelBytes jobBytes markBytes) λ site.
+        andThen (readSite levelBytes jobBytes markBytes parameters) λ site.
         pricing site plan prices (answer figure)
 
-    runs : check levelBytes jobBytes markBytes plan prices ≡ andThen (fits levelBytes jobBytes markBytes plan) goesOn
-    runs = check-goes-on levelBytes jobBytes markBytes plan prices
+    runs : check levelBytes jobBytes markBytes parameters plan prices ≡ andThen (fits levelBytes jobBytes markBytes parameters plan) goesOn
+    runs = check-goes-on levelBytes jobBytes markBytes parameters plan prices
 
-    refuses-too : (number place : ℕ) → fits levelBytes jobBytes markBytes plan ≡ refused number place
-        → check levelBytes jobBytes markBytes plan prices ≡ refused number place
+    refuses-too : (number place : ℕ) → fits levelBytes jobBytes markBytes parameters plan ≡ refused number place
+        → check levelBytes jobBytes markBytes parameters plan prices ≡ refused number place
     refuses-too number place e = runs ∙ rw e
 
     -- where the plan fits, the prices decide
-    continues : (figure : ℕ) → fits levelBytes jobBytes markBytes plan ≡ answer figure
-        → (site : Site) × (check levelBytes jobBytes markBytes plan prices ≡ pricing site plan prices (answer figure))
+    continues : (figure : ℕ) → fits levelBytes jobBytes markBytes parameters plan ≡ answer figure
+        → (site : Site) × (check levelBytes jobBytes markBytes parameters plan prices ≡ pricing site plan prices (answer figure))
     continues figure e =
-        let (site, tables, answers) = fits-reads levelBytes jobBytes markBytes plan figure e in
+        let (site, tables, answers) = fits-reads levelBytes jobBytes markBytes parameters plan figure e in
         (site, runs ∙ rw (e, tables))
 
-    refuses-later : (figure : ℕ) → fits levelBytes jobBytes markBytes plan ≡ answer figure
-        → RefusesBy (From 21 24) (check levelBytes jobBytes markBytes plan prices)
+    refuses-later : (figure : ℕ) → fits levelBytes jobBytes markBytes parameters plan ≡ answer figure
+        → RefusesBy (From 21 24) (check levelBytes jobBytes markBytes parameters plan prices)
     refuses-later figure e =
         let (site, is) = continues figure e in
         rw is (pricing-by site plan prices (by-answer (From 21 24) figure))
 
     -- the check answers the figure of the first half
-    answers-same : (figure : ℕ) → check levelBytes jobBytes markBytes plan prices ≡ answer figure → fits levelBytes jobBytes markBytes plan ≡ answer figure
+    answers-same : (figure : ℕ) → check levelBytes jobBytes markBytes parameters plan prices ≡ answer figure → fits levelBytes jobBytes markBytes parameters plan ≡ answer figure
     answers-same figure e =
-        let (found, first, then) = andThen-answered (fits levelBytes jobBytes markBytes plan) goesOn (sym runs ∙ e) in
-        let (site, tables, priced) = andThen-answered (readSite levelBytes jobBytes markBytes) _ then in
+        let (found, first, then) = andThen-answered (fits levelBytes jobBytes markBytes parameters plan) goesOn (sym runs ∙ e) in
+        let (site, tables, priced) = andThen-answered (readSite levelBytes jobBytes markBytes parameters) _ then in
         first ∙ pricing-answered site plan prices (answer found) priced .1
 
     -- an accepted plan is least
-    is-least : (figure : ℕ) → check levelBytes jobBytes markBytes plan prices ≡ answer figure
-        → (site : Site) → ValidTables levelBytes jobBytes markBytes site → LeastPlan site plan figure
+    is-least : (figure : ℕ) → check levelBytes jobBytes markBytes parameters plan prices ≡ answer figure
+        → (site : Site) → ValidTables levelBytes jobBytes markBytes parameters site → LeastPlan site plan figure
     is-least figure e site tables =
-        accepted-is-least site (sites-are-valid levelBytes jobBytes markBytes site tables) plan prices figure
-        (sym (check-read levelBytes jobBytes markBytes plan prices site tables) ∙ e)
+        accepted-is-least site (sites-are-valid levelBytes jobBytes markBytes parameters site tables) plan prices figure
+        (sym (check-read levelBytes jobBytes markBytes parameters plan prices site tables) ∙ e)
 
 -- Of two plans that fit the same tables, one has a figure that is higher by 9 or more, and so by m or more: then it is not least.
-module _ (levelBytes jobBytes markBytes one two : List ℕ) (low high : ℕ) (apart : low + maxPoints ≤ high)
-    (one-fits : fits levelBytes jobBytes markBytes one ≡ answer low) (two-fits : fits levelBytes jobBytes markBytes two ≡ answer high) where
-  first : FittingPlan levelBytes jobBytes markBytes one low
-  first = fitting-plan levelBytes jobBytes markBytes one low one-fits
+module _ (levelBytes jobBytes markBytes : List ℕ) (parameters : Parameters) (one two : List ℕ) (low high : ℕ) (apart : low + maxPoints ≤ high)
+    (one-fits : fits levelBytes jobBytes markBytes parameters one ≡ answer low) (two-fits : fits levelBytes jobBytes markBytes parameters two ≡ answer high) where
+  first : FittingPlan levelBytes jobBytes markBytes parameters one low
+  first = fitting-plan levelBytes jobBytes markBytes parameters one low one-fits
 
   abbrev site : Site
   site = first .site
 
   valid : ValidSite site
-  valid = sites-are-valid levelBytes jobBytes markBytes site (first .tables)
+  valid = sites-are-valid levelBytes jobBytes markBytes parameters site (first .tables)
 
   bands : bandCount (workingOf (site .processor)) ≤ maxPoints
   bands = omega (arith, working-small (site .processor) (valid .processor) .few)
 
   two-figure : high ≡ figureOf site two
-  two-figure = fits-exactly site two high .0 (sym (fits-read levelBytes jobBytes markBytes two site (first .tables)) ∙ two-fits) .1
+  two-figure = fits-exactly site two high .0 (sym (fits-read levelBytes jobBytes markBytes parameters two site (first .tables)) ∙ two-fits) .1
 
   dearer : exactFor site one < exactFor site two
   dearer =
@@ -121,7 +122,7 @@ module _ (levelBytes jobBytes markBytes one two : List ℕ) (low high : ℕ) (ap
       let carried = first .carried-out in
       rw (carried .energy) (mul-lt-mul-of-pos-left dearer (carried .schedule .q-low))
 
-  not-least : FitsAndIsNotLeast levelBytes jobBytes markBytes two high
+  not-least : FitsAndIsNotLeast levelBytes jobBytes markBytes parameters two high
   not-least =
       record {
         fitting = two-fits;
@@ -131,7 +132,7 @@ module _ (levelBytes jobBytes markBytes one two : List ℕ) (low high : ℕ) (ap
         serves = first .carried-out .serves;
         less = less;
         never-accepted = λ prices other e.
-            let least = is-least levelBytes jobBytes markBytes two prices other e site (first .tables) .least in
+            let least = is-least levelBytes jobBytes markBytes parameters two prices other e site (first .tables) .least in
             omega (arith, less, least (first .carried-out .schedule) (first .carried-out .serves));
       }
 
@@ -139,11 +140,11 @@ pub check-in-two-halves : CheckInTwoHalves
 check-in-two-halves =
     record {
       first-refuses = fits-by;
-      first-answers = λ levelBytes jobBytes markBytes plan figure.
-          (fitting-plan levelBytes jobBytes markBytes plan figure, fits-plan levelBytes jobBytes markBytes plan figure);
+      first-answers = λ levelBytes jobBytes markBytes parameters plan figure.
+          (fitting-plan levelBytes jobBytes markBytes parameters plan figure, fits-plan levelBytes jobBytes markBytes parameters plan figure);
       second-runs-it = runs;
-      same-refusal = λ levelBytes jobBytes markBytes plan number place e prices. refuses-too levelBytes jobBytes markBytes plan prices number place e;
-      later-refusals = λ levelBytes jobBytes markBytes plan figure e prices. refuses-later levelBytes jobBytes markBytes plan prices figure e;
+      same-refusal = λ levelBytes jobBytes markBytes parameters plan number place e prices. refuses-too levelBytes jobBytes markBytes parameters plan prices number place e;
+      later-refusals = λ levelBytes jobBytes markBytes parameters plan figure e prices. refuses-later levelBytes jobBytes markBytes parameters plan prices figure e;
       same-figure = answers-same;
       planned = λ call intervals steps energy told.
           let (site, tables) = plan-read (call .contract) intervals steps energy told in

@@ -9,6 +9,7 @@ use mathlib.Core.List.{List, []}
 use lib.ListN.{length, getD}
 use lib.IntN.{ℤ}
 use Rattle.model.specs.declared.Job.{Job}
+use Rattle.model.specs.declared.Parameters.{Parameters}
 use Rattle.model.specs.Outcome.{refused, answer, andThen, refuseWhen}
 use Rattle.model.specs.Bytes.{IsBytes}
 use Rattle.model.specs.Jobs.{jobOf, readJobs}
@@ -57,11 +58,11 @@ pub record SameWith (levelBytes jobBytes one two : List ℕ) : Type 0 where
       → PlanContract levelBytes jobBytes one before after answered ↔ PlanContract levelBytes jobBytes two before after answered
 
 -- Every operation that reads levels and takes marks refuses by 34, whatever else it is lent.
-pub record RefusedBy34 (levelBytes jobBytes markBytes : List ℕ) : Type 0 where
-  pub fitting : (plan : List ℕ) → fits levelBytes jobBytes markBytes plan ≡ refused 34 0
-  pub checks : (plan prices : List ℕ) → check levelBytes jobBytes markBytes plan prices ≡ refused 34 0
-  pub orders : (plan prices : List ℕ) (room : ℕ) → order levelBytes jobBytes markBytes plan prices room ≡ refused 34 0
-  pub plans : (before after : Buffers) (answered : PlanAnswer) → PlanContract levelBytes jobBytes markBytes before after answered
+pub record RefusedBy34 (levelBytes jobBytes markBytes : List ℕ) (parameters : Parameters) : Type 0 where
+  pub fitting : (plan : List ℕ) → fits levelBytes jobBytes markBytes parameters plan ≡ refused 34 0
+  pub checks : (plan prices : List ℕ) → check levelBytes jobBytes markBytes parameters plan prices ≡ refused 34 0
+  pub orders : (plan prices : List ℕ) (room : ℕ) → order levelBytes jobBytes markBytes parameters plan prices room ≡ refused 34 0
+  pub plans : (before after : Buffers) (answered : PlanAnswer) → PlanContract levelBytes jobBytes markBytes parameters before after answered
       → (answered ≡ Refused 34 0) × (after ≡ before)
 
 -- Two calls of planning with the same levels and jobs, and any marks.
@@ -78,23 +79,23 @@ pub record HandoverMarks : Type 0 where
   -- "34 more than 8 marks, not rising, or a wrong length (place 0 for all)"
   pub refused-by-34 : (bytes : List ℕ) (number place : ℕ) → readMarks bytes ≡ refused number place → (number ≡ 34) × (place ≡ 0)
   -- "after the job table's own": levels and jobs are refused as they are without marks, and only then are marks
-  pub tables-first : (levelBytes jobBytes markBytes : List ℕ) (number place : ℕ) → readTables levelBytes jobBytes ≡ refused number place
-      → readSite levelBytes jobBytes markBytes ≡ refused number place
-  pub then-marks : (levelBytes jobBytes markBytes : List ℕ) (tables : Tables) → readTables levelBytes jobBytes ≡ answer tables
-      → (number place : ℕ) → readMarks markBytes ≡ refused number place → RefusedBy34 levelBytes jobBytes markBytes
+  pub tables-first : (levelBytes jobBytes markBytes : List ℕ) (parameters : Parameters) (number place : ℕ) → readTables levelBytes jobBytes ≡ refused number place
+      → readSite levelBytes jobBytes markBytes parameters ≡ refused number place
+  pub then-marks : (levelBytes jobBytes markBytes : List ℕ) (parameters : Parameters) (tables : Tables) → readTables levelBytes jobBytes ≡ answer tables
+      → (number place : ℕ) → readMarks markBytes ≡ refused number place → RefusedBy34 levelBytes jobBytes markBytes parameters
   -- "each one strictly between earliest release and latest deadline is a bound too": beside the jobs' own times these, and nothing
   -- else, each once and rising
-  pub bounds : (levelBytes jobBytes markBytes : List ℕ) (site : Site) → ValidTables levelBytes jobBytes markBytes site
+  pub bounds : (levelBytes jobBytes markBytes : List ℕ) (parameters : Parameters) (site : Site) → ValidTables levelBytes jobBytes markBytes parameters site
       → (marks : List ℕ) → readMarks markBytes ≡ answer marks
       → (time : ℕ) → IsBound (site .bounds) time ↔ (OfAJob (site .jobs) time ⊎ Cuts (site .jobs) marks time)
-  pub bounds-rise : (levelBytes jobBytes markBytes : List ℕ) (site : Site) → ValidTables levelBytes jobBytes markBytes site
+  pub bounds-rise : (levelBytes jobBytes markBytes : List ℕ) (parameters : Parameters) (site : Site) → ValidTables levelBytes jobBytes markBytes parameters site
       → (i : ℕ) → suc i < length (site .bounds) → boundAt (site .bounds) i < boundAt (site .bounds) (suc i)
   -- "Intervals may now number 135."
-  pub few-intervals : (levelBytes jobBytes markBytes : List ℕ) (site : Site) → ValidTables levelBytes jobBytes markBytes site
+  pub few-intervals : (levelBytes jobBytes markBytes : List ℕ) (parameters : Parameters) (site : Site) → ValidTables levelBytes jobBytes markBytes parameters site
       → intervalCount (site .bounds) ≤ 135
   -- "others have no effect": where no mark cuts, all is as with none
-  pub no-effect : (levelBytes jobBytes markBytes : List ℕ) (jobs : List Job) (marks : List ℕ) → readJobs jobBytes ≡ answer jobs
-      → readMarks markBytes ≡ answer marks → ((time : ℕ) → Cuts jobs marks time → ⊥) → SameWith levelBytes jobBytes markBytes noMarks
+  pub no-effect : (levelBytes jobBytes markBytes : List ℕ) (parameters : Parameters) (jobs : List Job) (marks : List ℕ) → readJobs jobBytes ≡ answer jobs
+      → readMarks markBytes ≡ answer marks → ((time : ℕ) → Cuts jobs marks time → ⊥) → SameWith levelBytes jobBytes markBytes parameters noMarks
   -- With no marks a site is what it was before there were marks: its bounds are the jobs' releases and deadlines.
   pub none-read : readMarks noMarks ≡ answer []
   pub no-marks : (levelBytes jobBytes : List ℕ) → readSite levelBytes jobBytes noMarks
@@ -113,17 +114,17 @@ pub record HandoverMarks : Type 0 where
       → (otherPlan otherPrices : List ℕ) (otherFigure : ℕ) → check levelBytes jobBytes two otherPlan otherPrices ≡ answer otherFigure
       → (exactFor site plan ≡ exactFor other otherPlan) × (gapsOf site ≡ gapsOf other)
   pub same-energy-planned : (call other : Call) → OtherMarks call other
-      → (site : Site) → ValidTables (call .levelBytes) (call .jobBytes) (call .markBytes) site
-      → (otherSite : Site) → ValidTables (other .levelBytes) (other .jobBytes) (other .markBytes) otherSite
+      → (site : Site) → ValidTables (call .levelBytes) (call .jobBytes) (call .markBytes) (call .parameters) site
+      → (otherSite : Site) → ValidTables (other .levelBytes) (other .jobBytes) (other .markBytes) (other .parameters) otherSite
       → (intervals steps energy : ℕ) → call .answered ≡ Plan intervals steps energy
       → (otherIntervals otherSteps otherEnergy : ℕ) → other .answered ≡ Plan otherIntervals otherSteps otherEnergy
       → exactFor site (planWritten call steps) ≡ exactFor otherSite (planWritten other otherSteps)
   -- a plan comes out with marks exactly when one does with others or none, and where none does the window of 11 is the same
   pub comes-out : (call other : Call) → OtherMarks call other
-      → (site : Site) → ValidTables (call .levelBytes) (call .jobBytes) (call .markBytes) site → Roomy call site
-      → (otherSite : Site) → ValidTables (other .levelBytes) (other .jobBytes) (other .markBytes) otherSite → Roomy other otherSite
+      → (site : Site) → ValidTables (call .levelBytes) (call .jobBytes) (call .markBytes) (call .parameters) site → Roomy call site
+      → (otherSite : Site) → ValidTables (other .levelBytes) (other .jobBytes) (other .markBytes) (other .parameters) otherSite → Roomy other otherSite
       → PlanComesOut call ↔ PlanComesOut other
   pub same-window : (call other : Call) → OtherMarks call other
-      → (site : Site) → ValidTables (call .levelBytes) (call .jobBytes) (call .markBytes) site
-      → (otherSite : Site) → ValidTables (other .levelBytes) (other .jobBytes) (other .markBytes) otherSite
+      → (site : Site) → ValidTables (call .levelBytes) (call .jobBytes) (call .markBytes) (call .parameters) site
+      → (otherSite : Site) → ValidTables (other .levelBytes) (other .jobBytes) (other .markBytes) (other .parameters) otherSite
       → (start end : ℕ) (spare : ℤ) → (call .answered ≡ Overfull start end spare) ↔ (other .answered ≡ Overfull start end spare)

@@ -7,6 +7,7 @@ use mathlib.Core.Logic.{_↔_}
 use mathlib.Core.List.{List, _∷_}
 use lib.ListN.{length}
 use Rattle.model.specs.declared.Level.{Level}
+use Rattle.model.specs.declared.Parameters.{Parameters}
 use Rattle.model.specs.Outcome.{answer}
 use Rattle.model.specs.Bytes.{IsBytes}
 use Rattle.model.specs.Levels.{levelOf, ValidLevels}
@@ -96,13 +97,13 @@ pub record IdlingIsNotFree : Type 0 where
   pub point : IdlingIsAPoint
   -- both energies gain the draw, of every plan that planning writes, that fits or that the check accepts: demand 2 and Change 8 say
   -- of them that they are such plans
-  pub gained : (levelBytes jobBytes markBytes : List ℕ) (site : Site) → ValidTables levelBytes jobBytes markBytes site
+  pub gained : (levelBytes jobBytes markBytes : List ℕ) (parameters : Parameters) (site : Site) → ValidTables levelBytes jobBytes markBytes parameters site
       → (plan : List ℕ) (figure : ℕ) → SuchAPlan site plan figure → GainsTheDraw site plan figure
   -- every schedule pays
   pub schedules-pay : (site : Site) (schedule : ScheduleFor site) → PaysForIdleSlots site schedule
   -- also between the repeats of a plan that was accepted for a round
   pub between-repeats : (laid : LayOutCall) (length multiple : ℕ) → laid .answered ≡ LaidOut length multiple
-      → (levelBytes markBytes plan prices : List ℕ) (figure : ℕ) → check levelBytes (jobsWritten laid length) markBytes plan prices ≡ answer figure
+      → (levelBytes markBytes : List ℕ) (parameters : Parameters) (plan prices : List ℕ) (figure : ℕ) → check levelBytes (jobsWritten laid length) markBytes plan prices ≡ answer figure
       → (site : Site) → ValidTables levelBytes (jobsWritten laid length) markBytes site
       → (r : ℕ) → PaysBetweenRepeats multiple r site plan
   -- a draw never drops a level that works without it; `DrawKeepsLevels` says it of any two draws

@@ -4,6 +4,7 @@ use Prim.Native.Nat.{ℕ}
 use mathlib.Core.Path.{_≡_}
 use mathlib.Core.Logic.{_↔_}
 use mathlib.Core.List.{List}
+use Rattle.model.specs.declared.Parameters.{Parameters}
 use Rattle.model.specs.Outcome.{refused, answer}
 use Rattle.model.specs.Bands.{gap}
 use Rattle.model.specs.Processors.{Processor, workingOf, readProcessor}
@@ -29,11 +30,11 @@ SameWorkingFrequencies one two =
     (frequencies : List ℕ) × (readFrequencies one ≡ answer frequencies) × (readFrequencies two ≡ answer frequencies)
 
 -- What a plan with its price list is on a board.
-pub record ServesOn (levelBytes jobBytes markBytes plan prices : List ℕ) : Type 0 where
+pub record ServesOn (levelBytes jobBytes markBytes : List ℕ) (parameters : Parameters) (plan prices : List ℕ) : Type 0 where
   pub site : Site
-  pub tables : ValidTables levelBytes jobBytes markBytes site
+  pub tables : ValidTables levelBytes jobBytes markBytes parameters site
   -- "the same price list is accepted there", and "the energy figure is worked out per board"
-  pub accepted : check levelBytes jobBytes markBytes plan prices ≡ answer (figureOf site plan)
+  pub accepted : check levelBytes jobBytes markBytes parameters plan prices ≡ answer (figureOf site plan)
   -- "a least-energy plan": it gives each job its cycles and, carried out on this board's levels, meets all deadlines with its exact
   -- energy on this board; and no schedule over these levels that meets all deadlines has less
   pub such-a-plan : SuchAPlan site plan (figureOf site plan)
@@ -69,12 +70,12 @@ pub record OnePlanManyBoards : Type 0 where
   -- so is a plan that planning writes for one of them, with the prices that it writes
   pub planned : (call : Call) (two : List ℕ) → SameWorkingFrequencies (call .levelBytes) two
       → (intervals steps energy : ℕ) → call .answered ≡ Plan intervals steps energy
-      → ServesOn two (call .jobBytes) (call .markBytes) (planWritten call steps) (pricesWritten call intervals)
+      → ServesOn two (call .jobBytes) (call .markBytes) (call .parameters) (planWritten call steps) (pricesWritten call intervals)
   -- and planning may write the same bytes for the other: its whole promise holds of them there, with that board's figure
   pub written-for-both : (call : Call) (two : List ℕ) → SameWorkingFrequencies (call .levelBytes) two
       → (intervals steps energy : ℕ) → call .answered ≡ Plan intervals steps energy
-      → (other : Site) → ValidTables two (call .jobBytes) (call .markBytes) other
-      → PlanContract two (call .jobBytes) (call .markBytes) (call .before) (call .after)
+      → (other : Site) → ValidTables two (call .jobBytes) (call .markBytes) (call .parameters) other
+      → PlanContract two (call .jobBytes) (call .markBytes) (call .parameters) (call .before) (call .after)
       (Plan intervals steps (figureOf other (planWritten call steps)))
   -- what is the same on both
   pub same : (one two : List ℕ) → SameWorkingFrequencies one two → SameOnBoth one two

@@ -9,6 +9,7 @@ use mathlib.Core.Logic.{_↔_}
 use mathlib.Core.List.{List}
 use lib.ListN.{length, take, drop}
 use Rattle.model.specs.declared.Job.{Job}
+use Rattle.model.specs.declared.Parameters.{Parameters}
 use Rattle.model.specs.Outcome.{refused, answer}
 use Rattle.model.specs.Bytes.{IsBytes}
 use Rattle.model.specs.Jobs.{readJobs}
@@ -29,12 +30,13 @@ pub record OrderingCall : Type 0 where
   pub levelBytes : List ℕ
   pub jobBytes : List ℕ
   pub markBytes : List ℕ
+  pub parameters : Parameters
   pub plan : List ℕ
   pub prices : List ℕ
   pub before : List ℕ
   pub after : List ℕ
   pub answered : OrderAnswer
-  pub contract : OrderContract levelBytes jobBytes markBytes plan prices before after answered
+  pub contract : OrderContract levelBytes jobBytes markBytes parameters plan prices before after answered
 
 -- The plan comes out: the length written is answered.
 abbrev pub ComesOut : OrderingCall → Type 0
@@ -64,18 +66,18 @@ SameCycles jobs marks one two =
 pub record OneSpelling : Type 0 where
   -- "is lent what the check is, gives its refusals"
   pub as-the-check : (call : OrderingCall) (number place : ℕ)
-      → check (call .levelBytes) (call .jobBytes) (call .markBytes) (call .plan) (call .prices) ≡ refused number place → RefusedCall call number place
+      → check (call .levelBytes) (call .jobBytes) (call .markBytes) (call .parameters) (call .plan) (call .prices) ≡ refused number place → RefusedCall call number place
   -- "one shorter than the plan gives 12, last"
   pub too-short : (call : OrderingCall) (figure : ℕ)
-      → check (call .levelBytes) (call .jobBytes) (call .markBytes) (call .plan) (call .prices) ≡ answer figure
+      → check (call .levelBytes) (call .jobBytes) (call .markBytes) (call .parameters) (call .plan) (call .prices) ≡ answer figure
       → length (call .before) < length (call .plan) → RefusedCall call 12 (length (call .plan))
   -- "writes the plan's steps in cell order to a second buffer"
   pub written : (call : OrderingCall) (figure : ℕ)
-      → check (call .levelBytes) (call .jobBytes) (call .markBytes) (call .plan) (call .prices) ≡ answer figure
+      → check (call .levelBytes) (call .jobBytes) (call .markBytes) (call .parameters) (call .plan) (call .prices) ≡ answer figure
       → length (call .plan) ≤ length (call .before) → WrittenCall call
   -- and nothing else is: what comes out was accepted, and the buffer was long enough
   pub only-accepted : (call : OrderingCall) (size : ℕ) → call .answered ≡ Ordered size
-      → (figure : ℕ) × (check (call .levelBytes) (call .jobBytes) (call .markBytes) (call .plan) (call .prices) ≡ answer figure)
+      → (figure : ℕ) × (check (call .levelBytes) (call .jobBytes) (call .markBytes) (call .parameters) (call .plan) (call .prices) ≡ answer figure)
       × (length (call .plan) ≤ length (call .before))
   -- "Two accepted plans for one job table come out equal exactly when every job has the same cycles in every interval". The level
   -- tables and the price lists that they were accepted with may differ.
@@ -87,16 +89,16 @@ pub record OneSpelling : Type 0 where
   pub unchanged : (call : OrderingCall) → ComesOut call → IsBytes (call .plan) → InOrder (call .plan) → planOut call ≡ call .plan
   -- what comes out is accepted by the check with the same prices and the same figure
   pub accepted-again : (call : OrderingCall) → ComesOut call
-      → check (call .levelBytes) (call .jobBytes) (call .markBytes) (planOut call) (call .prices) ≡ check (call .levelBytes) (call .jobBytes) (call .markBytes) (call .plan) (call .prices)
+      → check (call .levelBytes) (call .jobBytes) (call .markBytes) (call .parameters) (planOut call) (call .prices) ≡ check (call .levelBytes) (call .jobBytes) (call .markBytes) (call .parameters) (call .plan) (call .prices)
   -- and has the same exact energy
-  pub same-energy : (call : OrderingCall) → ComesOut call → (site : Site) → ValidTables (call .levelBytes) (call .jobBytes) (call .markBytes) site
+  pub same-energy : (call : OrderingCall) → ComesOut call → (site : Site) → ValidTables (call .levelBytes) (call .jobBytes) (call .markBytes) (call .parameters) site
       → exactFor site (planOut call) ≡ exactFor site (call .plan)
   -- what came out once comes out as it is. Lent the same tables and prices and enough room it does come out, by `accepted-again`
   -- and `written`.
   pub ordered-again : (first second : OrderingCall) → ComesOut first → second .plan ≡ planOut first → ComesOut second → planOut second ≡ planOut first
   -- every call is one of these, whatever it was lent
-  pub every-call : (levelBytes jobBytes markBytes plan prices before after : List ℕ) (answered : OrderAnswer)
-      → OrderContract levelBytes jobBytes markBytes plan prices before after answered
+  pub every-call : (levelBytes jobBytes markBytes : List ℕ) (parameters : Parameters) (plan prices before after : List ℕ) (answered : OrderAnswer)
+      → OrderContract levelBytes jobBytes markBytes parameters plan prices before after answered
       → (call : OrderingCall)
       × (call .levelBytes ≡ levelBytes) × (call .jobBytes ≡ jobBytes) × (call .markBytes ≡ markBytes) × (call .plan ≡ plan) × (call .prices ≡ prices)
       × (call .before ≡ before) × (call .after ≡ after) × (call .answered ≡ answered)

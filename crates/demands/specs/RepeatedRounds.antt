@@ -8,6 +8,7 @@ use mathlib.Core.List.{List}
 use lib.ListN.{take}
 use lib.IntN.{ℤ}
 use Rattle.model.specs.declared.Level.{Level}
+use Rattle.model.specs.declared.Parameters.{Parameters}
 use Rattle.model.specs.Outcome.{answer}
 use Rattle.model.specs.LevelTables.{readLevels}
 use Rattle.model.specs.Marks.{readMarks}
@@ -47,23 +48,23 @@ pub record RepeatedRounds : Type 0 where
   -- repeats.
   pub planned : (laid : LayOutCall) (length multiple : ℕ) → laid .answered ≡ LaidOut length multiple
       → (call : Call) → call .jobBytes ≡ jobsWritten laid length
-      → (site : Site) → ValidTables (call .levelBytes) (call .jobBytes) (call .markBytes) site
+      → (site : Site) → ValidTables (call .levelBytes) (call .jobBytes) (call .markBytes) (call .parameters) site
       → (intervals steps energy : ℕ) → call .answered ≡ Plan intervals steps energy
       → (r : ℕ) → Repeated laid multiple site (planWritten call steps) (pricesWritten call intervals) r
   -- And so is any plan that the check accepts with its prices for that job table, whoever made it.
   pub checked : (laid : LayOutCall) (length multiple : ℕ) → laid .answered ≡ LaidOut length multiple
-      → (levelBytes markBytes plan prices : List ℕ) (figure : ℕ) → check levelBytes (jobsWritten laid length) markBytes plan prices ≡ answer figure
+      → (levelBytes markBytes : List ℕ) (parameters : Parameters) (plan prices : List ℕ) (figure : ℕ) → check levelBytes (jobsWritten laid length) markBytes plan prices ≡ answer figure
       → (site : Site) → ValidTables levelBytes (jobsWritten laid length) markBytes site
       → (r : ℕ) → Repeated laid multiple site plan prices r
   -- Where planning answers an overfull window, repeating does not help: no schedule meets all deadlines of one or more repeats.
   pub overfull : (laid : LayOutCall) (length multiple : ℕ) → laid .answered ≡ LaidOut length multiple
       → (call : Call) → call .jobBytes ≡ jobsWritten laid length
-      → (site : Site) → ValidTables (call .levelBytes) (call .jobBytes) (call .markBytes) site
+      → (site : Site) → ValidTables (call .levelBytes) (call .jobBytes) (call .markBytes) (call .parameters) site
       → (start end : ℕ) (spare : ℤ) → call .answered ≡ Overfull start end spare
       → (r : ℕ) → 0 < r → (schedule : ScheduleFor (repeatSite multiple r site)) → Serves schedule → ⊥
   -- The job table that was written is read with every level table and with all marks that are read: these hypotheses shut no round out.
   pub every-round : (laid : LayOutCall) (length multiple : ℕ) → laid .answered ≡ LaidOut length multiple
-      → (levelBytes markBytes : List ℕ) (entries : List Level) (marks : List ℕ) → readLevels levelBytes ≡ answer entries → readMarks markBytes ≡ answer marks
+      → (levelBytes markBytes : List ℕ) (parameters : Parameters) (entries : List Level) (marks : List ℕ) → readLevels levelBytes ≡ answer entries → readMarks markBytes ≡ answer marks
       → (site : Site) × ValidTables levelBytes (jobsWritten laid length) markBytes site
   pub every-call : (taskBytes before after : List ℕ) (answered : RoundsAnswer) → RoundsContract taskBytes before after answered
       → (laid : LayOutCall) × (laid .taskBytes ≡ taskBytes) × (laid .before ≡ before) × (laid .after ≡ after) × (laid .answered ≡ answered)

@@ -30,6 +30,7 @@ use lib.ListN.{length, take}
 use lib.IntN.{ℤ}
 use Rattle.model.specs.declared.Level.{Level}
 use Rattle.model.specs.declared.Job.{Job}
+use Rattle.model.specs.declared.Parameters.{Parameters}
 use Rattle.model.specs.Outcome.{answer, From, RefusesBy}
 use Rattle.model.specs.LevelTables.{readLevels, LevelNumbers}
 use Rattle.model.specs.Jobs.{readJobs}
@@ -70,10 +71,11 @@ pub record Call : Type 0 where
   pub levelBytes : List ℕ
   pub jobBytes : List ℕ
   pub markBytes : List ℕ
+  pub parameters : Parameters
   pub before : Buffers
   pub after : Buffers
   pub answered : PlanAnswer
-  pub contract : PlanContract levelBytes jobBytes markBytes before after answered
+  pub contract : PlanContract levelBytes jobBytes markBytes parameters before after answered
 
 -- "a plan comes out"
 abbrev pub PlanComesOut : Call → Type 0
@@ -132,19 +134,19 @@ pub record PricesFit (site : Site) (plan prices : List ℕ) : Type 0 where
   pub fitting : FittingPrices (workingOf (site .processor)) (site .jobs) (site .bounds) (sharesOf plan) (pricesOf prices)
 
 -- What the check is to accept: tables that are read as a site, such a plan, and prices that fit.
-pub record Acceptable (levelBytes jobBytes markBytes plan prices : List ℕ) (figure : ℕ) : Type 0 where
+pub record Acceptable (levelBytes jobBytes markBytes : List ℕ) (parameters : Parameters) (plan prices : List ℕ) (figure : ℕ) : Type 0 where
   pub site : Site
-  pub tables : ValidTables levelBytes jobBytes markBytes site
+  pub tables : ValidTables levelBytes jobBytes markBytes parameters site
   pub such-a-plan : SuchAPlan site plan figure
   pub prices-fit : PricesFit site plan prices
 
 pub record DemandTwo : Type 0 where
   -- "The planner writes only such plans."
-  pub planner : (call : Call) (site : Site) → ValidTables (call .levelBytes) (call .jobBytes) (call .markBytes) site
+  pub planner : (call : Call) (site : Site) → ValidTables (call .levelBytes) (call .jobBytes) (call .markBytes) (call .parameters) site
       → (intervals steps energy : ℕ) → call .answered ≡ Plan intervals steps energy → SuchAPlan site (planWritten call steps) energy
   -- "The check accepts a plan and its price list exactly when the plan is such a plan and the prices fit document 01's rules."
-  pub accepts : (levelBytes jobBytes markBytes plan prices : List ℕ) (figure : ℕ)
-      → (check levelBytes jobBytes markBytes plan prices ≡ answer figure) ↔ Acceptable levelBytes jobBytes markBytes plan prices figure
+  pub accepts : (levelBytes jobBytes markBytes : List ℕ) (parameters : Parameters) (plan prices : List ℕ) (figure : ℕ)
+      → (check levelBytes jobBytes markBytes parameters plan prices ≡ answer figure) ↔ Acceptable levelBytes jobBytes markBytes parameters plan prices figure
 
 -- Demand 3, where a plan was written. All energies are multiplied out by all gaps, and by q where a schedule is one side.
 pub record PlanComesWith (call : Call) (site : Site) (intervals steps energy : ℕ) : Type 0 where
@@ -158,7 +160,7 @@ pub record PlanComesWith (call : Call) (site : Site) (intervals steps energy : �
   pub smallest : SmallestPrices site (planWritten call steps) (pricesWritten call intervals)
   -- "and the check, lent the same tables and exactly the bytes written, accepts them and answers the same energy figure"; "in demand
   -- 3 the check is lent the same marks too"
-  pub checked : check (call .levelBytes) (call .jobBytes) (call .markBytes) (planWritten call steps) (pricesWritten call intervals) ≡ answer energy
+  pub checked : check (call .levelBytes) (call .jobBytes) (call .markBytes) (call .parameters) (planWritten call steps) (pricesWritten call intervals) ≡ answer energy
 
 -- "Where no plan comes out, a window does, whose own jobs need more cycles than the top frequency gives there, and then no
 -- schedule meets all deadlines."
@@ -174,14 +176,14 @@ pub record NoPlan (call : Call) (site : Site) : Type 0 where
 -- Demand 3. "Whatever valid tables are planned, with long enough buffers, a plan comes out exactly when some schedule over
 -- the same levels meets all deadlines."
 pub record DemandThree : Type 0 where
-  pub exactly-when : (call : Call) (site : Site) → ValidTables (call .levelBytes) (call .jobBytes) (call .markBytes) site
+  pub exactly-when : (call : Call) (site : Site) → ValidTables (call .levelBytes) (call .jobBytes) (call .markBytes) (call .parameters) site
       → LongEnough site (length (call .before .plan)) (length (call .before .prices)) (length (call .before .shares))
       → PlanComesOut call ↔ CanBeServed site
   -- with every plan that comes out
-  pub written : (call : Call) (site : Site) → ValidTables (call .levelBytes) (call .jobBytes) (call .markBytes) site
+  pub written : (call : Call) (site : Site) → ValidTables (call .levelBytes) (call .jobBytes) (call .markBytes) (call .parameters) site
       → (intervals steps energy : ℕ) → call .answered ≡ Plan intervals steps energy → PlanComesWith call site intervals steps energy
   -- where none comes out
-  pub window-instead : (call : Call) (site : Site) → ValidTables (call .levelBytes) (call .jobBytes) (call .markBytes) site
+  pub window-instead : (call : Call) (site : Site) → ValidTables (call .levelBytes) (call .jobBytes) (call .markBytes) (call .parameters) site
       → LongEnough site (length (call .before .plan)) (length (call .before .prices)) (length (call .before .shares))
       → (PlanComesOut call → ⊥) → NoPlan call site
 
@@ -189,11 +191,11 @@ pub record DemandThree : Type 0 where
 -- holds of; and tables are valid where all three are read. What the theory asks of sites, bounds, schedules and buffers is built in
 -- Hypotheses of the crate model.
 pub record NothingShutOut : Type 0 where
-  pub every-call : (levelBytes jobBytes markBytes : List ℕ) (before after : Buffers) (answered : PlanAnswer)
-      → PlanContract levelBytes jobBytes markBytes before after answered
+  pub every-call : (levelBytes jobBytes markBytes : List ℕ) (parameters : Parameters) (before after : Buffers) (answered : PlanAnswer)
+      → PlanContract levelBytes jobBytes markBytes parameters before after answered
       → (call : Call) × (call .levelBytes ≡ levelBytes) × (call .jobBytes ≡ jobBytes) × (call .markBytes ≡ markBytes)
       × (call .before ≡ before) × (call .after ≡ after) × (call .answered ≡ answered)
-  pub every-table : (levelBytes jobBytes markBytes : List ℕ) (entries : List Level) (jobs : List Job) (marks : List ℕ)
+  pub every-table : (levelBytes jobBytes markBytes : List ℕ) (parameters : Parameters) (entries : List Level) (jobs : List Job) (marks : List ℕ)
       → readLevels levelBytes ≡ answer entries → readJobs jobBytes ≡ answer jobs → readMarks markBytes ≡ answer marks
-      → (site : Site) × ValidTables levelBytes jobBytes markBytes site
+      → (site : Site) × ValidTables levelBytes jobBytes markBytes parameters site
       × (site .processor ≡ processorOf entries) × (site .jobs ≡ jobs) × (site .bounds ≡ boundsWith marks jobs)

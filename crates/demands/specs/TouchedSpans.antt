@@ -30,13 +30,15 @@ use Rattle.touching.specs.TouchingAnswers.{TouchingContract}
 pub record TouchingCall : Type 0 where
   pub jobBytes : List ℕ
   pub markBytes : List ℕ
+  pub free : ℕ
+  pub margin : ℕ
   pub plan : List ℕ
   pub start : ℕ
   pub end : ℕ
   pub before : Lists
   pub after : Lists
   pub answered : TouchingAnswer
-  pub contract : TouchingContract jobBytes markBytes plan start end before after answered
+  pub contract : TouchingContract jobBytes markBytes free margin plan start end before after answered
 
 -- The call is refused so, and all three lists are as they were.
 pub record RefusedCall (call : TouchingCall) (number place : ℕ) : Type 0 where
@@ -149,7 +151,7 @@ pub record TouchedSpans : Type 0 where
       → readJobs (call .jobBytes) ≡ answer jobs → readMarks (call .markBytes) ≡ answer marks
       → (levelBytes prices : List ℕ) (entries : List Level) → readLevels levelBytes ≡ answer entries
       → (number place : ℕ) → From 15 18 number
-      → (call .answered ≡ Refused number place) ↔ (check levelBytes (call .jobBytes) (call .markBytes) (call .plan) prices ≡ refused number place)
+      → (call .answered ≡ Refused number place) ↔ (check levelBytes (call .jobBytes) (call .markBytes) (call .free) (call .margin) (call .plan) prices ≡ refused number place)
   -- what is to be listed is there, and is one thing only
   pub wanted-exist : (call : TouchingCall) (jobs : List Job) (marks : List ℕ) → SoundCall call jobs marks → (wanted : Lists) × Wanted call jobs marks wanted
   pub wanted-is-one : (call : TouchingCall) (jobs : List Job) (marks : List ℕ) (wanted other : Lists)
@@ -174,8 +176,8 @@ pub record TouchedSpans : Type 0 where
       → call .answered ≡ Touching openJobs insideJobs steps deadline
       → (jobs : List Job) × (marks : List ℕ) × (wanted : Lists) × SoundCall call jobs marks × Wanted call jobs marks wanted × AllFit wanted (call .before)
   -- no call is shut out: whatever it was lent, it is such a call
-  pub every-call : (jobBytes markBytes plan : List ℕ) (start end : ℕ) (before after : Lists) (answered : TouchingAnswer)
-      → TouchingContract jobBytes markBytes plan start end before after answered
+  pub every-call : (jobBytes markBytes : List ℕ) (free margin : ℕ) (plan : List ℕ) (start end : ℕ) (before after : Lists) (answered : TouchingAnswer)
+      → TouchingContract jobBytes markBytes free margin plan start end before after answered
       → (call : TouchingCall)
       × (call .jobBytes ≡ jobBytes) × (call .markBytes ≡ markBytes) × (call .plan ≡ plan) × (call .start ≡ start) × (call .end ≡ end)
       × (call .before ≡ before) × (call .after ≡ after) × (call .answered ≡ answered)

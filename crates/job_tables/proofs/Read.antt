@@ -1,7 +1,7 @@
 -- Laws of a job table in arrays: its entries one by one, and what a valid table says of them. Where the arrays were
 -- read from bytes, a caller that matched on the answer's case has the outcome in terms of the arrays.
 -- Assumes nothing.
-use mathlib.Core.Path.{_≡_, sym, _∙_, ap}
+use mathlib.Core.Path.{_≡_, refl, sym, _∙_, ap}
 use mathlib.Core.List.{List}
 use Prim.Native.Nat.{ℕ, _<_, _≤_}
 use native.Mathlib.Omega.{arith}
@@ -62,16 +62,27 @@ module _ (bytes : List ℕ) (table : JobTable) (read : table ≡ jobTable (readJ
       reading-held _ count _ (sym (ap (λ (t : JobTable). t .reading) read) ∙ e)
       (λ jobs answered counted. rw (read, answered, ← counted) (jobs-held jobs (jobs-valid bytes jobs answered .few)))
 
-  -- past the last job the cycles are zeros
+  -- an array of one number of each job has zeros past the last job
+  module _ (count : ℕ) (told : table .reading ≡ Entries count) (field : Job → ℕ) where
+    abbrev jobs : List Job
+    jobs = jobsIn count (table .releases) (table .deadlines) (table .cycles)
+
+    column-padded : (column : JobTable → List ℕ)
+        → ((j : ℕ) → field (record { release = getD (table .releases) j 0; deadline = getD (table .deadlines) j 0; cycles = getD (table .cycles) j 0 })
+        ≡ getD (column table) j 0)
+        → ((own : List Job) → column (jobTable (answer own)) ≡ columnOf maxJobs (length own) (λ j. field (jobOf own j)))
+        → column table ≡ columnOf maxJobs count (λ j. getD (column table) j 0)
+    column-padded column at filled =
+        ap column read ∙ ap (λ (outcome : Outcome (List Job)). column (jobTable outcome)) (jobs-read count told) ∙ filled jobs
+        ∙ ap (λ (n : ℕ). columnOf maxJobs n (λ j. field (jobOf jobs j))) (length-jobsIn count (table .releases) (table .deadlines) (table .cycles))
+        ∙ column-cong maxJobs count _ _
+        (λ j below. ap field (job-in count (table .releases) (table .deadlines) (table .cycles) j below) ∙ at j)
+
+  pub deadlines-padded : (count : ℕ) → table .reading ≡ Entries count → table .deadlines ≡ columnOf maxJobs count (λ j. getD (table .deadlines) j 0)
+  deadlines-padded count e = column-padded count e (λ job. job .deadline) (λ own. own .deadlines) (λ j. refl) (λ own. refl)
+
   pub cycles-padded : (count : ℕ) → table .reading ≡ Entries count → table .cycles ≡ columnOf maxJobs count (λ j. getD (table .cycles) j 0)
-  cycles-padded count e =
-      let jobs = jobsIn count (table .releases) (table .deadlines) (table .cycles) in
-      let held : table .cycles ≡ columnOf maxJobs (length jobs) (λ j. jobOf jobs j .cycles) =
-      ap (λ (t : JobTable). t .cycles) read ∙ ap (λ (outcome : Outcome (List Job)). jobTable outcome .cycles) (jobs-read count e) in
-      held
-      ∙ ap (λ (n : ℕ). columnOf maxJobs n (λ j. jobOf jobs j .cycles)) (length-jobsIn count (table .releases) (table .deadlines) (table .cycles))
-      ∙ column-cong maxJobs count _ _
-      (λ j below. ap (λ (job : Job). job .cycles) (job-in count (table .releases) (table .deadlines) (table .cycles) j below))
+  cycles-padded count e = column-padded count e (λ job. job .cycles) (λ own. own .cycles) (λ j. refl) (λ own. refl)
 
 -- the same where the jobs were decoded into lent arrays
 module _ (bytes : List ℕ) (reading : Reading) (releases deadlines cycles : List ℕ) (decoded : DecodedJobs (readJobs bytes) reading releases deadlines cycles) where
@@ -80,6 +91,9 @@ module _ (bytes : List ℕ) (reading : Reading) (releases deadlines cycles : Lis
 
   pub jobs-decoded : (count : ℕ) → reading ≡ Entries count → readJobs bytes ≡ answer (jobsIn count releases deadlines cycles)
   jobs-decoded count e = jobs-read bytes _ (decoded .held count e) count e
+
+  pub decoded-deadlines-padded : (count : ℕ) → reading ≡ Entries count → deadlines ≡ columnOf maxJobs count (λ j. getD deadlines j 0)
+  decoded-deadlines-padded count e = deadlines-padded bytes _ (decoded .held count e) count e
 
   pub decoded-padded : (count : ℕ) → reading ≡ Entries count → cycles ≡ columnOf maxJobs count (λ j. getD cycles j 0)
   decoded-padded count e = cycles-padded bytes _ (decoded .held count e) count e

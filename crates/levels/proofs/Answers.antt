@@ -1,7 +1,7 @@
 -- The setting of one interval, one law for each way out: refused levels, refusals 25 and 26, and the setting over the working
 -- points that stand in a table.
 -- Assumes nothing.
-use mathlib.Core.Path.{_≡_, _∙_}
+use mathlib.Core.Path.{_≡_, refl, _∙_}
 use mathlib.Core.List.{List}
 use Prim.Native.Nat.{ℕ, _-_, _*_, _<_, _≤_}
 use native.Mathlib.Nat.{mul-le-mul}
@@ -10,12 +10,13 @@ use lib.ListN.{getD}
 use borrow.Author.Tests.{lt-ltb, le-ltb, lt-leb, le-leb}
 use Rattle.model.specs.declared.Level.{Level}
 use Rattle.model.specs.Limits.{maxDeadline}
-use Rattle.model.specs.Outcome.{refused, answer}
+use Rattle.model.specs.Outcome.{Outcome, refused, answer, andThen}
 use Rattle.model.specs.LevelTables.{runningLevels, readLevels, ValidLevelTable}
 use Rattle.model.specs.Points.{topFrequency}
 use Rattle.model.specs.Bands.{Curve}
 use Rattle.model.specs.Processors.{workingOf, processorOf}
-use Rattle.model.specs.Setting.{settingOf, settingFor, setting}
+use Rattle.model.specs.SiteParameters.{alterLevels}
+use Rattle.model.specs.Setting.{Setting, settingOf, settingFor, setting}
 use Rattle.model.proofs.Sites.{valid-processor}
 use Rattle.model.proofs.Working.{working-curve, working-top}
 use Rattle.level_tables.specs.Tables.{levelsIn}
@@ -27,15 +28,26 @@ use Rattle.levels.specs.PointTables.{pointTable, pointsOf, SmallPoints}
 use Rattle.levels.specs.Settings.{answered, settingAnswer, Fits}
 use Rattle.levels.proofs.SmallPoints.{working-small, working-held}
 
-module _ (bytes : List ℕ) (ticks load : ℕ) where
+-- the setting of what altering a level table answers
+abbrev pub settingAltered : Outcome (List Level) → (ticks load : ℕ) → Outcome Setting
+settingAltered altered ticks load = andThen altered λ levels. settingFor (processorOf levels) ticks load
+
+module _ (bytes : List ℕ) (highest ticks load : ℕ) where
   pub levels-refused : (number place : ℕ) → readLevels bytes ≡ refused number place
-      → Refused number place ≡ settingAnswer (setting bytes ticks load)
+      → Refused number place ≡ settingAnswer (setting bytes highest ticks load)
   unfolding setting
   levels-refused number place e = rw e
 
-  pub levels-answered : (levels : List Level) → readLevels bytes ≡ answer levels → settingFor (processorOf levels) ticks load ≡ setting bytes ticks load
+  pub levels-answered : (levels : List Level) → readLevels bytes ≡ answer levels
+      → settingAltered (alterLevels highest levels) ticks load ≡ setting bytes highest ticks load
   unfolding setting
-  levels-answered levels e = rw e
+  levels-answered levels e = rw e (go (alterLevels highest levels))
+    where
+      go : (altered : Outcome (List Level))
+          → settingAltered altered ticks load
+          ≡ andThen (andThen altered (λ levels. answer (processorOf levels))) (λ processor. settingFor processor ticks load)
+      go (refused number place) = refl
+      go (answer levels) = refl
 
 module _ (count : ℕ) (frequencies voltages : List ℕ) (valid : ValidLevelTable (levelsIn count frequencies voltages)) where
   pub top-load : (ticks : ℕ) → ticks ≤ maxDeadline → ticks * getD frequencies (count - 1) 0 ≤ 1_000_000_000

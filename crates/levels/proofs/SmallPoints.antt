@@ -9,13 +9,11 @@ use native.Mathlib.Omega.{arith}
 use lib.ListN.{length}
 use Rattle.model.specs.Limits.{maxPoints}
 use Rattle.model.specs.declared.Level.{Level}
-use Rattle.model.specs.Outcome.{Outcome, refused, answer, andThen}
-use Rattle.model.specs.LevelTables.{readLevels, ValidLevelTable}
+use Rattle.model.specs.Outcome.{Outcome, refused, answer}
 use Rattle.model.specs.Points.{Point, pointAt, dropped, working, RisingPoints}
-use Rattle.model.specs.Processors.{Processor, allPoints, workingOf, processorOf, readProcessor, ValidProcessor}
-use Rattle.model.proofs.LevelTables.{levels-valid}
+use Rattle.model.specs.Processors.{Processor, allPoints, workingOf, readProcessor, ValidProcessor}
 use Rattle.model.proofs.Points.{points-length, points-level, power-high}
-use Rattle.model.proofs.Sites.{valid-processor}
+use Rattle.model.proofs.Sites.{processors-are-valid}
 use Rattle.model.proofs.Working.{place, working-curve}
 use Rattle.model.proofs.Selection.{select-length}
 use Rattle.levels.specs.PointTables.{pointTable, pointsOf, SmallPoints, workingRead}
@@ -92,10 +90,10 @@ module _ (processor : Processor) (valid : ValidProcessor processor) where
   working-held = table-points (workingOf processor) (working-small .few)
 
 -- the working points of any bytes
-pub read-few : (bytes : List ℕ) → length (workingRead (readProcessor bytes)) ≤ maxPoints
-read-few bytes = go (readLevels bytes) (levels-valid bytes)
+pub read-few : (bytes : List ℕ) (highest : ℕ) → length (workingRead (readProcessor bytes highest)) ≤ maxPoints
+read-few bytes highest = go (readProcessor bytes highest) (processors-are-valid bytes highest)
   where
-    go : (outcome : Outcome (List Level)) → ((entries : List Level) → outcome ≡ answer entries → ValidLevelTable entries)
-        → length (workingRead (andThen outcome (λ entries. answer (processorOf entries)))) ≤ maxPoints
+    go : (outcome : Outcome Processor) → ((processor : Processor) → outcome ≡ answer processor → ValidProcessor processor)
+        → length (workingRead outcome) ≤ maxPoints
     go (refused number place) valid = omega arith
-    go (answer entries) valid = working-small (processorOf entries) (valid-processor entries (valid entries refl)) .few
+    go (answer processor) valid = working-small processor (valid processor refl) .few

@@ -1,8 +1,10 @@
-// The setting of one interval: refusals 25 and 26.
+// The setting of one interval: refusals 25 and 26, after 35.
 ghost use mathlib.Core.Path.{_≡_};
 ghost use Prim.Native.Nat.{_≤_};
 ghost use Rattle.model.specs.Limits.{maxDeadline};
+ghost use Rattle.model.specs.Outcome.{andThen};
 ghost use Rattle.model.specs.LevelTables.{ValidLevelTable};
+ghost use Rattle.model.specs.SiteParameters.{alterLevels};
 ghost use Rattle.model.specs.Bands.{Curve};
 ghost use Rattle.model.specs.Processors.{processorOf};
 ghost use Rattle.model.specs.Setting.{settingOf, settingFor, setting as settingOfBytes, bandOf};
@@ -14,6 +16,7 @@ use crate::working::working_levels;
 use level_tables::read_levels;
 use model::MAX_DEADLINE;
 use model::MAX_LEVELS;
+use parameters::alter_levels;
 use reading::Reading;
 
 // The band counts from 1; zeros for load 0.
@@ -22,9 +25,10 @@ pub enum SettingAnswer {
     Refused { number: u32, place: u32 },
 }
 
-// The setting of an interval of some length for some load. Any bytes and any numbers are answered.
-pub fn setting(levels: &[u8], length: u32, load: u64) -> SettingAnswer
-    ensures { λ r. ⌜ r ≡ settingAnswer (settingOfBytes (now (levels .entry)) length load) ⌝ }
+// The setting of an interval of some length for some load, with running levels up to the highest. Any bytes and any numbers are
+// answered.
+pub fn setting(levels: &[u8], highest: u32, length: u32, load: u64) -> SettingAnswer
+    ensures { λ r. ⌜ r ≡ settingAnswer (settingOfBytes (now (levels .entry)) highest length load) ⌝ }
 {
     let table = read_levels(levels);
     let reading = table.reading;
@@ -33,12 +37,31 @@ pub fn setting(levels: &[u8], length: u32, load: u64) -> SettingAnswer
         Reading::Entries(count) => {
             let frequencies = table.frequencies;
             let voltages = table.voltages;
-            setting_in(&frequencies, &voltages, count, length as u64, load)
+            setting_up_to(&frequencies, &voltages, count, highest, length as u64, load)
         }
     }
 }
 
-// The setting over a decoded level table.
+// The setting over a decoded level table, with its running levels up to the highest.
+fn setting_up_to(
+    frequencies: &[u64; MAX_LEVELS],
+    voltages: &[u64; MAX_LEVELS],
+    count: usize,
+    highest: u32,
+    length: u64,
+    load: u64,
+) -> SettingAnswer
+    requires { ⌜ ValidLevelTable (levelsIn count (now frequencies) (now voltages)) ⌝ }
+    ensures { λ r. ⌜ r ≡ settingAnswer (andThen (alterLevels highest (levelsIn count (now (frequencies .entry)) (now (voltages .entry)))) λ levels. settingFor (processorOf levels) length load) ⌝ }
+{
+    let reading = alter_levels(frequencies, count, highest);
+    match reading {
+        Reading::Refused { number, place } => SettingAnswer::Refused { number, place },
+        Reading::Entries(kept) => setting_in(frequencies, voltages, kept, length, load),
+    }
+}
+
+// The setting over a level table whose running levels are all allowed.
 fn setting_in(
     frequencies: &[u64; MAX_LEVELS],
     voltages: &[u64; MAX_LEVELS],

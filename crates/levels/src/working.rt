@@ -2,7 +2,9 @@
 ghost use mathlib.Core.Path.{_≡_};
 ghost use Prim.Native.Nat.{_<_};
 ghost use Rattle.model.specs.Limits.{maxFrequency, maxPower};
+ghost use Rattle.model.specs.Outcome.{answer, andThen};
 ghost use Rattle.model.specs.LevelTables.{ValidLevelTable};
+ghost use Rattle.model.specs.SiteParameters.{alterLevels};
 ghost use Rattle.model.specs.Points.{drops as dropsPoint, dropped as isDropped, working};
 ghost use Rattle.model.specs.Processors.{workingOf, processorOf, readProcessor};
 ghost use Rattle.level_tables.specs.Tables.{levelsIn};
@@ -15,11 +17,13 @@ use crate::points::point_at;
 use level_tables::read_levels;
 use model::MAX_LEVELS;
 use model::MAX_POINTS;
+use parameters::alter_levels;
 use reading::Reading;
 
-// The working points of a level table in bytes. Any bytes are answered; a table that is refused has none.
-pub fn read_working_levels(levels: &[u8]) -> PointTable
-    ensures { λ r. ⌜ r ≡ pointTable (workingRead (readProcessor (now (levels .entry)))) ⌝ }
+// The working points of a level table in bytes, with running levels up to the highest. Any bytes are answered; a table that is
+// refused has none, and so has one that has not as many running levels.
+pub fn read_working_levels(levels: &[u8], highest: u32) -> PointTable
+    ensures { λ r. ⌜ r ≡ pointTable (workingRead (readProcessor (now (levels .entry)) highest)) ⌝ }
 {
     let table = read_levels(levels);
     let reading = table.reading;
@@ -31,8 +35,28 @@ pub fn read_working_levels(levels: &[u8]) -> PointTable
         Reading::Entries(count) => {
             let frequencies = table.frequencies;
             let voltages = table.voltages;
-            working_levels(&frequencies, &voltages, count)
+            working_up_to(&frequencies, &voltages, count, highest)
         }
+    }
+}
+
+// The working points over a decoded level table, with its running levels up to the highest.
+fn working_up_to(
+    frequencies: &[u64; MAX_LEVELS],
+    voltages: &[u64; MAX_LEVELS],
+    count: usize,
+    highest: u32,
+) -> PointTable
+    requires { ⌜ ValidLevelTable (levelsIn count (now frequencies) (now voltages)) ⌝ }
+    ensures { λ r. ⌜ r ≡ pointTable (workingRead (andThen (alterLevels highest (levelsIn count (now (frequencies .entry)) (now (voltages .entry)))) λ levels. answer (processorOf levels))) ⌝ }
+{
+    let reading = alter_levels(frequencies, count, highest);
+    match reading {
+        Reading::Refused {
+            number: _,
+            place: _,
+        } => no_points(),
+        Reading::Entries(kept) => working_levels(frequencies, voltages, kept),
     }
 }
 

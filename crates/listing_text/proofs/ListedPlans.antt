@@ -7,6 +7,7 @@ use native.Mathlib.Nat.{mul-le-mul-right}
 use native.Mathlib.Omega.{arith}
 use lib.ListN.{length, getD, take, length-take}
 use lib.Seq.{getD-take}
+use Rattle.model.specs.declared.Parameters.{Parameters}
 use Rattle.model.specs.Outcome.{answer}
 use Rattle.model.specs.Sum.{sum}
 use Rattle.model.specs.Processors.{workingOf, topOf}
@@ -31,9 +32,9 @@ use Rattle.model.proofs.Joined.{joined-cong}
 use Rattle.listing_text.specs.PlanText.{spanLines, planText, textOfPlan}
 use Rattle.listing_text.specs.ShownPlans.{boundsIn, pricesIn, ShownPlan, ListedPlan}
 
-module _ {levelBytes jobBytes markBytes : List ℕ} {intervals steps energy : ℕ} {prices shares : List ℕ}
-    (listed : ListedPlan levelBytes jobBytes markBytes intervals steps energy prices shares)
-    (site : Site) (site-read : readSite levelBytes jobBytes markBytes ≡ answer site) where
+module _ {levelBytes jobBytes markBytes : List ℕ} {parameters : Parameters} {intervals steps energy : ℕ} {prices shares : List ℕ}
+    (listed : ListedPlan levelBytes jobBytes markBytes parameters intervals steps energy prices shares)
+    (site : Site) (site-read : readSite levelBytes jobBytes markBytes parameters ≡ answer site) where
   abbrev plan : List ℕ
   plan = listed .plan
 
@@ -47,7 +48,7 @@ module _ {levelBytes jobBytes markBytes : List ℕ} {intervals steps energy : �
   planned = let same : listed .site ≡ site = answer-injective (sym (listed .site-read) ∙ site-read) in rw same at (listed .planned)
 
   valid : ValidSite site
-  valid = sites-are-valid levelBytes jobBytes markBytes site site-read
+  valid = sites-are-valid levelBytes jobBytes markBytes parameters site site-read
 
   accepted : Accepted site plan priceList
   accepted = check-accepts site plan priceList energy .0 (planned .accepted) .0

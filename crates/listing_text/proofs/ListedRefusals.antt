@@ -5,6 +5,7 @@ use mathlib.Core.List.{List}
 use Prim.Native.Nat.{ℕ}
 use native.Mathlib.Omega.{arith}
 use lib.ListN.{length, length-replicate}
+use Rattle.model.specs.declared.Parameters.{Parameters}
 use Rattle.model.specs.Outcome.{Outcome, refused, answer}
 use Rattle.model.specs.Sites.{Site, readSite, ValidSite}
 use Rattle.model.specs.Planning.{refusal, planning}
@@ -24,16 +25,16 @@ length-zeros : (n : ℕ) → length (zeros n) ≡ n
 unfolding zeros
 length-zeros n = length-replicate {A = ℕ} n 0
 
-module _ (levelBytes jobBytes markBytes : List ℕ) (number place : ℕ) where
-  refused-in : refusal number place ≡ planning levelBytes jobBytes markBytes planRoom priceRoom shareRoom
-      → (outcome : Outcome Site) → readSite levelBytes jobBytes markBytes ≡ outcome → outcome ≡ refused number place
+module _ (levelBytes jobBytes markBytes : List ℕ) (parameters : Parameters) (number place : ℕ) where
+  refused-in : refusal number place ≡ planning levelBytes jobBytes markBytes parameters planRoom priceRoom shareRoom
+      → (outcome : Outcome Site) → readSite levelBytes jobBytes markBytes parameters ≡ outcome → outcome ≡ refused number place
   unfolding planning
   refused-in e (refused own own-place) is = cc (rw is at e)
   refused-in e (answer site) is =
       absurd (long-enough-decides site planRoom priceRoom shareRoom
-      (long-enough site (sites-are-valid levelBytes jobBytes markBytes site is)) .no-refusal number place (sym (rw is at e)))
+      (long-enough site (sites-are-valid levelBytes jobBytes markBytes parameters site is)) .no-refusal number place (sym (rw is at e)))
 
-  pub reading-refused : refusal number place ≡ planning levelBytes jobBytes markBytes (length (zeros planRoom)) (length (zeros priceRoom)) (length (zeros shareRoom))
-      → readSite levelBytes jobBytes markBytes ≡ refused number place
+  pub reading-refused : refusal number place ≡ planning levelBytes jobBytes markBytes parameters (length (zeros planRoom)) (length (zeros priceRoom)) (length (zeros shareRoom))
+      → readSite levelBytes jobBytes markBytes parameters ≡ refused number place
   reading-refused e =
-      refused-in (rw (length-zeros planRoom, length-zeros priceRoom, length-zeros shareRoom) at e) (readSite levelBytes jobBytes markBytes) refl
+      refused-in (rw (length-zeros planRoom, length-zeros priceRoom, length-zeros shareRoom) at e) (readSite levelBytes jobBytes markBytes parameters) refl

@@ -7,6 +7,7 @@ use native.Mathlib.Omega.{arith}
 use lib.ListN.{length, take, drop, set}
 use lib.IntN.{ℤ}
 use lib.Seq.{sets, take-nil}
+use Rattle.model.specs.declared.Parameters.{Parameters}
 use Rattle.model.specs.Outcome.{Outcome, refused, answer}
 use Rattle.model.specs.Sites.{Site, readSite}
 use Rattle.model.specs.Plans.{sharesIn}
@@ -39,10 +40,10 @@ sets-start [] (b ∷ bytes) = sets-nil 0 (b ∷ bytes)
 sets-start (x ∷ before) (b ∷ bytes) = sets-shift b before 0 bytes ∙ ap (λ (l : List ℕ). b ∷ l) (sets-start before bytes)
 
 -- the buffers that planning is lent hold zeros
-pub lent-zeros : {levelBytes jobBytes markBytes : List ℕ} {left : Buffers} {answered : PlanAnswer} {plan prices shares : List ℕ}
+pub lent-zeros : {levelBytes jobBytes markBytes : List ℕ} {parameters : Parameters} {left : Buffers} {answered : PlanAnswer} {plan prices shares : List ℕ}
     → plan ≡ zeros planRoom → prices ≡ zeros priceRoom → shares ≡ zeros shareRoom
-    → PlanContract levelBytes jobBytes markBytes (record { plan = plan; prices = prices; shares = shares }) left answered
-    → PlanContract levelBytes jobBytes markBytes zeroBuffers left answered
+    → PlanContract levelBytes jobBytes markBytes parameters (record { plan = plan; prices = prices; shares = shares }) left answered
+    → PlanContract levelBytes jobBytes markBytes parameters zeroBuffers left answered
 lent-zeros plan prices shares planned = rw (plan, prices, shares) at planned
 
 -- the text of a site that was read
@@ -51,10 +52,10 @@ text-read : (outcome : Outcome Site) (site : Site) → outcome ≡ answer site �
 unfolding listingText
 text-read outcome site read answered case is left = rw (read, is)
 
-module _ {levelBytes jobBytes markBytes : List ℕ} {left : Buffers} {answered : PlanAnswer} (planned : PlanContract levelBytes jobBytes markBytes zeroBuffers left answered) where
+module _ {levelBytes jobBytes markBytes : List ℕ} {parameters : Parameters} {left : Buffers} {answered : PlanAnswer} (planned : PlanContract levelBytes jobBytes markBytes parameters zeroBuffers left answered) where
   -- what was written is a plan whose text can be put
   pub plan-listed : (intervals steps energy : ℕ) → answered ≡ Plan intervals steps energy
-      → ListedPlan levelBytes jobBytes markBytes intervals steps energy (left .prices) (left .shares)
+      → ListedPlan levelBytes jobBytes markBytes parameters intervals steps energy (left .prices) (left .shares)
   plan-listed intervals steps energy is =
       let (site, read) = plan-read planned intervals steps energy is in
       record {
@@ -64,13 +65,13 @@ module _ {levelBytes jobBytes markBytes : List ℕ} {left : Buffers} {answered :
         planned = planned .written site read intervals steps energy is .planned;
       }
 
-  read-refused : (number place : ℕ) → answered ≡ Refused number place → readSite levelBytes jobBytes markBytes ≡ refused number place
-  read-refused number place is = reading-refused levelBytes jobBytes markBytes number place (rw is at (planned .outcome))
+  read-refused : (number place : ℕ) → answered ≡ Refused number place → readSite levelBytes jobBytes markBytes parameters ≡ refused number place
+  read-refused number place is = reading-refused levelBytes jobBytes markBytes parameters number place (rw is at (planned .outcome))
 
   module _ (before after : List ℕ) (whole : ℕ) where
     -- what was put is the text
-    text-put : (text : List ℕ) → text ≡ listingText (readSite levelBytes jobBytes markBytes) answered left
-        → Appended before 0 text textRoom after whole → ListingContract levelBytes jobBytes markBytes before after whole
+    text-put : (text : List ℕ) → text ≡ listingText (readSite levelBytes jobBytes markBytes parameters) answered left
+        → Appended before 0 text textRoom after whole → ListingContract levelBytes jobBytes markBytes parameters before after whole
     text-put text is put =
         record {
           text = text;
@@ -79,7 +80,7 @@ module _ {levelBytes jobBytes markBytes : List ℕ} {left : Buffers} {answered :
             left = left;
             planned = planned;
             text-is = is;
-            of-reading = λ number place refused. site-by levelBytes jobBytes markBytes number place (read-refused number place refused);
+            of-reading = λ number place refused. site-by levelBytes jobBytes markBytes parameters number place (read-refused number place refused);
           };
           length-is = omega (arith, put .next-is);
           written = put .after-is ∙ sets-start before text;
@@ -87,22 +88,22 @@ module _ {levelBytes jobBytes markBytes : List ℕ} {left : Buffers} {answered :
         }
 
     pub plan-put : (intervals steps energy : ℕ) → answered ≡ Plan intervals steps energy
-        → ((site : Site) → readSite levelBytes jobBytes markBytes ≡ answer site → Appended before 0
+        → ((site : Site) → readSite levelBytes jobBytes markBytes parameters ≡ answer site → Appended before 0
         (textOfPlan site (pricesOf (take (2 + 5 * intervals) (left .prices))) (sharesIn (length (site .jobs)) (left .shares)) steps energy) textRoom after whole)
-        → ListingContract levelBytes jobBytes markBytes before after whole
+        → ListingContract levelBytes jobBytes markBytes parameters before after whole
     unfolding siteText
     plan-put intervals steps energy is put =
         let (site, read) = plan-read planned intervals steps energy is in
         text-put _ (text-read _ site read answered _ is left) (put site read)
 
     pub overfull-put : (start end : ℕ) (spare : ℤ) → answered ≡ Overfull start end spare
-        → Appended before 0 (overfullLine start end spare) textRoom after whole → ListingContract levelBytes jobBytes markBytes before after whole
+        → Appended before 0 (overfullLine start end spare) textRoom after whole → ListingContract levelBytes jobBytes markBytes parameters before after whole
     unfolding siteText
     overfull-put start end spare is put =
         let (site, read) = site-planned planned (λ number place e. let z : _≡_ {A = ℕ} 0 1 = cc (ap outcomeOf is, e) in omega (arith, z)) in
         text-put _ (text-read _ site read answered _ is left) put
 
     pub refused-put : (number place : ℕ) → answered ≡ Refused number place
-        → Appended before 0 (refusedLine number place) textRoom after whole → ListingContract levelBytes jobBytes markBytes before after whole
+        → Appended before 0 (refusedLine number place) textRoom after whole → ListingContract levelBytes jobBytes markBytes parameters before after whole
     unfolding listingText
     refused-put number place is put = text-put _ (rw (read-refused number place is)) put

@@ -3,6 +3,7 @@ use Prim.Native.Nat.{ℕ, _+_, _*_, _≤_}
 use mathlib.Core.Path.{_≡_}
 use mathlib.Core.List.{List, [], _∷_, _++_}
 use lib.ListN.{length, take, drop, replicate}
+use Rattle.model.specs.declared.Parameters.{Parameters}
 use Rattle.model.specs.Limits.{maxJobs, maxIntervals}
 use Rattle.model.specs.Outcome.{Outcome, refused, answer}
 use Rattle.model.specs.Marks.{noMarks}
@@ -54,20 +55,20 @@ listingText (answer site) answered left = siteText site answered left
 
 -- Planning answered and left something for the tables, and the text is that of its answer. Which plan is written is free where
 -- several are equally cheap, so the text is a function of what planning answered and wrote.
-pub record Listed (levelBytes jobBytes markBytes text : List ℕ) : Type 0 where
+pub record Listed (levelBytes jobBytes markBytes : List ℕ) (parameters : Parameters) (text : List ℕ) : Type 0 where
   pub answered : PlanAnswer
   pub left : Buffers
-  pub planned : PlanContract levelBytes jobBytes markBytes zeroBuffers left answered
-  pub text-is : text ≡ listingText (readSite levelBytes jobBytes markBytes) answered left
+  pub planned : PlanContract levelBytes jobBytes markBytes parameters zeroBuffers left answered
+  pub text-is : text ≡ listingText (readSite levelBytes jobBytes markBytes parameters) answered left
   -- "refused, number, place (1 to 10, and later numbers that its files can meet)": those of reading a site; no buffer is too
   -- short, and 11 is an overfull window
   pub of-reading : (number place : ℕ) → answered ≡ Refused number place → SiteNumbers number
 
 -- The whole promise: the length of a listing's text is answered, as many of its bytes as have room stand in the buffer, and the
 -- rest of the buffer stays.
-pub record ListingContract (levelBytes jobBytes markBytes before after : List ℕ) (answered : ℕ) : Type 0 where
+pub record ListingContract (levelBytes jobBytes markBytes : List ℕ) (parameters : Parameters) (before after : List ℕ) (answered : ℕ) : Type 0 where
   pub text : List ℕ
-  pub listed : Listed levelBytes jobBytes markBytes text
+  pub listed : Listed levelBytes jobBytes markBytes parameters text
   pub length-is : answered ≡ length text
   pub written : after ≡ take (length before) text ++ drop (length text) before
   pub fits : length text ≤ textRoom

@@ -3,6 +3,7 @@ use Prim.Native.Nat.{ℕ, suc, _+_, _-_, _*_, _<_, _≤_}
 use mathlib.Core.Path.{_≡_}
 use mathlib.Core.List.{List}
 use lib.ListN.{length, getD, take}
+use Rattle.model.specs.declared.Parameters.{Parameters}
 use Rattle.model.specs.Limits.{maxJobs, maxIntervals, maxDeadline}
 use Rattle.model.specs.Outcome.{answer}
 use Rattle.model.specs.Sum.{sum}
@@ -36,8 +37,8 @@ pub record ShownPlan (working : PointTable) (jobs intervals : ℕ) (times prices
   pub fits : (i : ℕ) → i < intervals → Fits (pointsOf working) (boundsIn times (suc i) - boundsIn times i) (sum jobs (sharesIn jobs shares i))
 
 -- A plan for the site that was read stands at the start of the prices and the shares.
-pub record ListedPlan (levelBytes jobBytes markBytes : List ℕ) (intervals steps energy : ℕ) (prices shares : List ℕ) : Type 0 where
+pub record ListedPlan (levelBytes jobBytes markBytes : List ℕ) (parameters : Parameters) (intervals steps energy : ℕ) (prices shares : List ℕ) : Type 0 where
   pub site : Site
-  pub site-read : readSite levelBytes jobBytes markBytes ≡ answer site
+  pub site-read : readSite levelBytes jobBytes markBytes parameters ≡ answer site
   pub plan : List ℕ
   pub planned : Planned site intervals steps energy plan (take (2 + 5 * intervals) prices) (take (length (site .jobs) * intervals) shares)

@@ -4,6 +4,7 @@
 use mathlib.Core.Path.{_≡_, ap, sym}
 use mathlib.Core.List.{List}
 use Prim.Native.Nat.{ℕ, _+_, _*_, _<_, _≤_}
+use Rattle.model.specs.declared.Parameters.{Parameters}
 use Rattle.model.specs.Outcome.{Outcome, answer}
 use Rattle.model.specs.Bands.{bandCount}
 use Rattle.model.specs.Processors.{allPoints, workingOf}
@@ -41,16 +42,16 @@ check-accepts site plan prices figure =
     )
 
 -- once the tables were read, their site is checked
-pub check-read : (levelBytes jobBytes markBytes plan prices : List ℕ) (site : Site) → readSite levelBytes jobBytes markBytes ≡ answer site
-    → check levelBytes jobBytes markBytes plan prices ≡ checkFor site plan prices
+pub check-read : (levelBytes jobBytes markBytes : List ℕ) (parameters : Parameters) (plan prices : List ℕ) (site : Site) → readSite levelBytes jobBytes markBytes parameters ≡ answer site
+    → check levelBytes jobBytes markBytes parameters plan prices ≡ checkFor site plan prices
 unfolding check
-check-read levelBytes jobBytes markBytes plan prices site read = rw read
+check-read levelBytes jobBytes markBytes parameters plan prices site read = rw read
 
 -- the check accepts only tables that are read
-pub check-reads : (levelBytes jobBytes markBytes plan prices : List ℕ) (figure : ℕ) → check levelBytes jobBytes markBytes plan prices ≡ answer figure
-    → (site : Site) × (readSite levelBytes jobBytes markBytes ≡ answer site) × (checkFor site plan prices ≡ answer figure)
+pub check-reads : (levelBytes jobBytes markBytes : List ℕ) (parameters : Parameters) (plan prices : List ℕ) (figure : ℕ) → check levelBytes jobBytes markBytes parameters plan prices ≡ answer figure
+    → (site : Site) × (readSite levelBytes jobBytes markBytes parameters ≡ answer site) × (checkFor site plan prices ≡ answer figure)
 unfolding check
-check-reads levelBytes jobBytes markBytes plan prices figure e = andThen-answered (readSite levelBytes jobBytes markBytes) _ e
+check-reads levelBytes jobBytes markBytes parameters plan prices figure e = andThen-answered (readSite levelBytes jobBytes markBytes parameters) _ e
 
 -- the figure of a plan is at most its exact energy, and less than m below it
 pub figure-close : (site : Site) → ValidSite site → (plan : List ℕ) (figure : ℕ) → figure ≡ figureOf site plan

@@ -1,12 +1,12 @@
 -- The hypotheses of the theorems shut nothing out.
 -- Assumes nothing.
-use mathlib.Core.Path.{_≡_, refl}
+use mathlib.Core.Path.{_≡_, refl, _∙_}
 use mathlib.Core.Logic.{_⊎_, inl, inr}
 use Prim.Native.Nat.{ℕ, zero, suc, _<_}
 use native.Mathlib.Omega.{arith}
 use lib.ListN.{length}
 use Rattle.model.specs.Points.{points, pointAt}
-use Rattle.model.specs.Sites.{readTables, readSite}
+use Rattle.model.specs.Sites.{readGiven, alterTables, readSite}
 use Rattle.model.specs.Schedules.{Slot, idles, runs, IsGiven}
 use Rattle.model.specs.Hypotheses.{
   EveryLevels,
@@ -21,9 +21,10 @@ use Rattle.model.specs.Hypotheses.{
   EverySchedule,
   EverySiteRead,
   EveryValidTable,
+  EveryGivenTable,
   EveryBuffer,
 }
-use Rattle.model.proofs.Sites.{valid-tables, sites-are-valid}
+use Rattle.model.proofs.Sites.{valid-tables, sites-are-valid, as-given-alters-nothing}
 use Rattle.model.proofs.LevelTables.{levels-valid, plain-table, idle-table}
 use Rattle.model.proofs.Jobs.{jobs-valid}
 use Rattle.model.proofs.Marks.{marks-valid}
@@ -114,8 +115,14 @@ pub every-site-read : EverySiteRead
 every-site-read = (sites-are-valid, valid-tables)
 
 pub every-valid-table : EveryValidTable
-unfolding readSite readTables
-every-valid-table levelBytes jobBytes markBytes entries jobs marks levels-read jobs-read marks-read = rw (levels-read, jobs-read, marks-read)
+unfolding readSite readGiven alterTables
+every-valid-table levelBytes jobBytes markBytes parameters entries levels jobs altered marks levels-read jobs-read marks-read levels-altered jobs-altered =
+    rw (levels-read, jobs-read, marks-read, levels-altered, jobs-altered)
+
+pub every-given-table : EveryGivenTable
+unfolding readGiven
+every-given-table levelBytes jobBytes markBytes entries jobs marks levels-read jobs-read marks-read =
+    as-given-alters-nothing levelBytes jobBytes markBytes ∙ rw (levels-read, jobs-read, marks-read)
 
 pub every-buffer : EveryBuffer
 every-buffer site planRoom priceRoom shareRoom plan-room price-room share-room =

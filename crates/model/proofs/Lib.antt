@@ -19,6 +19,7 @@ pub mod OpenSets
 pub mod Windows
 pub mod Points
 pub mod LevelTables
+pub mod SiteParameters
 pub mod Working
 pub mod Support
 pub mod Bands
@@ -43,6 +44,7 @@ pub mod Hypotheses
 pub mod IdleDraw
 pub mod Boards
 pub mod SiteLines
+pub mod ParameterLines
 pub mod SameShares
 pub mod Steps
 pub mod Faults

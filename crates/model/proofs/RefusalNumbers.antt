@@ -1,9 +1,9 @@
 -- Laws of the numbers that a definition refuses by, one for each form of refusal, and the numbers of each operation.
 -- Assumes nothing.
 use mathlib.Core.Path.{_≡_, refl}
-use mathlib.Core.Bool.{Bool, true, false, cond, not, _&&_}
+use mathlib.Core.Bool.{Bool, true, false, cond, not, _||_, _&&_}
 use mathlib.Core.Logic.{_⊎_, inl, inr}
-use mathlib.Core.List.{List}
+use mathlib.Core.List.{List, map}
 use mathlib.Core.Option.{Option, none, some}
 use Prim.Native.Nat.{ℕ, zero, suc, _+_, _-_, _*_}
 use native.Mathlib.Omega.{arith}
@@ -11,6 +11,7 @@ use lib.ListN.{length}
 use lib.Dec.{ltb, leb, eqb}
 use Rattle.model.specs.declared.Level.{Level}
 use Rattle.model.specs.declared.Job.{Job}
+use Rattle.model.specs.declared.Parameters.{Parameters}
 use Rattle.model.specs.Limits.{maxLevels, maxJobs, maxMarks, maxDeadline}
 use Rattle.model.specs.Outcome.{Outcome, refused, answer, andThen, refuseWhen, refuseAt, refuseUnder, byEntryFrom, byEntry, From, RefusesBy}
 use Rattle.model.specs.Entries.{listOf}
@@ -19,12 +20,14 @@ use Rattle.model.specs.Points.{powerOf}
 use Rattle.model.specs.LevelTables.{levelCount, levelEntries, idleEntries, idlePowerOf, runningLevels, standsAlone}
 use Rattle.model.specs.LevelTables.{orFault, drawFault, runningFault, tableFault, readLevels, LevelNumbers}
 use Rattle.model.specs.Jobs.{jobOf, jobCount, jobEntries, wrongWindow, wrongCycles as wrongJobCycles, faultOfJob, jobFault, readJobs}
+use Rattle.model.specs.SiteParameters.{wrongHighest, levelsUpTo, alterLevels, wrongFree, wrongMargin, alteredJob, isEmptied, hasTooManyCycles, alteredFault, alterJobs}
 use Rattle.model.specs.Processors.{workingOf, topOf, processorOf, readProcessor}
 use Rattle.model.specs.Setting.{settingOf, setting}
 use Rattle.model.specs.Search.{someBelow}
 use Rattle.model.specs.Intervals.{intervalCount, boundAt, lengthOf, isOpen}
 use Rattle.model.specs.Marks.{markCount, markEntries, notRising, readMarks}
-use Rattle.model.specs.Sites.{Site, siteOf, readTables, readSite, TableNumbers, SiteNumbers}
+use Rattle.model.specs.Sites.{Given, readGiven, tablesOf, alterTables, readTables, Site, siteOf, readSite, readGivenSite}
+use Rattle.model.specs.Sites.{GivenNumbers, GivenSiteNumbers, TableNumbers, SiteNumbers}
 use Rattle.model.specs.Windows.{Window, spareOf, earliestOverfull, wrongSpan, spare}
 use Rattle.model.specs.Plans.{load}
 use Rattle.model.specs.Prices.{isBandNumber, fitsLoad}
@@ -155,17 +158,46 @@ jobs-by bytes =
     (by-entries (From 6 10) 0 (jobCount bytes) (jobFault (jobEntries bytes)) (λ j. job-fault _)
     (by-answer (From 6 10) (jobEntries bytes)))))
 
-processor-by : (bytes : List ℕ) → RefusesBy LevelNumbers (readProcessor bytes)
-processor-by bytes = by-then LevelNumbers (readLevels bytes) _ (levels-by bytes) λ entries. by-answer LevelNumbers (processorOf entries)
+-- altering refuses by 35 and 36, whatever else may follow
+module _ (numbers : ℕ → Type 0) (ranged : numbers 35) where
+  pub alter-levels-by : (highest : ℕ) (entries : List Level) → RefusesBy numbers (alterLevels highest entries)
+  unfolding alterLevels
+  alter-levels-by highest entries = by-when numbers (wrongHighest entries highest) 35 ranged (by-answer numbers (levelsUpTo highest entries))
 
-pub setting-by : (levels : List ℕ) (size load : ℕ) → RefusesBy (λ n. LevelNumbers n ⊎ From 25 26 n) (setting levels size load)
+  module _ (lasting : numbers 36) where
+    altered-fault : (job : Job) → FaultBy numbers (alteredFault job)
+    unfolding alteredFault
+    altered-fault job = fault-cond numbers (isEmptied job || hasTooManyCycles job) 36 0 lasting (inl refl)
+
+    pub alter-jobs-by : (free margin : ℕ) (jobs : List Job) → RefusesBy numbers (alterJobs free margin jobs)
+    unfolding alterJobs
+    alter-jobs-by free margin jobs =
+        let altered : List Job = map (alteredJob free margin) jobs in
+        by-when numbers (wrongFree free || wrongMargin margin) 35 ranged
+        (by-entries numbers 0 (length jobs) (λ j. alteredFault (jobOf altered j)) (λ j. altered-fault (jobOf altered j))
+        (by-answer numbers altered))
+
+    alter-by : (parameters : Parameters) (given : Given) → RefusesBy numbers (alterTables parameters given)
+    unfolding alterTables
+    alter-by parameters given =
+        by-then numbers (alterLevels (parameters .highest) (given .levels)) _ (alter-levels-by (parameters .highest) (given .levels)) λ levels.
+        by-then numbers (alterJobs (parameters .free) (parameters .margin) (given .jobs)) _
+        (alter-jobs-by (parameters .free) (parameters .margin) (given .jobs)) λ jobs.
+        by-answer numbers (tablesOf (record { levels = levels; jobs = jobs }))
+
+abbrev SettingNumbers : ℕ → Type 0
+SettingNumbers n = (LevelNumbers n ⊎ From 35 35 n) ⊎ From 25 26 n
+
+pub setting-by : (levels : List ℕ) (highest size load : ℕ) → RefusesBy SettingNumbers (setting levels highest size load)
 unfolding setting
-setting-by levels size load =
-    let numbers : ℕ → Type 0 = λ n. LevelNumbers n ⊎ From 25 26 n in
-    by-then numbers (readProcessor levels) _ (widen (λ n low. inl low) (processor-by levels)) λ processor.
-    by-when numbers (not (leb 1 size && leb size maxDeadline)) 25 (inr (omega arith))
-    (by-when numbers (ltb (size * topOf processor) load) 26 (inr (omega arith))
-    (by-answer numbers (settingOf (workingOf processor) size load)))
+setting-by levels highest size load =
+    by-then SettingNumbers (readProcessor levels highest) _
+    (by-then SettingNumbers (readLevels levels) _ (widen (λ n low. inl (inl low)) (levels-by levels)) λ entries.
+    by-then SettingNumbers (alterLevels highest entries) _ (alter-levels-by SettingNumbers (inl (inr (omega arith))) highest entries) λ altered.
+    by-answer SettingNumbers (processorOf altered)) λ processor.
+    by-when SettingNumbers (not (leb 1 size && leb size maxDeadline)) 25 (inr (omega arith))
+    (by-when SettingNumbers (ltb (size * topOf processor) load) 26 (inr (omega arith))
+    (by-answer SettingNumbers (settingOf (workingOf processor) size load)))
 
 pub marks-by : (bytes : List ℕ) → RefusesBy (From 34 34) (readMarks bytes)
 unfolding readMarks
@@ -177,34 +209,45 @@ marks-by bytes =
     (by-answer (From 34 34) (markEntries bytes)))))
 
 -- the numbers of both tables
-level-numbers : (n : ℕ) → LevelNumbers n → TableNumbers n
+level-numbers : (n : ℕ) → LevelNumbers n → GivenNumbers n
 level-numbers n (inl low) = inl (omega (arith, low))
 level-numbers n (inr new) = inr new
 
-pub tables-by : (levels jobs : List ℕ) → RefusesBy TableNumbers (readTables levels jobs)
-unfolding readTables
-tables-by levels jobs =
-    by-then TableNumbers (readLevels levels) _ (widen level-numbers (levels-by levels)) λ read.
-    by-then TableNumbers (readJobs jobs) _ (widen (λ n low. inl (omega (arith, low))) (jobs-by jobs)) λ own.
-    by-answer TableNumbers (record { processor = processorOf read; jobs = own })
+pub given-by : (levels jobs : List ℕ) → RefusesBy GivenNumbers (readGiven levels jobs)
+unfolding readGiven
+given-by levels jobs =
+    by-then GivenNumbers (readLevels levels) _ (widen level-numbers (levels-by levels)) λ read.
+    by-then GivenNumbers (readJobs jobs) _ (widen (λ n low. inl (omega (arith, low))) (jobs-by jobs)) λ own.
+    by-answer GivenNumbers (record { levels = read; jobs = own })
+
+pub given-site-by : (levels jobs marks : List ℕ) → RefusesBy GivenSiteNumbers (readGivenSite levels jobs marks)
+given-site-by levels jobs marks =
+    by-then GivenSiteNumbers (readGiven levels jobs) _ (widen (λ n low. inl low) (given-by levels jobs)) λ given.
+    by-then GivenSiteNumbers (readMarks marks) _ (widen (λ n new. inr new) (marks-by marks)) λ ticks.
+    by-answer GivenSiteNumbers (siteOf (tablesOf given) ticks)
 
 -- and those of a site
-pub site-by : (levels jobs marks : List ℕ) → RefusesBy SiteNumbers (readSite levels jobs marks)
+pub site-by : (levels jobs marks : List ℕ) (parameters : Parameters) → RefusesBy SiteNumbers (readSite levels jobs marks parameters)
 unfolding readSite
-site-by levels jobs marks =
-    by-then SiteNumbers (readTables levels jobs) _ (widen (λ n low. inl low) (tables-by levels jobs)) λ read.
-    by-then SiteNumbers (readMarks marks) _ (widen (λ n new. inr new) (marks-by marks)) λ ticks.
-    by-answer SiteNumbers (siteOf read ticks)
+site-by levels jobs marks parameters =
+    by-then SiteNumbers (readGiven levels jobs) _ (widen (λ n low. inl low) (given-by levels jobs)) λ given.
+    by-then SiteNumbers (readMarks marks) _ (widen (λ n new. inr (omega (arith, new))) (marks-by marks)) λ ticks.
+    by-then SiteNumbers (alterTables parameters given) _ (alter-by SiteNumbers (inr (omega arith)) (inr (omega arith)) parameters given) λ tables.
+    by-answer SiteNumbers (siteOf tables ticks)
 
 -- an operation that reads a site refuses as reading does, or by its own numbers
-site-then : (levels jobs marks : List ℕ) (past : ℕ → Type 0) → RefusesBy (λ n. SiteNumbers n ⊎ past n) (readSite levels jobs marks)
-site-then levels jobs marks past = widen (λ n low. inl low) (site-by levels jobs marks)
+site-then : (levels jobs marks : List ℕ) (parameters : Parameters) (past : ℕ → Type 0)
+    → RefusesBy (λ n. SiteNumbers n ⊎ past n) (readSite levels jobs marks parameters)
+site-then levels jobs marks parameters past = widen (λ n low. inl low) (site-by levels jobs marks parameters)
 
-pub spare-by : (levels jobs : List ℕ) (start end : ℕ) → RefusesBy (λ n. TableNumbers n ⊎ From 27 27 n) (spare levels jobs start end)
-unfolding spare
-spare-by levels jobs start end =
+pub spare-by : (levels jobs : List ℕ) (parameters : Parameters) (start end : ℕ)
+    → RefusesBy (λ n. TableNumbers n ⊎ From 27 27 n) (spare levels jobs parameters start end)
+unfolding spare readTables
+spare-by levels jobs parameters start end =
     let numbers : ℕ → Type 0 = λ n. TableNumbers n ⊎ From 27 27 n in
-    by-then numbers (readTables levels jobs) _ (widen (λ n low. inl low) (tables-by levels jobs)) λ tables.
+    by-then numbers (readTables levels jobs parameters) _
+    (by-then numbers (readGiven levels jobs) _ (widen (λ n low. inl (inl low)) (given-by levels jobs))
+    (alter-by numbers (inl (inr (omega arith))) (inl (inr (omega arith))) parameters)) λ tables.
     by-when numbers (wrongSpan start end) 27 (inr (omega arith))
     (by-answer numbers (spareOf (topOf (tables .processor)) (tables .jobs) start end))
 
@@ -252,10 +295,10 @@ module _ (numbers : ℕ → Type 0) (has : (n : ℕ) → From 19 20 n → number
 abbrev FitsNumbers : ℕ → Type 0
 FitsNumbers n = SiteNumbers n ⊎ From 15 20 n
 
-pub fits-by : (levels jobs marks plan : List ℕ) → RefusesBy FitsNumbers (fits levels jobs marks plan)
+pub fits-by : (levels jobs marks : List ℕ) (parameters : Parameters) (plan : List ℕ) → RefusesBy FitsNumbers (fits levels jobs marks parameters plan)
 unfolding fits fitsFor fitting
-fits-by levels jobs marks plan =
-    by-then FitsNumbers (readSite levels jobs marks) _ (site-then levels jobs marks (From 15 20)) λ site.
+fits-by levels jobs marks parameters plan =
+    by-then FitsNumbers (readSite levels jobs marks parameters) _ (site-then levels jobs marks parameters (From 15 20)) λ site.
     stepping-by FitsNumbers (λ n from. inr (from .0, omega (arith, from .1))) (site .jobs) (site .bounds) plan
     (sums-by FitsNumbers (λ n from. inr (omega (arith, from .0), from .1)) site plan
     (by-answer FitsNumbers (figureOf site plan)))
@@ -299,10 +342,10 @@ module _ (site : Site) (plan prices : List ℕ) where
         (widen (λ n from. (omega (arith, from .0), from .1)) (pricing-by (by-answer (From 21 24) (figureOf site plan)))),
   )
 
-pub check-by : (levels jobs marks plan prices : List ℕ) → RefusesBy CheckNumbers (check levels jobs marks plan prices)
+pub check-by : (levels jobs marks : List ℕ) (parameters : Parameters) (plan prices : List ℕ) → RefusesBy CheckNumbers (check levels jobs marks parameters plan prices)
 unfolding check
-check-by levels jobs marks plan prices =
-    by-then CheckNumbers (readSite levels jobs marks) _ (site-then levels jobs marks (From 15 24)) λ site.
+check-by levels jobs marks parameters plan prices =
+    by-then CheckNumbers (readSite levels jobs marks parameters) _ (site-then levels jobs marks parameters (From 15 24)) λ site.
     let (rest, is, past) = check-past-steps site plan prices in
     rw is
     (stepping-by CheckNumbers (λ n from. inr (from .0, omega (arith, from .1))) (site .jobs) (site .bounds) plan
@@ -332,10 +375,10 @@ wanted own length room {next} by rest = go (ltb room length)
     go true = λ number place e. let same : own ≡ number = cc e in rw same at by
     go false = rest
 
-pub planning-by : (levels jobs marks : List ℕ) (planRoom priceRoom shareRoom : ℕ) → PlanRefusesBy (planning levels jobs marks planRoom priceRoom shareRoom)
+pub planning-by : (levels jobs marks : List ℕ) (parameters : Parameters) (planRoom priceRoom shareRoom : ℕ) → PlanRefusesBy (planning levels jobs marks parameters planRoom priceRoom shareRoom)
 unfolding planning planFor
-planning-by levels jobs marks planRoom priceRoom shareRoom =
-    after-reading (readSite levels jobs marks) _ (site-then levels jobs marks (From 12 14)) λ site.
+planning-by levels jobs marks parameters planRoom priceRoom shareRoom =
+    after-reading (readSite levels jobs marks parameters) _ (site-then levels jobs marks parameters (From 12 14)) λ site.
     unless-overfull site (earliestOverfull (topOf (site .processor)) (site .jobs))
     (wanted 12 (planLength site) planRoom (inr (omega arith))
     (wanted 13 (priceLength site) priceRoom (inr (omega arith))

@@ -5,7 +5,7 @@ use mathlib.Core.Bool.{true}
 use mathlib.Core.List.{[], _∷_}
 use Prim.Native.Nat.{ℕ}
 use borrow.Author.Tests.{eqb-true}
-use Rattle.model.specs.SiteLines.{job, T, pLines, workedLines, sameNumber, holds, allHold}
+use Rattle.model.specs.SiteLines.{job, T, full, pLines, workedLines, sameNumber, holds, allHold}
 use Rattle.model.specs.ChangeLines.{drawLines, markLines, boardLines, halvesPlan, earlyPlan, halfLines}
 use Rattle.model.specs.Outcome.{Outcome, refused, answer, byEntryFrom}
 use Rattle.model.specs.Bytes.{numberAt, bytesOf}
@@ -26,7 +26,8 @@ use Rattle.model.specs.Energy.{bandCycles, intervalEnergy, exactEnergy, 
 use Rattle.model.specs.Prices.{fitsLoad}
 use Rattle.model.specs.Steps.{stepAt, jobSum, sharesOf}
 use Rattle.model.specs.PriceBytes.{pricesOf}
-use Rattle.model.specs.Sites.{readTables, readSite}
+use Rattle.model.specs.Sites.{readGiven, alterTables, readTables, readSite}
+use Rattle.model.specs.SiteParameters.{alterLevels, marginOn, alteredJob, alteredFault, alterJobs, asGiven}
 use Rattle.model.specs.Checking.{
   stepFault,
   jobSumFault,
@@ -46,7 +47,7 @@ use Rattle.model.proofs.Numbers.{both-true}
 
 pub lines-hold : (allHold pLines ≡ true) × (allHold workedLines ≡ true) × (allHold drawLines ≡ true) × (allHold markLines ≡ true)
     × (allHold boardLines ≡ true) × (allHold halfLines ≡ true)
-unfolding allHold sameNumber holds pLines workedLines drawLines markLines boardLines halfLines readMarks encodeMarks insertMarks boundsWith earliestRelease latestDeadline readTables byEntryFrom numberAt bytesOf listOf encodeEach readLevels levelAt faultOfLevel runningFault tableFault encodeLevels readJobs jobAt faultOfJob encodeJobs sum product someBelow firstFrom leastBelow points drops dropped selectFrom working gap rise scale price bandOf settingOf setting insertTime boundsOf lengthOf cyclesInside spareOf isOverfull overfullTo earliestStart earliestEnd earliestOverfull spare load bandCycles intervalEnergy exactEnergy bandTotal energyFigure isOpen fitsLoad stepAt sharesOf pricesOf stepFault jobSum jobSumFault loadFault fitting entryFault priceFault cheaperFault pricing readSite fitsFor fits checkFor check openCount openPairs planFor planning
+unfolding allHold sameNumber holds pLines workedLines drawLines markLines boardLines halfLines readMarks encodeMarks insertMarks boundsWith earliestRelease latestDeadline readGiven alterLevels marginOn alteredJob alteredFault alterJobs asGiven alterTables readTables byEntryFrom numberAt bytesOf listOf encodeEach readLevels levelAt faultOfLevel runningFault tableFault encodeLevels readJobs jobAt faultOfJob encodeJobs sum product someBelow firstFrom leastBelow points drops dropped selectFrom working gap rise scale price bandOf settingOf setting insertTime boundsOf lengthOf cyclesInside spareOf isOverfull overfullTo earliestStart earliestEnd earliestOverfull spare load bandCycles intervalEnergy exactEnergy bandTotal energyFigure isOpen fitsLoad stepAt sharesOf pricesOf stepFault jobSum jobSumFault loadFault fitting entryFault priceFault cheaperFault pricing readSite fitsFor fits checkFor check openCount openPairs planFor planning
 lines-hold = (refl, refl, refl, refl, refl, refl)
 
 -- an outcome that a line says to be a number is that answer
@@ -56,8 +57,8 @@ answered (refused number place) wanted e = cc e
 answered (answer n) wanted e = ap answer (eqb-true n wanted e)
 
 -- The first two lines of Change 8, as equations: two plans that fit the same tables, with figures of 1,600 and 400.
-pub two-plans-fit : (fits (encodeLevels T) (encodeJobs (job 0 2 4 ∷ [])) (encodeMarks (1 ∷ [])) earlyPlan ≡ answer 1_600)
-    × (fits (encodeLevels T) (encodeJobs (job 0 2 4 ∷ [])) (encodeMarks (1 ∷ [])) halvesPlan ≡ answer 400)
+pub two-plans-fit : (fits (encodeLevels T) (encodeJobs (job 0 2 4 ∷ [])) (encodeMarks (1 ∷ [])) (full T) earlyPlan ≡ answer 1_600)
+    × (fits (encodeLevels T) (encodeJobs (job 0 2 4 ∷ [])) (encodeMarks (1 ∷ [])) (full T) halvesPlan ≡ answer 400)
 unfolding allHold holds halfLines
 two-plans-fit =
     let (early, lines) = both-true _ _ (lines-hold .5) in

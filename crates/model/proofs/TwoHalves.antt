@@ -3,6 +3,7 @@
 use mathlib.Core.Path.{_≡_, refl, ap, sym}
 use mathlib.Core.List.{List}
 use Prim.Native.Nat.{ℕ}
+use Rattle.model.specs.declared.Parameters.{Parameters}
 use Rattle.model.specs.Outcome.{Outcome, refused, answer, andThen}
 use Rattle.model.specs.Sites.{Site, readSite}
 use Rattle.model.specs.Checking.{pricing, figureOf, fitsFor, fits, checkFor, check}
@@ -27,25 +28,25 @@ unfolding fitsFor checkFor
 check-runs-fits site plan prices = sym (after-fitting site plan (λ figure. pricing site plan prices (answer figure)) (answer (figureOf site plan)))
 
 -- once the tables were read, the plan is held against their site
-pub fits-read : (levelBytes jobBytes markBytes plan : List ℕ) (site : Site) → readSite levelBytes jobBytes markBytes ≡ answer site
-    → fits levelBytes jobBytes markBytes plan ≡ fitsFor site plan
+pub fits-read : (levelBytes jobBytes markBytes : List ℕ) (parameters : Parameters) (plan : List ℕ) (site : Site) → readSite levelBytes jobBytes markBytes parameters ≡ answer site
+    → fits levelBytes jobBytes markBytes parameters plan ≡ fitsFor site plan
 unfolding fits
-fits-read levelBytes jobBytes markBytes plan site read = rw read
+fits-read levelBytes jobBytes markBytes parameters plan site read = rw read
 
 -- a plan fits only tables that are read
-pub fits-reads : (levelBytes jobBytes markBytes plan : List ℕ) (figure : ℕ) → fits levelBytes jobBytes markBytes plan ≡ answer figure
-    → (site : Site) × (readSite levelBytes jobBytes markBytes ≡ answer site) × (fitsFor site plan ≡ answer figure)
+pub fits-reads : (levelBytes jobBytes markBytes : List ℕ) (parameters : Parameters) (plan : List ℕ) (figure : ℕ) → fits levelBytes jobBytes markBytes parameters plan ≡ answer figure
+    → (site : Site) × (readSite levelBytes jobBytes markBytes parameters ≡ answer site) × (fitsFor site plan ≡ answer figure)
 unfolding fits
-fits-reads levelBytes jobBytes markBytes plan figure e = andThen-answered (readSite levelBytes jobBytes markBytes) _ e
+fits-reads levelBytes jobBytes markBytes parameters plan figure e = andThen-answered (readSite levelBytes jobBytes markBytes parameters) _ e
 
 -- The check, from bytes, is the first half from bytes and then 21 to 24 of the site that was read.
-pub check-goes-on : (levelBytes jobBytes markBytes plan prices : List ℕ)
-    → check levelBytes jobBytes markBytes plan prices
-    ≡ (andThen (fits levelBytes jobBytes markBytes plan) λ figure.
-    andThen (readSite levelBytes jobBytes markBytes) λ site.
+pub check-goes-on : (levelBytes jobBytes markBytes : List ℕ) (parameters : Parameters) (plan prices : List ℕ)
+    → check levelBytes jobBytes markBytes parameters plan prices
+    ≡ (andThen (fits levelBytes jobBytes markBytes parameters plan) λ figure.
+    andThen (readSite levelBytes jobBytes markBytes parameters) λ site.
     pricing site plan prices (answer figure))
 unfolding check fits
-check-goes-on levelBytes jobBytes markBytes plan prices = go (readSite levelBytes jobBytes markBytes)
+check-goes-on levelBytes jobBytes markBytes parameters plan prices = go (readSite levelBytes jobBytes markBytes parameters)
   where
     go : (read : Outcome Site)
         → andThen read (λ site. checkFor site plan prices)

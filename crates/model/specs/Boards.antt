@@ -19,10 +19,10 @@ use Rattle.model.specs.Planning.{planFor}
 abbrev pub workingFrequencies : Processor → List ℕ
 workingFrequencies processor = map (λ point. point .frequency) (workingOf processor)
 
--- Those of a level table in bytes: refusals 1 to 5, 31 and 32.
-abbrev pub readFrequencies : List ℕ → Outcome (List ℕ)
-readFrequencies levelBytes =
-    andThen (readProcessor levelBytes) λ processor.
+-- Those of a level table in bytes up to the highest running level allowed: refusals 1 to 5, 31, 32 and 35.
+abbrev pub readFrequencies : (levelBytes : List ℕ) → (highest : ℕ) → Outcome (List ℕ)
+readFrequencies levelBytes highest =
+    andThen (readProcessor levelBytes highest) λ processor.
     answer (workingFrequencies processor)
 
 -- The same jobs and bounds on a board.

@@ -5,6 +5,7 @@ use mathlib.Core.List.{List}
 use lib.ListN.{length}
 use lib.Dec.{ltb, leb, eqb}
 use Rattle.model.specs.declared.Job.{Job}
+use Rattle.model.specs.declared.Parameters.{Parameters}
 use Rattle.model.specs.Outcome.{Outcome, answer, refuseWhen, byEntry, andThen}
 use Rattle.model.specs.Search.{someBelow}
 use Rattle.model.specs.Jobs.{jobOf}
@@ -104,10 +105,10 @@ figureOf site plan = energyFigure (workingOf (site .processor)) (site .jobs) (si
 unfoldable pub fitsFor : Site → (plan : List ℕ) → Outcome ℕ
 fitsFor site plan = fitting site plan (answer (figureOf site plan))
 
--- Fitting (document 02, Change 8). Levels, jobs, marks, then the first half.
-unfoldable pub fits : (levelBytes jobBytes markBytes plan : List ℕ) → Outcome ℕ
-fits levelBytes jobBytes markBytes plan =
-    andThen (readSite levelBytes jobBytes markBytes) λ site.
+-- Fitting (document 02, Change 8). Levels, jobs, marks, 35 and 36, then the first half.
+unfoldable pub fits : (levelBytes jobBytes markBytes : List ℕ) → Parameters → (plan : List ℕ) → Outcome ℕ
+fits levelBytes jobBytes markBytes parameters plan =
+    andThen (readSite levelBytes jobBytes markBytes parameters) λ site.
     fitsFor site plan
 
 -- Both halves, one after the other. Accepted: the energy figure.
@@ -117,8 +118,8 @@ checkFor site plan prices =
     (pricing site plan prices
     (answer (figureOf site plan)))
 
--- Checking. Levels, jobs, marks, then both halves.
-unfoldable pub check : (levelBytes jobBytes markBytes plan prices : List ℕ) → Outcome ℕ
-check levelBytes jobBytes markBytes plan prices =
-    andThen (readSite levelBytes jobBytes markBytes) λ site.
+-- Checking. Levels, jobs, marks, 35 and 36, then both halves.
+unfoldable pub check : (levelBytes jobBytes markBytes : List ℕ) → Parameters → (plan prices : List ℕ) → Outcome ℕ
+check levelBytes jobBytes markBytes parameters plan prices =
+    andThen (readSite levelBytes jobBytes markBytes parameters) λ site.
     checkFor site plan prices

@@ -7,6 +7,7 @@ use mathlib.Core.List.{List}
 use mathlib.Core.Option.{none}
 use lib.ListN.{length}
 use lib.IntN.{ℤ, negsuc}
+use Rattle.model.specs.declared.Parameters.{Parameters}
 use Rattle.model.specs.Outcome.{answer}
 use Rattle.model.specs.Jobs.{jobOf}
 use Rattle.model.specs.Processors.{topOf}
@@ -22,8 +23,9 @@ use Rattle.model.specs.Accepted.{Accepted, ScheduleFor, LeastPlan}
 use Rattle.model.specs.Planning.{PlanOutcome, refusal, overfull, comesOut, planLength, priceLength, shareCount, planFor, Planned}
 
 -- "valid tables": none of planning's refusals before 11 holds, so that a site is read.
-abbrev pub ValidTables : (levelBytes jobBytes markBytes : List ℕ) → Site → Type 0
-ValidTables levelBytes jobBytes markBytes site = readSite levelBytes jobBytes markBytes ≡ answer site
+-- The site is the altered one, and all that is said of it.
+abbrev pub ValidTables : (levelBytes jobBytes markBytes : List ℕ) → Parameters → Site → Type 0
+ValidTables levelBytes jobBytes markBytes parameters site = readSite levelBytes jobBytes markBytes parameters ≡ answer site
 
 -- "long enough buffers": none of 12 to 14 holds.
 pub record LongEnough (site : Site) (planRoom priceRoom shareRoom : ℕ) : Type 0 where

@@ -8,15 +8,16 @@ use mathlib.Core.List.{List, _∷_}
 use lib.ListN.{length}
 use Rattle.model.specs.declared.Level.{Level}
 use Rattle.model.specs.declared.Job.{Job}
+use Rattle.model.specs.declared.Parameters.{Parameters}
 use Rattle.model.specs.Outcome.{answer}
 use Rattle.model.specs.Levels.{levelOf, ValidLevels}
 use Rattle.model.specs.Jobs.{jobOf, readJobs, ValidJobs}
 use Rattle.model.specs.Points.{powerOf}
 use Rattle.model.specs.LevelTables.{idleEntry, readLevels, ValidLevelTable, DrawFits}
-use Rattle.model.specs.Processors.{processorOf}
+use Rattle.model.specs.SiteParameters.{alterLevels, alterJobs, asGiven}
 use Rattle.model.specs.Intervals.{intervalCount, boundAt, earliestRelease, latestDeadline, openPairs, Bounds}
 use Rattle.model.specs.Marks.{markOf, readMarks, ValidMarks, boundsWith}
-use Rattle.model.specs.Sites.{Site, siteOf, ValidSite, SitesAreValid}
+use Rattle.model.specs.Sites.{Site, tablesOf, siteOf, ValidSite, SitesAreValid}
 use Rattle.model.specs.Schedules.{Slot, idles, runs, horizon, Schedule}
 use Rattle.model.specs.LeastEnergy.{SoundSite}
 use Rattle.model.specs.Demands.{ValidTables, LongEnough}
@@ -107,14 +108,23 @@ abbrev pub EverySiteRead : Type 0
 EverySiteRead =
     SitesAreValid
     × ((entries : List Level) (jobs : List Job) (marks : List ℕ) → ValidLevelTable entries → ValidJobs jobs → ValidMarks marks
-    → ValidSite (siteOf (record { processor = processorOf entries; jobs = jobs }) marks))
+    → ValidSite (siteOf (tablesOf (record { levels = entries; jobs = jobs })) marks))
 
--- "valid tables": wherever levels, jobs and marks are read, their bytes are valid tables of the site that they make.
+-- "valid tables": wherever levels, jobs and marks are read and the parameters alter levels and jobs, their bytes are valid tables of
+-- the site that the altered ones make. `LevelsAltered` and `JobsAltered` say when the parameters do.
 abbrev pub EveryValidTable : Type 0
 EveryValidTable =
+    (levelBytes jobBytes markBytes : List ℕ) (parameters : Parameters) (entries levels : List Level) (jobs altered : List Job) (marks : List ℕ)
+    → readLevels levelBytes ≡ answer entries → readJobs jobBytes ≡ answer jobs → readMarks markBytes ≡ answer marks
+    → alterLevels (parameters .highest) entries ≡ answer levels → alterJobs (parameters .free) (parameters .margin) jobs ≡ answer altered
+    → ValidTables levelBytes jobBytes markBytes parameters (siteOf (tablesOf (record { levels = levels; jobs = altered })) marks)
+
+-- And so are those of every level table, job table and marks that are read, with the parameters that alter nothing.
+abbrev pub EveryGivenTable : Type 0
+EveryGivenTable =
     (levelBytes jobBytes markBytes : List ℕ) (entries : List Level) (jobs : List Job) (marks : List ℕ)
     → readLevels levelBytes ≡ answer entries → readJobs jobBytes ≡ answer jobs → readMarks markBytes ≡ answer marks
-    → ValidTables levelBytes jobBytes markBytes (siteOf (record { processor = processorOf entries; jobs = jobs }) marks)
+    → ValidTables levelBytes jobBytes markBytes (asGiven levelBytes) (siteOf (tablesOf (record { levels = entries; jobs = jobs })) marks)
 
 -- "Buffers [are] long enough when none of 12 to 14" holds: 4 + 6K bytes, 2 + 5N bytes and n × N shares are enough.
 abbrev pub EveryBuffer : Type 0

@@ -10,6 +10,7 @@ pub mod Sum
 pub mod Search
 pub mod Points
 pub mod LevelTables
+pub mod SiteParameters
 pub mod Bands
 pub mod Processors
 pub mod Setting
@@ -35,3 +36,4 @@ pub mod IdleDraw
 pub mod Boards
 pub mod SiteLines
 pub mod ChangeLines
+pub mod ParameterLines

@@ -33,6 +33,13 @@ maxCycles = 1_000_000_000
 abbrev pub maxMarks : ℕ
 maxMarks = 8
 
+-- "35 a parameter out of range (free ticks above 1,000,000)", and "a margin of 0 to 100 percent" (document 02, Change 9).
+abbrev pub maxFree : ℕ
+maxFree = 1_000_000
+
+abbrev pub maxMargin : ℕ
+maxMargin = 100
+
 -- Each job has a release and a deadline, each mark may be a bound too, and neighbouring bounds have an interval between
 -- them: "Intervals may now number 135."
 abbrev pub maxBounds : ℕ

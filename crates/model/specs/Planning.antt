@@ -7,6 +7,7 @@ use mathlib.Core.Option.{Option, none, some}
 use lib.ListN.{length, getD}
 use lib.IntN.{ℤ}
 use lib.Dec.{ltb}
+use Rattle.model.specs.declared.Parameters.{Parameters}
 use Rattle.model.specs.Outcome.{Outcome, refused, answer}
 use Rattle.model.specs.Processors.{topOf}
 use Rattle.model.specs.Intervals.{intervalCount, openPairs}
@@ -56,10 +57,10 @@ planFor site planRoom priceRoom shareRoom =
     (wants 14 (shareCount site) shareRoom
     comesOut)))
 
--- Planning. Levels, then jobs, then marks, then 11 to 14.
-unfoldable pub planning : (levelBytes jobBytes markBytes : List ℕ) → (planRoom priceRoom shareRoom : ℕ) → PlanOutcome
-planning levelBytes jobBytes markBytes planRoom priceRoom shareRoom =
-    afterReading (readSite levelBytes jobBytes markBytes) λ site.
+-- Planning. Levels, then jobs, then marks, then 35 and 36, then 11 to 14.
+unfoldable pub planning : (levelBytes jobBytes markBytes : List ℕ) → Parameters → (planRoom priceRoom shareRoom : ℕ) → PlanOutcome
+planning levelBytes jobBytes markBytes parameters planRoom priceRoom shareRoom =
+    afterReading (readSite levelBytes jobBytes markBytes parameters) λ site.
     planFor site planRoom priceRoom shareRoom
 
 -- What comes out for a site: N, S and the energy figure, the first 4 + 6S bytes of the plan, 2 + 5N bytes of the prices and

@@ -1,5 +1,5 @@
 -- The processor of a site: what its levels give and what idling draws (document 01, "Jobs, levels, time";
--- document 02, Change 2).
+-- document 02, Changes 2 and 9).
 use Prim.Native.Nat.{ℕ}
 use mathlib.Core.List.{List}
 use Rattle.model.specs.declared.Level.{Level}
@@ -7,6 +7,7 @@ use Rattle.model.specs.Outcome.{Outcome, answer, andThen}
 use Rattle.model.specs.Levels.{ValidLevels}
 use Rattle.model.specs.Points.{Point, points, working, topFrequency, RisingPoints}
 use Rattle.model.specs.LevelTables.{readLevels, idlePowerOf, runningLevels}
+use Rattle.model.specs.SiteParameters.{alterLevels}
 
 -- Idling's power, and the running levels upward.
 pub record Processor : Type 0 where
@@ -29,11 +30,12 @@ module _ (processor : Processor) where
 abbrev pub processorOf : (entries : List Level) → Processor
 processorOf entries = record { idlePower = idlePowerOf entries; levels = runningLevels entries }
 
--- The processor of a level table in bytes: refusals 1 to 5, 31 and 32.
-abbrev pub readProcessor : List ℕ → Outcome Processor
-readProcessor levelBytes =
+-- The processor of a level table in bytes up to the highest running level allowed: refusals 1 to 5, 31 and 32, then 35.
+abbrev pub readProcessor : (levelBytes : List ℕ) → (highest : ℕ) → Outcome Processor
+readProcessor levelBytes highest =
     andThen (readLevels levelBytes) λ entries.
-    answer (processorOf entries)
+    andThen (alterLevels highest entries) λ levels.
+    answer (processorOf levels)
 
 -- What holds of every processor that is read, proved in proofs/Sites.antt: its levels keep document 01's limits, and
 -- frequencies and powers rise from idling on.

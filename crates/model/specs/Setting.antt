@@ -36,8 +36,8 @@ settingFor processor length load =
     (refuseWhen (ltb (length * topOf processor) load) 26
     (answer (settingOf (workingOf processor) length load)))
 
--- Setting of one interval. Levels, then 25 and 26.
-unfoldable pub setting : List ℕ → (length load : ℕ) → Outcome Setting
-setting levelBytes length load =
-    andThen (readProcessor levelBytes) λ processor.
+-- Setting of one interval. Levels, 35, then 25 and 26.
+unfoldable pub setting : (levelBytes : List ℕ) → (highest length load : ℕ) → Outcome Setting
+setting levelBytes highest length load =
+    andThen (readProcessor levelBytes highest) λ processor.
     settingFor processor length load

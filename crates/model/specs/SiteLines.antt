@@ -8,9 +8,11 @@ use lib.IntN.{ℤ, pos, negsuc}
 use lib.Dec.{eqb}
 use Rattle.model.specs.declared.Level.{Level}
 use Rattle.model.specs.declared.Job.{Job}
+use Rattle.model.specs.declared.Parameters.{Parameters}
 use Rattle.model.specs.Outcome.{Outcome, refused, answer}
 use Rattle.model.specs.LevelTables.{readLevels, encodeLevels}
 use Rattle.model.specs.Jobs.{encodeJobs}
+use Rattle.model.specs.SiteParameters.{asGiven}
 use Rattle.model.specs.BuiltIn.{level, firstBuiltIn}
 use Rattle.model.specs.Points.{Point}
 use Rattle.model.specs.Processors.{workingOf, processorOf}
@@ -30,6 +32,10 @@ job release deadline cycles = record { release = release; deadline = deadline; c
 -- Level pair T: 2 at 10, 4 at 20.
 abbrev pub T : List Level
 T = level 2 10 ∷ level 4 20 ∷ []
+
+-- The full count of running levels with 0 and 0, where a line names no parameters.
+abbrev pub full : List Level → Parameters
+full levels = asGiven (encodeLevels levels)
 
 -- What a line says of some tables.
 pub data SiteLine : Type 0 where
@@ -198,19 +204,19 @@ unfoldable pub holds : SiteLine → Bool
 unfolding sameSetting sameNumber sameNumbers sameLevels sameEntries refusedAt sameInteger sameSpare sameWorking sameOverfull sameTicks refusalIs isPlan
 holds (reads entries) = sameEntries (readLevels (encodeLevels entries)) entries
 holds (refusesReading entries number place) = refusedAt (readLevels (encodeLevels entries)) number place
-holds (sets levels length load band extra gap) = sameSetting (setting (encodeLevels levels) length load) band extra gap
-holds (refusesSetting levels length load number) = refusedAt (setting (encodeLevels levels) length load) number 0
-holds (spares levels jobs start end z) = sameSpare (spare (encodeLevels levels) (encodeJobs jobs) start end) z
+holds (sets levels length load band extra gap) = sameSetting (setting (encodeLevels levels) (full levels .highest) length load) band extra gap
+holds (refusesSetting levels length load number) = refusedAt (setting (encodeLevels levels) (full levels .highest) length load) number 0
+holds (spares levels jobs start end z) = sameSpare (spare (encodeLevels levels) (encodeJobs jobs) (full levels) start end) z
 holds (works levels frequencies) = sameWorking (workingOf (processorOf levels)) frequencies
-holds (refusesOverfull levels jobs start end z) = sameOverfull (planning (encodeLevels levels) (encodeJobs jobs) noMarks 0 0 0) start end z
+holds (refusesOverfull levels jobs start end z) = sameOverfull (planning (encodeLevels levels) (encodeJobs jobs) noMarks (full levels) 0 0 0) start end z
 holds (plans levels jobs planRoom priceRoom shareRoom) =
-    isPlan (planning (encodeLevels levels) (encodeJobs jobs) noMarks planRoom priceRoom shareRoom)
+    isPlan (planning (encodeLevels levels) (encodeJobs jobs) noMarks (full levels) planRoom priceRoom shareRoom)
 holds (intervals jobs count) = eqb (intervalCount (boundsOf jobs)) count
 holds (idleEnergy levels jobs energy) =
     eqb (exactEnergy (workingOf (processorOf levels)) jobs (boundsOf jobs) (λ i j. 0)) (energy * scale (workingOf (processorOf levels)))
     && eqb (energyFigure (workingOf (processorOf levels)) jobs (boundsOf jobs) (λ i j. 0)) energy
-holds (accepts levels jobs plan prices figure) = sameNumber (check (encodeLevels levels) (encodeJobs jobs) noMarks plan prices) figure
-holds (refuses levels jobs plan prices number place) = refusedAt (check (encodeLevels levels) (encodeJobs jobs) noMarks plan prices) number place
+holds (accepts levels jobs plan prices figure) = sameNumber (check (encodeLevels levels) (encodeJobs jobs) noMarks (full levels) plan prices) figure
+holds (refuses levels jobs plan prices number place) = refusedAt (check (encodeLevels levels) (encodeJobs jobs) noMarks (full levels) plan prices) number place
 holds (costs levels length load energy) =
     eqb (intervalEnergy (workingOf (processorOf levels)) length load) (energy * scale (workingOf (processorOf levels)))
 holds (needs levels jobs shares figure over parts) =
@@ -220,15 +226,15 @@ holds (readsMarks bytes marks) = sameTicks (readMarks bytes) marks
 holds (refusesMarks bytes) = refusedAt (readMarks bytes) 34 0
 holds (cutsAt jobs marks bounds) = sameNumbers (boundsWith marks jobs) bounds
 holds (plansMarked levels jobs marks planRoom priceRoom shareRoom) =
-    isPlan (planning (encodeLevels levels) (encodeJobs jobs) (encodeMarks marks) planRoom priceRoom shareRoom)
+    isPlan (planning (encodeLevels levels) (encodeJobs jobs) (encodeMarks marks) (full levels) planRoom priceRoom shareRoom)
 holds (wantsMarked levels jobs marks planRoom priceRoom shareRoom number place) =
-    refusalIs (planning (encodeLevels levels) (encodeJobs jobs) (encodeMarks marks) planRoom priceRoom shareRoom) number place
+    refusalIs (planning (encodeLevels levels) (encodeJobs jobs) (encodeMarks marks) (full levels) planRoom priceRoom shareRoom) number place
 holds (acceptsMarked levels jobs marks plan prices figure) =
-    sameNumber (check (encodeLevels levels) (encodeJobs jobs) (encodeMarks marks) plan prices) figure
+    sameNumber (check (encodeLevels levels) (encodeJobs jobs) (encodeMarks marks) (full levels) plan prices) figure
 holds (refusesMarked levels jobs marks plan prices number place) =
-    refusedAt (check (encodeLevels levels) (encodeJobs jobs) (encodeMarks marks) plan prices) number place
-holds (fitsIn levels jobs marks plan figure) = sameNumber (fits (encodeLevels levels) (encodeJobs jobs) (encodeMarks marks) plan) figure
-holds (failsIn levels jobs marks plan number place) = refusedAt (fits (encodeLevels levels) (encodeJobs jobs) (encodeMarks marks) plan) number place
+    refusedAt (check (encodeLevels levels) (encodeJobs jobs) (encodeMarks marks) (full levels) plan prices) number place
+holds (fitsIn levels jobs marks plan figure) = sameNumber (fits (encodeLevels levels) (encodeJobs jobs) (encodeMarks marks) (full levels) plan) figure
+holds (failsIn levels jobs marks plan number place) = refusedAt (fits (encodeLevels levels) (encodeJobs jobs) (encodeMarks marks) (full levels) plan) number place
 
 -- All lines hold.
 unfoldable pub allHold : List SiteLine → Bool

@@ -7,6 +7,7 @@ use lib.ListN.{length}
 use lib.IntN.{ℤ, pos, _-ℤ_}
 use lib.Dec.{ltb, leb}
 use Rattle.model.specs.declared.Job.{Job}
+use Rattle.model.specs.declared.Parameters.{Parameters}
 use Rattle.model.specs.Limits.{maxDeadline}
 use Rattle.model.specs.Outcome.{Outcome, answer, refuseWhen, andThen}
 use Rattle.model.specs.Sum.{sum, onlyIf}
@@ -72,8 +73,8 @@ spareFor tables start end =
     refuseWhen (wrongSpan start end) 27
     (answer (spareOf (topOf (tables .processor)) (tables .jobs) start end))
 
--- Spare of a window. Levels, jobs, then 27. It cuts no intervals, and takes no marks.
-unfoldable pub spare : (levelBytes jobBytes : List ℕ) → (start end : ℕ) → Outcome ℤ
-spare levelBytes jobBytes start end =
-    andThen (readTables levelBytes jobBytes) λ tables.
+-- Spare of a window. Levels, jobs, 35 and 36, then 27. It cuts no intervals, and takes no marks.
+unfoldable pub spare : (levelBytes jobBytes : List ℕ) → Parameters → (start end : ℕ) → Outcome ℤ
+spare levelBytes jobBytes parameters start end =
+    andThen (readTables levelBytes jobBytes parameters) λ tables.
     spareFor tables start end

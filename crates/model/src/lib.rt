@@ -1,4 +1,4 @@
-// The vocabulary of the code: a level, a job, and the limits of document 01 by name.
+// The vocabulary of the code: a level, a job, a site's parameters, and the limits of documents 01 and 02 by name.
 // What the words mean is defined in specs/, and the laws on the definitions are proved in proofs/.
 
 // A frequency level of the processor: cycles per tick, and hundredths of a volt. A level table may begin with the idle entry:
@@ -15,6 +15,14 @@ pub struct Job {
     pub cycles: u64,
 }
 
+// The three numbers that come with each site: the highest running level allowed, counted from 1; the ticks kept free before each
+// deadline; and the margin on cycles, in percent.
+pub struct Parameters {
+    pub highest: u32,
+    pub free: u32,
+    pub margin: u32,
+}
+
 pub const MAX_LEVELS: usize = 8;
 
 pub const MAX_FREQUENCY: u64 = 1_000;
@@ -28,6 +36,10 @@ pub const MAX_DEADLINE: u64 = 1_000_000;
 pub const MAX_CYCLES: u64 = 1_000_000_000;
 
 pub const MAX_MARKS: usize = 8;
+
+pub const MAX_FREE: u64 = 1_000_000;
+
+pub const MAX_MARGIN: u64 = 100;
 
 // Each job has a release and a deadline, each mark may be a bound too, and neighbouring bounds have an interval between them.
 pub const MAX_BOUNDS: usize = 136;

@@ -5,6 +5,7 @@ use crate::ordered::write_ordered;
 use audit::CheckAnswer;
 use audit::check_cells;
 use job_sets::SET_WORDS;
+use model::Parameters;
 
 // The length of the ordered plan that was written, in bytes; or the refusal's number and place.
 pub enum OrderAnswer {
@@ -18,14 +19,15 @@ pub fn order(
     levels: &[u8],
     jobs: &[u8],
     marks: &[u8],
+    parameters: Parameters,
     plan: &[u8],
     prices: &[u8],
     ordered: &mut [u8],
 ) -> OrderAnswer
-    ensures { λ r. ⌜ OrderContract (now (levels .entry)) (now (jobs .entry)) (now (marks .entry)) (now (plan .entry)) (now (prices .entry)) (now (ordered .entry)) (now (ordered .exit)) r ⌝ }
+    ensures { λ r. ⌜ OrderContract (now (levels .entry)) (now (jobs .entry)) (now (marks .entry)) parameters (now (plan .entry)) (now (prices .entry)) (now (ordered .entry)) (now (ordered .exit)) r ⌝ }
 {
     let mut cells = [0u64; SET_WORDS];
-    let checked = check_cells(levels, jobs, marks, plan, prices, &mut cells);
+    let checked = check_cells(levels, jobs, marks, parameters, plan, prices, &mut cells);
     if let CheckAnswer::Refused { number, place } = checked {
         return OrderAnswer::Refused { number, place };
     }

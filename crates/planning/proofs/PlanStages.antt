@@ -9,6 +9,7 @@ use lib.ListN.{length}
 use lib.IntN.{ℤ}
 use borrow.Author.Tests.{lt-ltb, le-ltb}
 use Rattle.model.specs.declared.Job.{Job}
+use Rattle.model.specs.declared.Parameters.{Parameters}
 use Rattle.model.specs.Limits.{maxDeadline}
 use Rattle.model.specs.Outcome.{Outcome, refused, answer}
 use Rattle.model.specs.Jobs.{ValidJobs}
@@ -94,10 +95,10 @@ module _ (site : Site) (lent : Buffers) where
         }
 
 -- a site that is refused
-pub refused-contract : (levelBytes jobBytes markBytes : List ℕ) (lent : Buffers) (number place : ℕ) → readSite levelBytes jobBytes markBytes ≡ refused number place
-    → PlanContract levelBytes jobBytes markBytes lent lent (Refused number place)
+pub refused-contract : (levelBytes jobBytes markBytes : List ℕ) (parameters : Parameters) (lent : Buffers) (number place : ℕ) → readSite levelBytes jobBytes markBytes parameters ≡ refused number place
+    → PlanContract levelBytes jobBytes markBytes parameters lent lent (Refused number place)
 unfolding planning
-refused-contract levelBytes jobBytes markBytes lent number place e =
+refused-contract levelBytes jobBytes markBytes parameters lent number place e =
     record {
       outcome = rw e;
       untouched = λ _. refl;
@@ -108,30 +109,30 @@ refused-contract levelBytes jobBytes markBytes lent number place e =
       exactly-when-served = λ site tables. never tables;
     }
   where
-    never : {site : Site} {A : Type 0} → ValidTables levelBytes jobBytes markBytes site → A
+    never : {site : Site} {A : Type 0} → ValidTables levelBytes jobBytes markBytes parameters site → A
     never tables = absurd (refused≢answer (sym e ∙ tables))
 
 -- what holds of planning the site that was read is the whole promise
-module _ (levelBytes jobBytes markBytes : List ℕ) (site : Site) (read : readSite levelBytes jobBytes markBytes ≡ answer site) where
-  pub planned-as : (planRoom priceRoom shareRoom : ℕ) → planning levelBytes jobBytes markBytes planRoom priceRoom shareRoom ≡ planFor site planRoom priceRoom shareRoom
+module _ (levelBytes jobBytes markBytes : List ℕ) (parameters : Parameters) (site : Site) (read : readSite levelBytes jobBytes markBytes parameters ≡ answer site) where
+  pub planned-as : (planRoom priceRoom shareRoom : ℕ) → planning levelBytes jobBytes markBytes parameters planRoom priceRoom shareRoom ≡ planFor site planRoom priceRoom shareRoom
   unfolding planning
   planned-as planRoom priceRoom shareRoom = rw read
 
   module _ {before after : Buffers} {answered : PlanAnswer} (planned : SitePlanned site before after answered) where
     -- every site that the tables are read as is this one
-    for-each : (P : Site → Type 0) → P site → (other : Site) → ValidTables levelBytes jobBytes markBytes other → P other
+    for-each : (P : Site → Type 0) → P site → (other : Site) → ValidTables levelBytes jobBytes markBytes parameters other → P other
     for-each P holds other tables = rw (answer-injective (sym read ∙ tables)) at holds
 
     served : (a : PlanAnswer) → answered ≡ a → outcomeOf a ≡ comesOut → CanBeServed site
     served (Plan intervals steps energy) is e =
-        let carried = planned-is-best site (sites-are-valid _ _ _ site read) _ _ _ _ _ _ (planned .written intervals steps energy is .planned) .carried-out in
+        let carried = planned-is-best site (sites-are-valid _ _ _ _ site read) _ _ _ _ _ _ (planned .written intervals steps energy is .planned) .carried-out in
         (carried .schedule, carried .serves)
     served (Overfull start end spare) is e = let z : _≡_ {A = ℕ} 0 1 = cc e in absurd (omega (arith, z))
     served (Refused number place) is e = let z : _≡_ {A = ℕ} 0 1 = cc e in absurd (omega (arith, z))
 
-    pub site-contract : PlanContract levelBytes jobBytes markBytes before after answered
+    pub site-contract : PlanContract levelBytes jobBytes markBytes parameters before after answered
     site-contract =
-        let valid = sites-are-valid levelBytes jobBytes markBytes site read in
+        let valid = sites-are-valid levelBytes jobBytes markBytes parameters site read in
         record {
           outcome = planned .outcome ∙ sym (planned-as _ _ _);
           untouched = planned .untouched;
@@ -150,15 +151,15 @@ module _ (levelBytes jobBytes markBytes : List ℕ) (site : Site) (read : readSi
         }
 
 -- what holds of a call says that a site was read where nothing is refused, and so where a plan comes out
-module _ {levelBytes jobBytes markBytes : List ℕ} {before after : Buffers} {answered : PlanAnswer}
-    (contract : PlanContract levelBytes jobBytes markBytes before after answered) where
-  pub site-planned : ((number place : ℕ) → outcomeOf answered ≡ refusal number place → ⊥) → (site : Site) × (readSite levelBytes jobBytes markBytes ≡ answer site)
+module _ {levelBytes jobBytes markBytes : List ℕ} {parameters : Parameters} {before after : Buffers} {answered : PlanAnswer}
+    (contract : PlanContract levelBytes jobBytes markBytes parameters before after answered) where
+  pub site-planned : ((number place : ℕ) → outcomeOf answered ≡ refusal number place → ⊥) → (site : Site) × (readSite levelBytes jobBytes markBytes parameters ≡ answer site)
   unfolding planning
-  site-planned never = go (readSite levelBytes jobBytes markBytes) refl
+  site-planned never = go (readSite levelBytes jobBytes markBytes parameters) refl
     where
-      go : (outcome : Outcome Site) → readSite levelBytes jobBytes markBytes ≡ outcome → (site : Site) × (readSite levelBytes jobBytes markBytes ≡ answer site)
+      go : (outcome : Outcome Site) → readSite levelBytes jobBytes markBytes parameters ≡ outcome → (site : Site) × (readSite levelBytes jobBytes markBytes parameters ≡ answer site)
       go (refused number place) is = absurd (never number place (rw is at (contract .outcome)))
       go (answer site) is = (site, is)
 
-  pub plan-read : (intervals steps energy : ℕ) → answered ≡ Plan intervals steps energy → (site : Site) × (readSite levelBytes jobBytes markBytes ≡ answer site)
+  pub plan-read : (intervals steps energy : ℕ) → answered ≡ Plan intervals steps energy → (site : Site) × (readSite levelBytes jobBytes markBytes parameters ≡ answer site)
   plan-read intervals steps energy is = site-planned (λ number place e. let z : _≡_ {A = ℕ} 0 1 = cc (ap outcomeOf is, e) in omega (arith, z))

@@ -12,6 +12,7 @@ use intervals::open_sets;
 use job_sets::SET_WORDS;
 use model::MAX_BOUNDS;
 use model::MAX_JOBS;
+use model::Parameters;
 use site::SiteReading;
 use site::SiteTable;
 use site::read_site;
@@ -38,16 +39,17 @@ pub enum PlanAnswer {
     },
 }
 
-// Plans a site: writes a plan of least energy, its prices and its shares. Any bytes and buffers are answered.
+// Plans a site: writes a plan of least energy, its prices and its shares. Any bytes, numbers and buffers are answered.
 pub fn plan(
     levels: &[u8],
     jobs: &[u8],
     marks: &[u8],
+    parameters: Parameters,
     plan: &mut [u8],
     prices: &mut [u8],
     shares: &mut [u32],
 ) -> PlanAnswer
-    ensures { λ r. ⌜ PlanContract (now (levels .entry)) (now (jobs .entry)) (now (marks .entry))
+    ensures { λ r. ⌜ PlanContract (now (levels .entry)) (now (jobs .entry)) (now (marks .entry)) parameters
         (record { plan = now (plan .entry); prices = now (prices .entry); shares = now (shares .entry) })
         (record { plan = now (plan .exit); prices = now (prices .exit); shares = now (shares .exit) }) r ⌝ }
 {
@@ -59,6 +61,7 @@ pub fn plan(
         levels,
         jobs,
         marks,
+        parameters,
         &mut releases,
         &mut deadlines,
         &mut cycles,

@@ -59,6 +59,25 @@ module _ (size : ℕ) (f : ℕ → ℕ) where
   pub column-whole : (numbers : List ℕ) (i count : ℕ) → i ≤ count → count ≤ i → numbers ≡ columnOf size i f → numbers ≡ columnOf size count f
   column-whole numbers i count low high filled = let e : count ≡ i = omega arith in rw e filled
 
+-- one number in place of another
+pub column-changed : (size count : ℕ) (f g : ℕ → ℕ) (i value : ℕ) → i < count → count ≤ size → value ≡ g i
+    → ((k : ℕ) → k < count → (k ≡ i → ⊥) → f k ≡ g k) → set (columnOf size count f) i value ≡ columnOf size count g
+column-changed size count f g i value inside few is-next others =
+    ext-getD 0 _ _ (length-set (columnOf size count f) i value ∙ (length-column size f count ∙ sym (length-column size g count)))
+    (λ k below. at k (omega (arith, length-set (columnOf size count f) i value, length-column size f count)) (ℕ-discrete k i))
+  where
+    at : (k : ℕ) → k < size → Dec (k ≡ i) → getD (set (columnOf size count f) i value) k 0 ≡ getD (columnOf size count g) k 0
+    at k within (yes same) =
+        rw same
+        (getD-set-same (columnOf size count f) i value 0 (omega (arith, length-column size f count)) ∙ is-next
+        ∙ sym (column-at size g count i (omega arith) inside))
+    at k within (no other) =
+        getD-set-other (columnOf size count f) i k value 0 other ∙ kept (lt-or-le k count)
+      where
+        kept : (k < count) ⊎ (count ≤ k) → getD (columnOf size count f) k 0 ≡ getD (columnOf size count g) k 0
+        kept (inl below) = column-at size f count k within below ∙ others k below other ∙ sym (column-at size g count k within below)
+        kept (inr past) = column-past size f count k within past ∙ sym (column-past size g count k within past)
+
 -- arrays that agree on the first numbers are equal
 pub column-cong : (size count : ℕ) (f g : ℕ → ℕ) → ((i : ℕ) → i < count → f i ≡ g i) → columnOf size count f ≡ columnOf size count g
 unfolding columnOf

@@ -32,32 +32,32 @@ span-wrong start end (inr late) = rw (lt-ltb maxDeadline end late, or-true)
 pub span-right : (start end : ℕ) → start < end → end ≤ maxDeadline → wrongSpan start end ≡ false
 span-right start end some early = rw (lt-leb end start some, le-ltb maxDeadline end early)
 
-module _ (jobBytes markBytes plan : List ℕ) (start end : ℕ) (before : Lists) where
-  pub touching-wrong-span : (end ≤ start) ⊎ (maxDeadline < end) → touching jobBytes markBytes plan start end before ≡ refused 33 0
+module _ (jobBytes markBytes : List ℕ) (free margin : ℕ) (plan : List ℕ) (start end : ℕ) (before : Lists) where
+  pub touching-wrong-span : (end ≤ start) ⊎ (maxDeadline < end) → touching jobBytes markBytes free margin plan start end before ≡ refused 33 0
   unfolding touching
   touching-wrong-span wrong = rw (span-wrong start end wrong)
 
   module _ (some : start < end) (early : end ≤ maxDeadline) where
     pub touching-jobs-refused : (number place : ℕ) → readJobs jobBytes ≡ refused number place
-        → touching jobBytes markBytes plan start end before ≡ refused number place
+        → touching jobBytes markBytes free margin plan start end before ≡ refused number place
     unfolding touching
     touching-jobs-refused number place unread = rw (span-right start end some early, unread)
 
     pub touching-read : (jobs : List Job) → readJobs jobBytes ≡ answer jobs
-        → touching jobBytes markBytes plan start end before ≡ (andThen (readMarks markBytes) λ marks. touchingFor jobs (boundsWith marks jobs) plan start end before)
+        → touching jobBytes markBytes free margin plan start end before ≡ (andThen (readMarks markBytes) λ marks. touchingFor jobs (boundsWith marks jobs) plan start end before)
     unfolding touching
     touching-read jobs read = rw (span-right start end some early, read)
 
     pub touching-marks-refused : (jobs : List Job) (number place : ℕ) → readJobs jobBytes ≡ answer jobs → readMarks markBytes ≡ refused number place
-        → touching jobBytes markBytes plan start end before ≡ refused number place
+        → touching jobBytes markBytes free margin plan start end before ≡ refused number place
     touching-marks-refused jobs number place read unread = touching-read jobs read ∙ rw unread
 
     pub touching-both-read : (jobs : List Job) (marks : List ℕ) → readJobs jobBytes ≡ answer jobs → readMarks markBytes ≡ answer marks
-        → touching jobBytes markBytes plan start end before ≡ touchingFor jobs (boundsWith marks jobs) plan start end before
+        → touching jobBytes markBytes free margin plan start end before ≡ touchingFor jobs (boundsWith marks jobs) plan start end before
     touching-both-read jobs marks read marks-read = touching-read jobs read ∙ rw marks-read
 
   -- an answer has no other way
-  pub touching-answered : (t : Touched) → touching jobBytes markBytes plan start end before ≡ answer t
+  pub touching-answered : (t : Touched) → touching jobBytes markBytes free margin plan start end before ≡ answer t
       → ((start < end) × (end ≤ maxDeadline))
       × ((jobs : List Job) × (marks : List ℕ) × (readJobs jobBytes ≡ answer jobs) × (readMarks markBytes ≡ answer marks)
       × (touchingFor jobs (boundsWith marks jobs) plan start end before ≡ answer t))

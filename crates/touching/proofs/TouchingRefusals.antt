@@ -27,10 +27,10 @@ room-by before t =
 abbrev pub ReadNumbers : ℕ → Type 0
 ReadNumbers number = (From 6 10 number ⊎ From 34 34 number) ⊎ (From 15 18 number ⊎ From 14 14 number)
 
-read-by : (jobBytes markBytes plan : List ℕ) (start end : ℕ) (before : Lists)
+read-by : (jobBytes markBytes : List ℕ) (free margin : ℕ) (plan : List ℕ) (start end : ℕ) (before : Lists)
     → RefusesBy ReadNumbers (andThen (readJobs jobBytes) λ jobs. andThen (readMarks markBytes) λ marks. touchingFor jobs (boundsWith marks jobs) plan start end before)
 unfolding touchingFor
-read-by jobBytes markBytes plan start end before =
+read-by jobBytes markBytes free margin plan start end before =
     by-then ReadNumbers (readJobs jobBytes) _ (widen (λ n low. inl (inl low)) (jobs-by jobBytes)) λ jobs.
     by-then ReadNumbers (readMarks markBytes) _ (widen (λ n new. inl (inr new)) (marks-by markBytes)) λ marks.
     stepping-by ReadNumbers (λ n from. inr (inl from)) jobs (boundsWith marks jobs) plan
@@ -42,10 +42,10 @@ all-numbers n (inr others) = inr others
 
 pub touching-refuses : TouchingRefuses
 unfolding touching
-touching-refuses jobBytes markBytes plan start end before =
-    by-when TouchingNumbers (wrongSpan start end) 33 (inl (inl (omega arith))) (widen all-numbers (read-by jobBytes markBytes plan start end before))
+touching-refuses jobBytes markBytes free margin plan start end before =
+    by-when TouchingNumbers (wrongSpan start end) 33 (inl (inl (omega arith))) (widen all-numbers (read-by jobBytes markBytes free margin plan start end before))
 
-pub touching-right-by : (jobBytes markBytes plan : List ℕ) (start end : ℕ) (before : Lists) → start < end → end ≤ maxDeadline
-    → RefusesBy ReadNumbers (touching jobBytes markBytes plan start end before)
+pub touching-right-by : (jobBytes markBytes : List ℕ) (free margin : ℕ) (plan : List ℕ) (start end : ℕ) (before : Lists) → start < end → end ≤ maxDeadline
+    → RefusesBy ReadNumbers (touching jobBytes markBytes free margin plan start end before)
 unfolding touching
-touching-right-by jobBytes markBytes plan start end before some early = rw (span-right start end some early) (read-by jobBytes markBytes plan start end before)
+touching-right-by jobBytes markBytes free margin plan start end before some early = rw (span-right start end some early) (read-by jobBytes markBytes free margin plan start end before)

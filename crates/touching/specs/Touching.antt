@@ -34,8 +34,8 @@ touchingFor jobs bounds plan start end before =
 
 -- "33 start not before end, or end above 1,000,000, before the job table and then the plan are read"; the marks stand beside the
 -- job table, and 34 comes "after the job table's own".
-unfoldable pub touching : (jobBytes markBytes plan : List ℕ) → (start end : ℕ) → (before : Lists) → Outcome Touched
-touching jobBytes markBytes plan start end before =
+unfoldable pub touching : (jobBytes markBytes : List ℕ) (free margin : ℕ) (plan : List ℕ) → (start end : ℕ) → (before : Lists) → Outcome Touched
+touching jobBytes markBytes free margin plan start end before =
     refuseWhen (wrongSpan start end) 33
     (andThen (readJobs jobBytes) λ jobs.
     andThen (readMarks markBytes) λ marks.
@@ -57,5 +57,5 @@ TouchingNumbers number = (From 33 33 number ⊎ (From 6 10 number ⊎ From 34 34
 -- Proved in proofs/TouchingRefusals.antt.
 abbrev pub TouchingRefuses : Type 0
 TouchingRefuses =
-    (jobBytes markBytes plan : List ℕ) (start end : ℕ) (before : Lists)
-    → RefusesBy TouchingNumbers (touching jobBytes markBytes plan start end before)
+    (jobBytes markBytes : List ℕ) (free margin : ℕ) (plan : List ℕ) (start end : ℕ) (before : Lists)
+    → RefusesBy TouchingNumbers (touching jobBytes markBytes free margin plan start end before)

@@ -1,4 +1,4 @@
-// The spare of a window: refusal 27.
+// The spare of a window: refusal 27, after 35 and 36.
 ghost use mathlib.Core.Path.{_≡_};
 ghost use Prim.Native.Nat.{_*_, _≤_};
 ghost use Rattle.model.specs.Limits.{maxFrequency, maxDeadline, maxJobs, maxCycles};
@@ -11,6 +11,7 @@ ghost use Rattle.job_tables.specs.Tables.{jobsIn};
 ghost use Rattle.windows.specs.Answers.{spareAnswer};
 use model::MAX_DEADLINE;
 use model::MAX_JOBS;
+use model::Parameters;
 use site::SiteReading;
 use site::TablePair;
 use site::read_tables;
@@ -22,13 +23,26 @@ pub enum SpareAnswer {
 }
 
 // What the top frequency gives in a window less the cycles of the jobs inside. Any bytes and any numbers are answered.
-pub fn spare(levels: &[u8], jobs: &[u8], start: u32, end: u32) -> SpareAnswer
-    ensures { λ r. ⌜ r ≡ spareAnswer (spareOfBytes (now (levels .entry)) (now (jobs .entry)) start end) ⌝ }
+pub fn spare(
+    levels: &[u8],
+    jobs: &[u8],
+    parameters: Parameters,
+    start: u32,
+    end: u32,
+) -> SpareAnswer
+    ensures { λ r. ⌜ r ≡ spareAnswer (spareOfBytes (now (levels .entry)) (now (jobs .entry)) parameters start end) ⌝ }
 {
     let mut releases = [0u64; MAX_JOBS];
     let mut deadlines = [0u64; MAX_JOBS];
     let mut cycles = [0u64; MAX_JOBS];
-    let tables = read_tables(levels, jobs, &mut releases, &mut deadlines, &mut cycles);
+    let tables = read_tables(
+        levels,
+        jobs,
+        parameters,
+        &mut releases,
+        &mut deadlines,
+        &mut cycles,
+    );
     let reading = tables.reading;
     match reading {
         SiteReading::Refused { number, place } => SpareAnswer::Refused { number, place },

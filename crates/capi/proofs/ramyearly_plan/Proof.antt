@@ -6,6 +6,7 @@ use mir.Syntax.{w64}
 use mir.Val.{SFits}
 use mir.Facts.{toZ-ofZ}
 use borrow.Author.Needs.{needs}
+use Rattle.model.specs.declared.Parameters.{Parameters}
 use Rattle.planning.specs.declared.operation.PlanAnswer.{PlanAnswer}
 use Rattle.planning.specs.MadePlans.{Buffers}
 use Rattle.planning.specs.PlanAnswers.{PlanContract}
@@ -15,10 +16,10 @@ use Rattle.capi.proofs.ramyearly_plan.Statement.{statement}
 use Rattle.capi.proofs.ramyearly_plan.Tie as tie
 
 -- the struct of the case that the answer is
-returned : (levelBytes jobBytes markBytes : List ℕ) (before after : Buffers) {answered : PlanAnswer}
-    → PlanContract levelBytes jobBytes markBytes before after answered → (found : PlanAnswer) (result : PlanResult) → answered ≡ found
-    → result ≡ planResult found → PlanCall levelBytes jobBytes markBytes before after result
-returned levelBytes jobBytes markBytes before after contract found result same is =
+returned : (levelBytes jobBytes markBytes : List ℕ) (parameters : Parameters) (before after : Buffers) {answered : PlanAnswer}
+    → PlanContract levelBytes jobBytes markBytes parameters before after answered → (found : PlanAnswer) (result : PlanResult) → answered ≡ found
+    → result ≡ planResult found → PlanCall levelBytes jobBytes markBytes parameters before after result
+returned levelBytes jobBytes markBytes parameters before after contract found result same is =
     record { answered = found; result-is = is; contract = rw same at contract }
 
 plan-requires : tie.Need-plan-requires

@@ -1,47 +1,20 @@
 -- `site_of` meets its contract, by the laws of proofs/ReadSites.antt. Assumes nothing.
 use mathlib.Core.Path.{refl}
-use borrow.Author.Needs.{needs}
-use Rattle.mark_tables.proofs.MarksIn.{marks-read, marks-few, marks-read-refused}
-use Rattle.site.proofs.ReadSites.{marks-refused, site-cut}
+use Rattle.site.proofs.ReadSites.{site-cut}
 use Rattle.site.proofs.site_of.Statement.{statement}
 use Rattle.site.proofs.site_of.Tie as tie
 
-read-marks-requires : tie.Need-read-marks-requires
-read-marks-requires c κs = search needs
-
-enum-known-reading : tie.Need-enum-known-reading
-enum-known-reading c = search needs
-
-refused-site-requires : tie.Need-refused-site-requires
-refused-site-requires c κs = search needs
-
-enum-known-reading-2 : tie.Need-enum-known-reading-2
-enum-known-reading-2 c = search needs
-
 marked-bounds-requires : tie.Need-marked-bounds-requires
 marked-bounds-requires c κs =
-    let known = c .before .before .before .before .before in
-    let start = known .before .before .before .before in
-    ((start .pre .0 .1, marks-few _ _ (known .before .before .read-marks .ensures) _ (known .reading2 .given .1), start .pre .0 .0), start .pre .1)
+    let start = c .before .before in
+    ((start .pre .0 .1, start .pre .0 .2, start .pre .0 .0), start .pre .1)
 
 returns : tie.Need-returns
-returns c = λ tables cycles holds.
-    let known = c .before .before in
-    marks-refused tables holds _ _ _ (marks-read-refused _ _ (known .before .before .read-marks .ensures) _ _ (known .reading .given .1)) (c .refused-site .ensures)
-
-returns-2 : tie.Need-returns-2
-returns-2 c = λ tables cycles holds.
-    let known = c .before .before .before .before .before .before in
-    site-cut tables holds _ _ (marks-read _ _ (known .before .before .read-marks .ensures) _ (known .reading2 .given .1)) refl refl refl refl (c .marked-bounds .ensures cycles)
+returns c = λ tables cycles holds. site-cut tables holds _ refl refl refl refl (c .marked-bounds .ensures cycles)
 
 pub site-of-spec : {M : Type 1} → statement M
 site-of-spec =
     tie.close
     (tie.spec
-    read-marks-requires
-    enum-known-reading
-    refused-site-requires
-    enum-known-reading-2
     marked-bounds-requires
-    returns
-    returns-2)
+    returns)

@@ -22,7 +22,7 @@ check-site-requires c κs =
     let told = c .before .before .before .before .before in
     let read = told .before .before in
     let (site, is, holds) = held-site (read .read-site .ensures) (told .enum-told .given .1) in
-    ((site, sites-are-valid _ _ _ site is, holds), read .before .before .before .before .before .before .before .before .before .before .pre)
+    ((site, sites-are-valid _ _ _ _ site is, holds), read .before .before .before .before .before .before .before .before .before .before .pre)
 
 returns : tie.Need-returns
 unfolding checkOf
@@ -34,7 +34,7 @@ unfolding checkOf
 returns-2 c =
     let told = c .before .before .before .before .before .before in
     let (site, is, holds) = held-site (told .before .before .read-site .ensures) (told .enum-told .given .1) in
-    (rw is (c .check-site .ensures .0 site (sites-are-valid _ _ _ site is) holds), c .check-site .ensures .1)
+    (rw is (c .check-site .ensures .0 site (sites-are-valid _ _ _ _ site is) holds), c .check-site .ensures .1)
 
 pub check-cells-spec : {M : Type 1} → statement M
 check-cells-spec =

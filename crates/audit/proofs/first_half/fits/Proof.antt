@@ -24,7 +24,7 @@ fit-site-requires : tie.Need-fit-site-requires
 fit-site-requires c κs =
     let told = c .before .before .before .before .before .before .before in
     let (site, is, holds) = held-site (told .before .before .read-site .ensures) (told .enum-told .given .1) in
-    ((site, sites-are-valid _ _ _ site is, holds), (no-jobs, refl {a = replicate maxIntervals 0}, no-jobs))
+    ((site, sites-are-valid _ _ _ _ site is, holds), (no-jobs, refl {a = replicate maxIntervals 0}, no-jobs))
 
 returns : tie.Need-returns
 unfolding fitsOf
@@ -35,7 +35,7 @@ unfolding fitsOf
 returns-2 c =
     let told = c .before .before .before .before .before .before .before .before in
     let (site, is, holds) = held-site (told .before .before .read-site .ensures) (told .enum-told .given .1) in
-    rw is (c .fit-site .ensures .judged site (sites-are-valid _ _ _ site is) holds)
+    rw is (c .fit-site .ensures .judged site (sites-are-valid _ _ _ _ site is) holds)
 
 pub fits-spec : {M : Type 1} → statement M
 fits-spec =

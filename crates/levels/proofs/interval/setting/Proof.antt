@@ -1,5 +1,5 @@
 -- `interval::setting` meets its contract. It rests on `read_levels`, whose levels stand in the arrays (proofs/Read.antt
--- of the crate level_tables), and on `setting_in` (proofs/Answers.antt). Assumes nothing.
+-- of the crate level_tables), and on `setting_up_to` (proofs/Answers.antt). Assumes nothing.
 use mathlib.Core.Path.{_≡_, _∙_, ap}
 use denote.Ref.{now}
 use borrow.Author.Needs.{needs}
@@ -29,18 +29,18 @@ answered : (c : tie.After-reading2)
     (levelsIn (c .reading2 .given .0 .0) (c .before .before .read-levels .result .frequencies) (c .before .before .read-levels .result .voltages))
 answered c = levels-read _ _ (c .before .before .read-levels .ensures) _ (c .reading2 .given .1)
 
-setting-in-requires : tie.Need-setting-in-requires
-setting-in-requires c κs = levels-valid _ _ (answered (c .before .before .before .before .before))
+setting-up-to-requires : tie.Need-setting-up-to-requires
+setting-up-to-requires c κs = levels-valid _ _ (answered (c .before .before .before .before .before))
 
 returns : tie.Need-returns
 returns c =
     let known = c .before in
-    levels-refused _ _ _ _ _ (levels-read-refused _ _ (known .before .before .read-levels .ensures) _ _ (known .reading .given .1))
+    levels-refused _ _ _ _ _ _ (levels-read-refused _ _ (known .before .before .read-levels .ensures) _ _ (known .reading .given .1))
 
 returns-2 : tie.Need-returns-2
 returns-2 c =
-    c .setting-in .ensures
-    ∙ ap settingAnswer (levels-answered _ _ _ _ (answered (c .before .before .before .before .before .before)))
+    c .setting-up-to .ensures
+    ∙ ap settingAnswer (levels-answered _ _ _ _ _ (answered (c .before .before .before .before .before .before)))
 
 pub setting-spec : {M : Type 1} → statement M
 setting-spec =
@@ -49,6 +49,6 @@ setting-spec =
     read-levels-requires
     enum-known-reading
     enum-known-reading-2
-    setting-in-requires
+    setting-up-to-requires
     returns
     returns-2)

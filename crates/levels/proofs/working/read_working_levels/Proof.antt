@@ -1,5 +1,5 @@
 -- `working::read_working_levels` meets its contract. It rests on `read_levels`, whose levels stand in the arrays
--- (proofs/Read.antt of the crate level_tables), and on `working_levels`. Assumes nothing.
+-- (proofs/Read.antt of the crate level_tables), and on `working_up_to`. Assumes nothing.
 use mathlib.Core.Path.{_≡_, _∙_}
 use denote.Ref.{now}
 use borrow.Author.Needs.{needs}
@@ -30,8 +30,8 @@ answered : (c : tie.After-reading)
     (levelsIn (c .reading .given .0 .0) (c .before .before .read-levels .result .frequencies) (c .before .before .read-levels .result .voltages))
 answered c = levels-read _ _ (c .before .before .read-levels .ensures) _ (c .reading .given .1)
 
-working-levels-requires : tie.Need-working-levels-requires
-working-levels-requires c κs = levels-valid _ _ (answered (c .before .before .before .before .before))
+working-up-to-requires : tie.Need-working-up-to-requires
+working-up-to-requires c κs = levels-valid _ _ (answered (c .before .before .before .before .before))
 
 returns : tie.Need-returns
 returns c =
@@ -39,7 +39,7 @@ returns c =
     c .no-points .ensures ∙ rw (levels-read-refused _ _ (told .before .before .read-levels .ensures) _ _ (told .enum-told .given .1))
 
 returns-2 : tie.Need-returns-2
-returns-2 c = c .working-levels .ensures ∙ rw (answered (c .before .before .before .before .before .before))
+returns-2 c = c .working-up-to .ensures ∙ rw (answered (c .before .before .before .before .before .before))
 
 pub read-working-levels-spec : {M : Type 1} → statement M
 read-working-levels-spec =
@@ -49,6 +49,6 @@ read-working-levels-spec =
     enum-told
     no-points-requires
     enum-known-reading
-    working-levels-requires
+    working-up-to-requires
     returns
     returns-2)

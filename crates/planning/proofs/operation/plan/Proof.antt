@@ -20,10 +20,10 @@ plan-site-requires : tie.Need-plan-site-requires
 plan-site-requires c κs =
     let told = c .before .before .before .before .before .before .before in
     let (site, is, holds) = held-site (told .before .before .read-site .ensures) (told .enum-told .given .1) in
-    (site, sites-are-valid _ _ _ site is, holds)
+    (site, sites-are-valid _ _ _ _ site is, holds)
 
 returns : tie.Need-returns
-returns c = refused-contract _ _ _ _ _ _ (refused-site (c .before .before .before .read-site .ensures) _ _ (c .before .reading .given .1))
+returns c = refused-contract _ _ _ _ _ _ _ (refused-site (c .before .before .before .read-site .ensures) _ _ (c .before .reading .given .1))
 
 same-length : tie.Need-same-length
 same-length c = search needs
@@ -39,7 +39,7 @@ returns-2 c =
     let planned = c .before .before .before .before .before .before in
     let told = planned .before .before .before .before .before .before .before .before in
     let (site, is, holds) = held-site (told .before .before .read-site .ensures) (told .enum-told .given .1) in
-    site-contract _ _ _ site is (planned .plan-site .ensures site (sites-are-valid _ _ _ site is) holds)
+    site-contract _ _ _ _ site is (planned .plan-site .ensures site (sites-are-valid _ _ _ _ site is) holds)
 
 pub plan-spec : {M : Type 1} → statement M
 plan-spec =

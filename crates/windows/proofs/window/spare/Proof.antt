@@ -22,7 +22,7 @@ spare-of-tables-requires : tie.Need-spare-of-tables-requires
 spare-of-tables-requires c κs =
     let told = c .before .before .before in
     let (tables, is, holds) = held-tables (told .before .before .read-tables .ensures) (told .enum-told .given .1) in
-    let (processor, jobs) = tables-are-valid _ _ tables is in
+    let (processor, jobs) = tables-are-valid _ _ _ tables is in
     (pair-jobs holds jobs, pair-top holds processor)
 
 returns : tie.Need-returns

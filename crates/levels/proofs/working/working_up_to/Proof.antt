@@ -1,0 +1,56 @@
+-- `working::working_up_to` meets its contract. It rests on `alter_levels` (proofs/KeptLevels.antt of the crate parameters) and on
+-- `working_levels`. Assumes nothing.
+use mathlib.Core.Path.{_≡_, _∙_}
+use denote.Ref.{now}
+use borrow.Author.Needs.{needs}
+use Rattle.model.specs.Outcome.{answer}
+use Rattle.model.specs.SiteParameters.{alterLevels}
+use Rattle.level_tables.specs.Tables.{levelsIn}
+use Rattle.level_tables.proofs.Read.{levels-count}
+use Rattle.parameters.proofs.KeptLevels.{levels-kept, kept-valid, levels-limited}
+use Rattle.levels.proofs.working.working_up_to.Statement.{statement}
+use Rattle.levels.proofs.working.working_up_to.Tie as tie
+
+alter-levels-requires : tie.Need-alter-levels-requires
+alter-levels-requires c κs = levels-count _ _ _ (c .pre)
+
+enum-told : tie.Need-enum-told
+enum-told c = search needs
+
+no-points-requires : tie.Need-no-points-requires
+no-points-requires c κs = search needs
+
+enum-known-reading : tie.Need-enum-known-reading
+enum-known-reading c = search needs
+
+-- the entries up to the highest running level are the first that stand in the arrays
+kept : (c : tie.After-reading)
+    → alterLevels (c .before .before .before .args .highest)
+    (levelsIn (c .before .before .before .args .count) (now (c .before .before .before .args .frequencies)) (now (c .before .before .before .args .voltages)))
+    ≡ answer (levelsIn (c .reading .given .0 .0) (now (c .before .before .before .args .frequencies)) (now (c .before .before .before .args .voltages)))
+kept c = levels-kept _ _ _ _ _ (c .before .before .alter-levels .ensures _) _ (c .reading .given .1)
+
+working-levels-requires : tie.Need-working-levels-requires
+working-levels-requires c κs =
+    let found = c .before in
+    kept-valid _ _ _ _ _ (found .before .before .alter-levels .ensures _) (found .before .before .before .pre) _ (found .reading .given .1)
+
+returns : tie.Need-returns
+returns c =
+    let told = c .before in
+    c .no-points .ensures ∙ rw (levels-limited _ _ _ _ _ (told .before .before .alter-levels .ensures _) _ _ (told .enum-told .given .1))
+
+returns-2 : tie.Need-returns-2
+returns-2 c = c .working-levels .ensures ∙ rw (kept (c .before .before))
+
+pub working-up-to-spec : {M : Type 1} → statement M
+working-up-to-spec =
+    tie.close
+    (tie.spec
+    alter-levels-requires
+    enum-told
+    no-points-requires
+    enum-known-reading
+    working-levels-requires
+    returns
+    returns-2)

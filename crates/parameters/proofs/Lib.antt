@@ -1,0 +1,3 @@
+-- Laws of altered tables in plain arrays.
+pub mod KeptLevels
+pub mod AlteredJobs
