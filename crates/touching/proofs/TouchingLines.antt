@@ -5,6 +5,7 @@ use Rattle.model.specs.Outcome.{byEntryFrom}
 use Rattle.model.specs.Bytes.{numberAt, bytesOf}
 use Rattle.model.specs.Entries.{listOf, encodeEach, joined}
 use Rattle.model.specs.Jobs.{readJobs, jobAt, faultOfJob, encodeJobs}
+use Rattle.model.specs.SiteParameters.{marginOn, alteredJob, alteredFault, alterJobs}
 use Rattle.model.specs.Search.{someBelow, leastBelow}
 use Rattle.model.specs.Intervals.{insertTime, boundsOf, isOpen, earliestRelease, latestDeadline}
 use Rattle.model.specs.Marks.{readMarks, encodeMarks, insertMarks, boundsWith}
@@ -15,7 +16,7 @@ use Rattle.touching.specs.Touching.{touchingFor, touching}
 use Rattle.touching.specs.TouchingLines.{TouchingLines}
 
 pub lines-hold : TouchingLines
-unfolding byEntryFrom numberAt bytesOf listOf encodeEach joined readJobs jobAt faultOfJob encodeJobs someBelow leastBelow insertTime boundsOf isOpen earliestRelease latestDeadline readMarks encodeMarks insertMarks boundsWith stepAt stepFault touched touchingFor touching
+unfolding byEntryFrom numberAt bytesOf listOf encodeEach joined readJobs jobAt faultOfJob encodeJobs marginOn alteredJob alteredFault alterJobs someBelow leastBelow insertTime boundsOf isOpen earliestRelease latestDeadline readMarks encodeMarks insertMarks boundsWith stepAt stepFault touched touchingFor touching
 lines-hold =
     record {
       whole = refl;
@@ -35,6 +36,8 @@ lines-hold =
       span-first = refl;
       jobs-next = refl;
       marks-next = refl;
+      ranges-next = refl;
+      emptied-next = refl;
       no-plan = refl;
       other-intervals = refl;
       not-open = refl;
@@ -51,4 +54,6 @@ lines-hold =
       from-the-mark = refl;
       over-the-mark = refl;
       no-jobs = refl;
+      deadline-earlier = refl;
+      not-as-given = refl;
     }

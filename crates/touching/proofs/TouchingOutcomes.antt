@@ -1,5 +1,5 @@
--- What a call comes to in each case, in the order in which the cases are told apart: the span, the job table, the marks, the room in
--- the lent lists. And what answers such an outcome.
+-- What a call comes to in each case, in the order in which the cases are told apart: the span, the job table, the marks, the
+-- parameters, the room in the lent lists. And what answers such an outcome.
 -- Assumes nothing.
 use mathlib.Core.Path.{_≡_, refl, _∙_}
 use mathlib.Core.Bool.{true, false, or-true}
@@ -13,6 +13,7 @@ use Rattle.model.specs.declared.Job.{Job}
 use Rattle.model.specs.Limits.{maxDeadline}
 use Rattle.model.specs.Outcome.{Outcome, refused, answer, andThen}
 use Rattle.model.specs.Jobs.{readJobs}
+use Rattle.model.specs.SiteParameters.{alterJobs}
 use Rattle.model.specs.Marks.{readMarks, boundsWith}
 use Rattle.model.specs.Windows.{wrongSpan}
 use Rattle.model.proofs.Outcome.{answer-injective, answered-past, answered-within, andThen-answered}
@@ -44,7 +45,8 @@ module _ (jobBytes markBytes : List ℕ) (free margin : ℕ) (plan : List ℕ) (
     touching-jobs-refused number place unread = rw (span-right start end some early, unread)
 
     pub touching-read : (jobs : List Job) → readJobs jobBytes ≡ answer jobs
-        → touching jobBytes markBytes free margin plan start end before ≡ (andThen (readMarks markBytes) λ marks. touchingFor jobs (boundsWith marks jobs) plan start end before)
+        → touching jobBytes markBytes free margin plan start end before
+        ≡ (andThen (readMarks markBytes) λ marks. andThen (alterJobs free margin jobs) λ altered. touchingFor altered (boundsWith marks altered) plan start end before)
     unfolding touching
     touching-read jobs read = rw (span-right start end some early, read)
 
@@ -52,22 +54,28 @@ module _ (jobBytes markBytes : List ℕ) (free margin : ℕ) (plan : List ℕ) (
         → touching jobBytes markBytes free margin plan start end before ≡ refused number place
     touching-marks-refused jobs number place read unread = touching-read jobs read ∙ rw unread
 
-    pub touching-both-read : (jobs : List Job) (marks : List ℕ) → readJobs jobBytes ≡ answer jobs → readMarks markBytes ≡ answer marks
-        → touching jobBytes markBytes free margin plan start end before ≡ touchingFor jobs (boundsWith marks jobs) plan start end before
-    touching-both-read jobs marks read marks-read = touching-read jobs read ∙ rw marks-read
+    module _ (jobs : List Job) (marks : List ℕ) (read : readJobs jobBytes ≡ answer jobs) (marks-read : readMarks markBytes ≡ answer marks) where
+      pub touching-parameters-refused : (number place : ℕ) → alterJobs free margin jobs ≡ refused number place
+          → touching jobBytes markBytes free margin plan start end before ≡ refused number place
+      touching-parameters-refused number place unaltered = touching-read jobs read ∙ rw (marks-read, unaltered)
+
+      pub touching-both-read : (altered : List Job) → alterJobs free margin jobs ≡ answer altered
+          → touching jobBytes markBytes free margin plan start end before ≡ touchingFor altered (boundsWith marks altered) plan start end before
+      touching-both-read altered is-altered = touching-read jobs read ∙ rw (marks-read, is-altered)
 
   -- an answer has no other way
   pub touching-answered : (t : Touched) → touching jobBytes markBytes free margin plan start end before ≡ answer t
       → ((start < end) × (end ≤ maxDeadline))
-      × ((jobs : List Job) × (marks : List ℕ) × (readJobs jobBytes ≡ answer jobs) × (readMarks markBytes ≡ answer marks)
-      × (touchingFor jobs (boundsWith marks jobs) plan start end before ≡ answer t))
+      × ((jobs altered : List Job) × (marks : List ℕ) × (readJobs jobBytes ≡ answer jobs) × (readMarks markBytes ≡ answer marks)
+      × (alterJobs free margin jobs ≡ answer altered) × (touchingFor altered (boundsWith marks altered) plan start end before ≡ answer t))
   unfolding touching
   touching-answered t e =
       let (right, rest) = answered-past (wrongSpan start end) 33 _ e in
       let (some, early) = neither (leb end start) (ltb maxDeadline end) right in
       let (jobs, read, rest) = andThen-answered (readJobs jobBytes) _ rest in
       let (marks, marks-read, rest) = andThen-answered (readMarks markBytes) _ rest in
-      ((leb-false end start some, ltb-false maxDeadline end early), (jobs, marks, read, marks-read, rest))
+      let (altered, is-altered, rest) = andThen-answered (alterJobs free margin jobs) _ rest in
+      ((leb-false end start some, ltb-false maxDeadline end early), (jobs, altered, marks, read, marks-read, is-altered, rest))
 
 -- the first list too short, and enough room
 module _ (before : Lists) (t : Touched) where

@@ -1,4 +1,5 @@
--- The operation refuses by 33, the job table's numbers, that of the marks, the plan's up to 18, and 14; where the span is right not by 33.
+-- The operation refuses by 33, the job table's numbers, that of the marks, those of the parameters, the plan's up to 18, and
+-- 14; where the span is right not by 33.
 -- Assumes nothing.
 use mathlib.Core.Logic.{_⊎_, inl, inr}
 use mathlib.Core.List.{List}
@@ -8,9 +9,10 @@ use lib.ListN.{length}
 use Rattle.model.specs.Limits.{maxDeadline}
 use Rattle.model.specs.Outcome.{andThen, From, RefusesBy}
 use Rattle.model.specs.Jobs.{readJobs}
+use Rattle.model.specs.SiteParameters.{alterJobs}
 use Rattle.model.specs.Marks.{readMarks, boundsWith}
 use Rattle.model.specs.Windows.{wrongSpan}
-use Rattle.model.proofs.RefusalNumbers.{by-when, by-then, by-under, by-answer, jobs-by, marks-by, stepping-by, widen}
+use Rattle.model.proofs.RefusalNumbers.{by-when, by-then, by-under, by-answer, jobs-by, marks-by, alter-jobs-by, stepping-by, widen}
 use Rattle.spans.specs.Spans.{Touched, touched}
 use Rattle.touching.specs.Touching.{Lists, whereRoom, touchingFor, touching, TouchingNumbers, TouchingRefuses}
 use Rattle.touching.proofs.TouchingOutcomes.{span-right}
@@ -25,14 +27,16 @@ room-by before t =
 
 -- The numbers that the operation refuses by where the span is right.
 abbrev pub ReadNumbers : ℕ → Type 0
-ReadNumbers number = (From 6 10 number ⊎ From 34 34 number) ⊎ (From 15 18 number ⊎ From 14 14 number)
+ReadNumbers number = (From 6 10 number ⊎ From 34 36 number) ⊎ (From 15 18 number ⊎ From 14 14 number)
 
 read-by : (jobBytes markBytes : List ℕ) (free margin : ℕ) (plan : List ℕ) (start end : ℕ) (before : Lists)
-    → RefusesBy ReadNumbers (andThen (readJobs jobBytes) λ jobs. andThen (readMarks markBytes) λ marks. touchingFor jobs (boundsWith marks jobs) plan start end before)
+    → RefusesBy ReadNumbers
+    (andThen (readJobs jobBytes) λ given. andThen (readMarks markBytes) λ marks. andThen (alterJobs free margin given) λ jobs. touchingFor jobs (boundsWith marks jobs) plan start end before)
 unfolding touchingFor
 read-by jobBytes markBytes free margin plan start end before =
-    by-then ReadNumbers (readJobs jobBytes) _ (widen (λ n low. inl (inl low)) (jobs-by jobBytes)) λ jobs.
-    by-then ReadNumbers (readMarks markBytes) _ (widen (λ n new. inl (inr new)) (marks-by markBytes)) λ marks.
+    by-then ReadNumbers (readJobs jobBytes) _ (widen (λ n low. inl (inl low)) (jobs-by jobBytes)) λ given.
+    by-then ReadNumbers (readMarks markBytes) _ (widen (λ n new. inl (inr (omega (arith, new)))) (marks-by markBytes)) λ marks.
+    by-then ReadNumbers (alterJobs free margin given) _ (alter-jobs-by ReadNumbers (inl (inr (omega arith))) (inl (inr (omega arith))) free margin given) λ jobs.
     stepping-by ReadNumbers (λ n from. inr (inl from)) jobs (boundsWith marks jobs) plan
     (widen (λ n from. inr (inr from)) (room-by before (touched jobs (boundsWith marks jobs) plan start end)))
 

@@ -23,6 +23,6 @@ pub record Answers (outcome : Outcome Touched) (before after : Lists) (answered 
   pub lists-are : after ≡ listsAfter outcome before
 
 -- The whole promise.
-abbrev pub TouchingContract : (jobBytes markBytes : List ℕ) (free margin : ℕ) (plan : List ℕ) → (start end : ℕ) → (before after : Lists) → TouchingAnswer → Type 0
+abbrev pub TouchingContract : (jobBytes markBytes : List ℕ) → (free margin : ℕ) → (plan : List ℕ) → (start end : ℕ) → (before after : Lists) → TouchingAnswer → Type 0
 TouchingContract jobBytes markBytes free margin plan start end before after answered =
     Answers (touching jobBytes markBytes free margin plan start end before) before after answered

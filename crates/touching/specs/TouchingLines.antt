@@ -36,15 +36,15 @@ room openJobs insideJobs steps =
 
 -- The span with that plan and enough room, and with any plan and no room.
 abbrev spanned : (start end : ℕ) → Outcome Touched
-spanned start end = touching jobBytes noMarks backwards start end (room 2 2 3)
+spanned start end = touching jobBytes noMarks 0 0 backwards start end (room 2 2 3)
 
 abbrev withoutRoom : (plan : List ℕ) → Outcome Touched
-withoutRoom plan = touching jobBytes noMarks plan 0 4 (room 0 0 0)
+withoutRoom plan = touching jobBytes noMarks 0 0 plan 0 4 (room 0 0 0)
 
 -- Four intervals by a mark at 1: 2 cycles of job 0 before it, 2 after it, then as listed.
 abbrev marked : (start end : ℕ) → Outcome Touched
 marked start end =
-    touching jobBytes (encodeMarks (1 ∷ [])) (planOver 4 (64 ∷ 0 ∷ 129 ∷ 192 ∷ []) (2 ∷ 2 ∷ 4 ∷ 2 ∷ [])) start end (room 2 2 4)
+    touching jobBytes (encodeMarks (1 ∷ [])) 0 0 (planOver 4 (64 ∷ 0 ∷ 129 ∷ 192 ∷ []) (2 ∷ 2 ∷ 4 ∷ 2 ∷ [])) start end (room 2 2 4)
 
 abbrev lists : (openJobs insideJobs steps : List ℕ) → Option ℕ → Outcome Touched
 lists openJobs insideJobs steps deadline =
@@ -73,10 +73,13 @@ pub record TouchingLines : Type 0 where
   pub no-tick : spanned 2 2 ≡ refused 33 0
   pub falling : spanned 3 2 ≡ refused 33 0
   pub too-late : spanned 0 1_000_001 ≡ refused 33 0
-  pub span-first : touching [] [] [] 2 2 (room 0 0 0) ≡ refused 33 0
+  pub span-first : touching [] [] 1_000_001 101 [] 2 2 (room 0 0 0) ≡ refused 33 0
   -- then the job table, then the marks, then the plan: no bytes, two intervals, a pair that is not open, a cell again, no cycles, too many
-  pub jobs-next : touching [] [] [] 0 4 (room 0 0 0) ≡ refused 6 0
-  pub marks-next : touching jobBytes [] [] 0 4 (room 0 0 0) ≡ refused 34 0
+  pub jobs-next : touching [] [] 0 0 [] 0 4 (room 0 0 0) ≡ refused 6 0
+  pub marks-next : touching jobBytes [] 1_000_001 0 [] 0 4 (room 0 0 0) ≡ refused 34 0
+  -- then the parameters: a number out of range, and job 1, whose window of one tick is emptied
+  pub ranges-next : touching jobBytes noMarks 1 101 [] 0 4 (room 0 0 0) ≡ refused 35 0
+  pub emptied-next : touching jobBytes noMarks 1 0 [] 0 4 (room 0 0 0) ≡ refused 36 1
   pub no-plan : withoutRoom [] ≡ refused 15 0
   pub other-intervals : withoutRoom (planOver 2 [] []) ≡ refused 16 0
   pub not-open : withoutRoom (planOf (128 ∷ 1 ∷ []) (2 ∷ 4 ∷ [])) ≡ refused 17 1
@@ -84,18 +87,23 @@ pub record TouchingLines : Type 0 where
   pub no-cycles : withoutRoom (planOf (128 ∷ 0 ∷ []) (2 ∷ 0 ∷ [])) ≡ refused 18 1
   pub more-cycles : withoutRoom (planOf (128 ∷ 0 ∷ []) (7 ∷ 4 ∷ [])) ≡ refused 18 0
   -- cycles that do not add to a job's are not looked at
-  pub unfinished : touching jobBytes noMarks (planOf (128 ∷ []) (1 ∷ [])) 0 4 (room 2 2 1) ≡ lists (0 ∷ 1 ∷ []) (0 ∷ 1 ∷ []) (128 ∷ []) (some 3)
+  pub unfinished : touching jobBytes noMarks 0 0 (planOf (128 ∷ []) (1 ∷ [])) 0 4 (room 2 2 1) ≡ lists (0 ∷ 1 ∷ []) (0 ∷ 1 ∷ []) (128 ∷ []) (some 3)
   -- 14 last, for the first list too short; exact room is enough
-  pub open-short : touching jobBytes noMarks backwards 1 4 (room 1 0 0) ≡ refused 14 2
-  pub inside-short : touching jobBytes noMarks backwards 1 4 (room 2 0 0) ≡ refused 14 1
-  pub steps-short : touching jobBytes noMarks backwards 1 4 (room 2 1 2) ≡ refused 14 3
-  pub exact-room : touching jobBytes noMarks backwards 1 4 (room 2 1 3) ≡ lists (0 ∷ 1 ∷ []) (1 ∷ []) (0 ∷ 65 ∷ 128 ∷ []) (some 3)
+  pub open-short : touching jobBytes noMarks 0 0 backwards 1 4 (room 1 0 0) ≡ refused 14 2
+  pub inside-short : touching jobBytes noMarks 0 0 backwards 1 4 (room 2 0 0) ≡ refused 14 1
+  pub steps-short : touching jobBytes noMarks 0 0 backwards 1 4 (room 2 1 2) ≡ refused 14 3
+  pub exact-room : touching jobBytes noMarks 0 0 backwards 1 4 (room 2 1 3) ≡ lists (0 ∷ 1 ∷ []) (1 ∷ []) (0 ∷ 65 ∷ 128 ∷ []) (some 3)
   -- what is left in longer lists
-  pub rest-stays : listsAfter (touching jobBytes noMarks backwards 2 3 (room 3 3 3)) (room 3 3 3)
+  pub rest-stays : listsAfter (touching jobBytes noMarks 0 0 backwards 2 3 (room 3 3 3)) (room 3 3 3)
       ≡ record { openJobs = 0 ∷ 1 ∷ 9 ∷ []; insideJobs = 1 ∷ 9 ∷ 9 ∷ []; steps = 65 ∷ 9 ∷ 9 ∷ [] }
   -- with a mark at 1 there are four intervals: up to the mark its step alone is touched, and from it on the next one
   pub up-to-the-mark : marked 0 1 ≡ lists (0 ∷ []) [] (0 ∷ []) (some 3)
   pub from-the-mark : marked 1 2 ≡ lists (0 ∷ []) [] (64 ∷ []) (some 3)
   pub over-the-mark : marked 0 2 ≡ lists (0 ∷ []) [] (0 ∷ 64 ∷ []) (some 3)
   -- no jobs
-  pub no-jobs : touching (encodeJobs []) noMarks (planOver 0 [] []) 0 1 (room 0 0 0) ≡ lists [] [] [] none
+  pub no-jobs : touching (encodeJobs []) noMarks 0 0 (planOver 0 [] []) 0 1 (room 0 0 0) ≡ lists [] [] [] none
+  -- job 0 4 6 with one tick kept free is job 0 3 6: it is inside up to 3, which is then the nearest deadline; with a margin of 50
+  -- percent it has 9 cycles, so that a step may have as many
+  pub deadline-earlier : touching (encodeJobs (job 0 4 6 ∷ [])) noMarks 1 50 (planOver 1 (0 ∷ []) (9 ∷ [])) 0 3 (room 1 1 1)
+      ≡ lists (0 ∷ []) (0 ∷ []) (0 ∷ []) (some 3)
+  pub not-as-given : touching (encodeJobs (job 0 4 6 ∷ [])) noMarks 1 0 (planOver 1 (0 ∷ []) (9 ∷ [])) 0 3 (room 1 1 1) ≡ refused 18 0

@@ -1,4 +1,4 @@
-// The operation: from a job table, handover marks, a plan and a span to three lists and the nearest deadline.
+// The operation: from a job table, handover marks, two parameters, a plan and a span to three lists and the nearest deadline.
 ghost use mathlib.Core.Path.{_≡_};
 ghost use mathlib.Core.List.{List};
 ghost use Prim.Native.Nat.{ℕ, _<_, _≤_};
@@ -6,8 +6,11 @@ ghost use lib.ListN.{getD};
 ghost use Rattle.model.specs.Limits.{maxJobs, maxIntervals, maxDeadline};
 ghost use Rattle.model.specs.Jobs.{ValidJobs};
 ghost use Rattle.model.specs.Outcome.{andThen};
-ghost use Rattle.model.specs.Marks.{readMarks, boundsWith};
+ghost use Rattle.model.specs.SiteParameters.{alterJobs};
+ghost use Rattle.model.specs.Marks.{readMarks, ValidMarks, boundsWith};
 ghost use Rattle.job_tables.specs.Tables.{jobsIn};
+ghost use Rattle.mark_tables.specs.Tables.{marksIn};
+ghost use Rattle.parameters.specs.AlteredArrays.{ValidArrays};
 ghost use Rattle.spans.specs.TouchedIn.{touchedIn, HoldsBounds};
 ghost use Rattle.touching.specs.Touching.{whereRoom, touchingFor};
 ghost use Rattle.touching.specs.TouchingAnswers.{Answers, TouchingContract};
@@ -25,6 +28,8 @@ use mark_tables::read_marks;
 use model::MAX_BOUNDS;
 use model::MAX_DEADLINE;
 use model::MAX_JOBS;
+use model::MAX_MARKS;
+use parameters::alter_jobs;
 use reading::Reading;
 use spans::NearestDeadline;
 use spans::count_steps;
@@ -49,10 +54,13 @@ pub enum TouchingAnswer {
 }
 
 // Lists the jobs open somewhere in a span, the jobs wholly inside it, and the cells of the plan's steps whose interval shares a
-// tick with it. Any bytes, any numbers and any lists, of any length, are answered.
+// tick with it. The jobs are those that a site's free ticks and margin make of the table's. Any bytes, any numbers and any lists, of any
+// length, are answered.
 pub fn touching(
     jobs: &[u8],
     marks: &[u8],
+    free: u32,
+    margin: u32,
     plan: &[u8],
     start: u32,
     end: u32,
@@ -60,7 +68,7 @@ pub fn touching(
     inside_jobs: &mut [u32],
     steps: &mut [u32],
 ) -> TouchingAnswer
-    ensures { λ r. ⌜ TouchingContract (now (jobs .entry)) (now (marks .entry)) (now (plan .entry)) start end
+    ensures { λ r. ⌜ TouchingContract (now (jobs .entry)) (now (marks .entry)) free margin (now (plan .entry)) start end
         (record { openJobs = now («open_jobs» .entry); insideJobs = now («inside_jobs» .entry); steps = now (steps .entry) })
         (record { openJobs = now («open_jobs» .exit); insideJobs = now («inside_jobs» .exit); steps = now (steps .exit) }) r ⌝ }
 {
@@ -84,10 +92,12 @@ pub fn touching(
         Reading::Refused { number, place } => TouchingAnswer::Refused { number, place },
         Reading::Entries(count) => touching_jobs(
             &releases,
-            &deadlines,
-            &cycles,
+            &mut deadlines,
+            &mut cycles,
             count,
             marks,
+            free,
+            margin,
             plan,
             start as u64,
             end as u64,
@@ -98,13 +108,15 @@ pub fn touching(
     }
 }
 
-// The operation where the span is right and the jobs were read: the marks are read, and the bounds of jobs and marks found.
-fn touching_jobs<'a>(
-    releases: &'a [u64; MAX_JOBS],
-    deadlines: &'a [u64; MAX_JOBS],
-    cycles: &[u64; MAX_JOBS],
+// The operation where the span is right and the jobs were read: the marks are read.
+fn touching_jobs(
+    releases: &[u64; MAX_JOBS],
+    deadlines: &mut [u64; MAX_JOBS],
+    cycles: &mut [u64; MAX_JOBS],
     count: usize,
     marks: &[u8],
+    free: u32,
+    margin: u32,
     plan: &[u8],
     start: u64,
     end: u64,
@@ -112,9 +124,8 @@ fn touching_jobs<'a>(
     inside_jobs: &mut [u32],
     steps: &mut [u32],
 ) -> TouchingAnswer
-    requires { ⌜ ValidJobs (jobsIn count (now releases) (now deadlines) (now cycles)) ⌝ }
-    ensures { λ r. ⌜ Answers (andThen (readMarks (now (marks .entry))) λ ticks. touchingFor (jobsIn count (now (releases .entry)) (now (deadlines .entry)) (now (cycles .entry)))
-        (boundsWith ticks (jobsIn count (now (releases .entry)) (now (deadlines .entry)) (now (cycles .entry)))) (now (plan .entry)) start end
+    requires { ⌜ ValidArrays count (now releases) (now deadlines) (now cycles) ⌝ }
+    ensures { λ r. ⌜ Answers (andThen (readMarks (now (marks .entry))) λ ticks. andThen (alterJobs free margin (jobsIn count (now (releases .entry)) (now (deadlines .entry)) (now (cycles .entry)))) λ jobs. touchingFor jobs (boundsWith ticks jobs) (now (plan .entry)) start end
         (record { openJobs = now («open_jobs» .entry); insideJobs = now («inside_jobs» .entry); steps = now (steps .entry) }))
         (record { openJobs = now («open_jobs» .entry); insideJobs = now («inside_jobs» .entry); steps = now (steps .entry) })
         (record { openJobs = now («open_jobs» .exit); insideJobs = now («inside_jobs» .exit); steps = now (steps .exit) }) r ⌝ }
@@ -125,15 +136,15 @@ fn touching_jobs<'a>(
         Reading::Refused { number, place } => TouchingAnswer::Refused { number, place },
         Reading::Entries(mark_count) => {
             let ticks = table.marks;
-            let mut times = [0u64; MAX_BOUNDS];
-            let bounds = marked_bounds(releases, deadlines, count, &ticks, mark_count, &mut times);
-            touching_bounds(
+            touching_marked(
                 releases,
                 deadlines,
                 cycles,
                 count,
-                &times,
-                bounds,
+                &ticks,
+                mark_count,
+                free,
+                margin,
                 plan,
                 start,
                 end,
@@ -143,6 +154,89 @@ fn touching_jobs<'a>(
             )
         }
     }
+}
+
+// The operation where marks were read too: the jobs are altered.
+fn touching_marked(
+    releases: &[u64; MAX_JOBS],
+    deadlines: &mut [u64; MAX_JOBS],
+    cycles: &mut [u64; MAX_JOBS],
+    count: usize,
+    ticks: &[u64; MAX_MARKS],
+    mark_count: usize,
+    free: u32,
+    margin: u32,
+    plan: &[u8],
+    start: u64,
+    end: u64,
+    open_jobs: &mut [u32],
+    inside_jobs: &mut [u32],
+    steps: &mut [u32],
+) -> TouchingAnswer
+    requires { ⌜ ValidArrays count (now releases) (now deadlines) (now cycles) × ValidMarks (marksIn «mark_count» (now ticks)) ⌝ }
+    ensures { λ r. ⌜ Answers (andThen (alterJobs free margin (jobsIn count (now (releases .entry)) (now (deadlines .entry)) (now (cycles .entry)))) λ jobs. touchingFor jobs (boundsWith (marksIn «mark_count» (now (ticks .entry))) jobs) (now (plan .entry)) start end
+        (record { openJobs = now («open_jobs» .entry); insideJobs = now («inside_jobs» .entry); steps = now (steps .entry) }))
+        (record { openJobs = now («open_jobs» .entry); insideJobs = now («inside_jobs» .entry); steps = now (steps .entry) })
+        (record { openJobs = now («open_jobs» .exit); insideJobs = now («inside_jobs» .exit); steps = now (steps .exit) }) r ⌝ }
+{
+    let altered = alter_jobs(releases, deadlines, cycles, count, free, margin);
+    match altered {
+        Reading::Refused { number, place } => TouchingAnswer::Refused { number, place },
+        Reading::Entries(altered_count) => touching_altered(
+            releases,
+            deadlines,
+            cycles,
+            altered_count,
+            ticks,
+            mark_count,
+            plan,
+            start,
+            end,
+            open_jobs,
+            inside_jobs,
+            steps,
+        ),
+    }
+}
+
+// The operation where the jobs are altered: the bounds of jobs and marks are found.
+fn touching_altered<'a>(
+    releases: &'a [u64; MAX_JOBS],
+    deadlines: &'a [u64; MAX_JOBS],
+    cycles: &[u64; MAX_JOBS],
+    count: usize,
+    ticks: &[u64; MAX_MARKS],
+    mark_count: usize,
+    plan: &[u8],
+    start: u64,
+    end: u64,
+    open_jobs: &mut [u32],
+    inside_jobs: &mut [u32],
+    steps: &mut [u32],
+) -> TouchingAnswer
+    requires { ⌜ ValidJobs (jobsIn count (now releases) (now deadlines) (now cycles)) × ValidMarks (marksIn «mark_count» (now ticks)) ⌝ }
+    ensures { λ r. ⌜ Answers (touchingFor (jobsIn count (now (releases .entry)) (now (deadlines .entry)) (now (cycles .entry)))
+        (boundsWith (marksIn «mark_count» (now (ticks .entry))) (jobsIn count (now (releases .entry)) (now (deadlines .entry)) (now (cycles .entry)))) (now (plan .entry)) start end
+        (record { openJobs = now («open_jobs» .entry); insideJobs = now («inside_jobs» .entry); steps = now (steps .entry) }))
+        (record { openJobs = now («open_jobs» .entry); insideJobs = now («inside_jobs» .entry); steps = now (steps .entry) })
+        (record { openJobs = now («open_jobs» .exit); insideJobs = now («inside_jobs» .exit); steps = now (steps .exit) }) r ⌝ }
+{
+    let mut times = [0u64; MAX_BOUNDS];
+    let bounds = marked_bounds(releases, deadlines, count, ticks, mark_count, &mut times);
+    touching_bounds(
+        releases,
+        deadlines,
+        cycles,
+        count,
+        &times,
+        bounds,
+        plan,
+        start,
+        end,
+        open_jobs,
+        inside_jobs,
+        steps,
+    )
 }
 
 // The operation where the bounds were found: the plan's steps are checked.
