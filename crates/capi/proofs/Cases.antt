@@ -183,23 +183,23 @@ module _ (levelBytes jobBytes markBytes : List ℕ) (parameters : Parameters) (p
       → record { number = number; place = place; energy = 0 } ≡ checkResult (check levelBytes jobBytes markBytes parameters plan prices)
   check-refused = unaccepted-result (check levelBytes jobBytes markBytes parameters plan prices)
 
-module _ (bytes : List ℕ) (length load : ℕ) where
-  pub setting-set : (band extra gap : ℕ) → Set band extra gap ≡ settingAnswer (setting bytes length load)
-      → record { number = 0; place = 0; band = band; gap = gap; extra = extra } ≡ settingResult (setting bytes length load)
-  setting-set = set-result (setting bytes length load)
+module _ (bytes : List ℕ) (highest length load : ℕ) where
+  pub setting-set : (band extra gap : ℕ) → Set band extra gap ≡ settingAnswer (setting bytes highest length load)
+      → record { number = 0; place = 0; band = band; gap = gap; extra = extra } ≡ settingResult (setting bytes highest length load)
+  setting-set = set-result (setting bytes highest length load)
 
-  pub setting-refused : (number place : ℕ) → Refused number place ≡ settingAnswer (setting bytes length load)
-      → record { number = number; place = place; band = 0; gap = 0; extra = 0 } ≡ settingResult (setting bytes length load)
-  setting-refused = refused-result (setting bytes length load)
+  pub setting-refused : (number place : ℕ) → Refused number place ≡ settingAnswer (setting bytes highest length load)
+      → record { number = number; place = place; band = 0; gap = 0; extra = 0 } ≡ settingResult (setting bytes highest length load)
+  setting-refused = refused-result (setting bytes highest length load)
 
-module _ (levelBytes jobBytes : List ℕ) (start end : ℕ) where
-  pub spare-found : (z : ℤ) → Spare z ≡ spareAnswer (spare levelBytes jobBytes start end)
-      → record { number = 0; place = 0; spare = z } ≡ spareResult (spare levelBytes jobBytes start end)
-  spare-found = spare-result (spare levelBytes jobBytes start end)
+module _ (levelBytes jobBytes : List ℕ) (parameters : Parameters) (start end : ℕ) where
+  pub spare-found : (z : ℤ) → Spare z ≡ spareAnswer (spare levelBytes jobBytes parameters start end)
+      → record { number = 0; place = 0; spare = z } ≡ spareResult (spare levelBytes jobBytes parameters start end)
+  spare-found = spare-result (spare levelBytes jobBytes parameters start end)
 
-  pub spare-refused : (number place : ℕ) → SpareRefused number place ≡ spareAnswer (spare levelBytes jobBytes start end)
-      → record { number = number; place = place; spare = pos 0 } ≡ spareResult (spare levelBytes jobBytes start end)
-  spare-refused = no-spare-result (spare levelBytes jobBytes start end)
+  pub spare-refused : (number place : ℕ) → SpareRefused number place ≡ spareAnswer (spare levelBytes jobBytes parameters start end)
+      → record { number = number; place = place; spare = pos 0 } ≡ spareResult (spare levelBytes jobBytes parameters start end)
+  spare-refused = no-spare-result (spare levelBytes jobBytes parameters start end)
 
 module _ (taskBytes before after : List ℕ) where
   pub rounds-laid-out : (size multiple : ℕ) → RoundsContract taskBytes before after (LaidOut size multiple)
@@ -229,10 +229,10 @@ module _ (levelBytes jobBytes markBytes : List ℕ) (parameters : Parameters) (p
         buffer-is = h .buffer-is;
       }
 
-module _ (jobBytes markBytes : List ℕ) (parameters : Parameters) (plan : List ℕ) (start end : ℕ) (before after : Lists) where
+module _ (jobBytes markBytes : List ℕ) (free margin : ℕ) (plan : List ℕ) (start end : ℕ) (before after : Lists) where
   pub touching-touched : (opened inside steps deadline : ℕ) (nearest : NearestDeadline) → deadline ≡ deadlineNumber nearest
-      → TouchingContract jobBytes markBytes parameters plan start end before after (Touching opened inside steps nearest)
-      → TouchingCall jobBytes markBytes parameters plan start end before after (record {
+      → TouchingContract jobBytes markBytes free margin plan start end before after (Touching opened inside steps nearest)
+      → TouchingCall jobBytes markBytes free margin plan start end before after (record {
         number = 0;
         place = 0;
         «open_jobs» = opened;
@@ -242,12 +242,12 @@ module _ (jobBytes markBytes : List ℕ) (parameters : Parameters) (plan : List 
       })
   touching-touched opened inside steps deadline nearest same h =
       record {
-        result-is = rw same (touched-result (touching jobBytes markBytes parameters plan start end before) opened inside steps nearest (h .answer-is));
+        result-is = rw same (touched-result (touching jobBytes markBytes free margin plan start end before) opened inside steps nearest (h .answer-is));
         lists-are = h .lists-are;
       }
 
-  pub touching-refused : (number place : ℕ) → TouchingContract jobBytes markBytes parameters plan start end before after (TouchingRefused number place)
-      → TouchingCall jobBytes markBytes parameters plan start end before after (record {
+  pub touching-refused : (number place : ℕ) → TouchingContract jobBytes markBytes free margin plan start end before after (TouchingRefused number place)
+      → TouchingCall jobBytes markBytes free margin plan start end before after (record {
         number = number;
         place = place;
         «open_jobs» = 0;
@@ -257,7 +257,7 @@ module _ (jobBytes markBytes : List ℕ) (parameters : Parameters) (plan : List 
       })
   touching-refused number place h =
       record {
-        result-is = untouched-result (touching jobBytes markBytes parameters plan start end before) number place (h .answer-is);
+        result-is = untouched-result (touching jobBytes markBytes free margin plan start end before) number place (h .answer-is);
         lists-are = h .lists-are;
       }
 
@@ -277,17 +277,17 @@ module _ (processor : Processor) (valid : ValidProcessor processor) where
   settingOf-gap length zero = omega arith
   settingOf-gap length (suc cycles) = omega (arith, frequency-high (suc (bandOf (workingOf processor) length (suc cycles))))
 
-answered-gap : (bytes : List ℕ) (length load : ℕ) (s : Setting) → setting bytes length load ≡ answer s → s .gap ≤ maxFrequency
+answered-gap : (bytes : List ℕ) (highest length load : ℕ) (s : Setting) → setting bytes highest length load ≡ answer s → s .gap ≤ maxFrequency
 unfolding setting
-answered-gap bytes length load s answered =
-    let (processor, read, e) = andThen-answered (readProcessor bytes) _ answered in
+answered-gap bytes highest length load s answered =
+    let (processor, read, e) = andThen-answered (readProcessor bytes highest) _ answered in
     let (long, e) = answered-past (not (leb 1 length && leb length maxDeadline)) 25 _ e in
     let (fits, e) = answered-past (ltb (length * topOf processor) load) 26 _ e in
-    rw (answer-injective e) at (settingOf-gap processor (processors-are-valid bytes processor read) length load)
+    rw (answer-injective e) at (settingOf-gap processor (processors-are-valid bytes highest processor read) length load)
 
 -- the gap that a setting answers
-pub gap-small : (bytes : List ℕ) (length load band extra gap : ℕ) → Set band extra gap ≡ settingAnswer (setting bytes length load) → gap ≤ maxFrequency
-gap-small bytes length load band extra gap e = go (setting bytes length load) (answered-gap bytes length load) e
+pub gap-small : (bytes : List ℕ) (highest length load band extra gap : ℕ) → Set band extra gap ≡ settingAnswer (setting bytes highest length load) → gap ≤ maxFrequency
+gap-small bytes highest length load band extra gap e = go (setting bytes highest length load) (answered-gap bytes highest length load) e
   where
     go : (outcome : Outcome Setting) → ((s : Setting) → outcome ≡ answer s → s .gap ≤ maxFrequency)
         → Set band extra gap ≡ settingAnswer outcome → gap ≤ maxFrequency

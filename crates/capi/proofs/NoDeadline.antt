@@ -9,6 +9,7 @@ use lib.ListN.{length}
 use Rattle.model.specs.declared.Job.{Job}
 use Rattle.model.specs.Jobs.{ValidJobs}
 use Rattle.model.proofs.Jobs.{jobs-valid}
+use Rattle.model.proofs.SiteParameters.{altered-are-valid}
 use Rattle.model.proofs.Search.{leastBelow-found}
 use Rattle.spans.specs.Spans.{Touched, nearestDeadline, touched}
 use Rattle.spans.specs.SpanAnswers.{nearestAnswer}
@@ -28,7 +29,7 @@ module _ (jobs : List Job) (valid : ValidJobs jobs) (start : ℕ) where
 pub zero-is-none : ZeroIsNone
 unfolding touched
 zero-is-none jobBytes markBytes free margin plan start end before t answered zero =
-    let (right, (jobs, marks, read, marks-read, rest)) = touching-answered jobBytes markBytes free margin plan start end before t answered in
+    let (right, (given, jobs, marks, read, marks-read, altered, rest)) = touching-answered jobBytes markBytes free margin plan start end before t answered in
     let same : nearestDeadline jobs start ≡ t .deadline =
     ap (λ (found : Touched). found .deadline) (answered-touched jobs _ plan start end before t rest) in
-    zero-none jobs (jobs-valid jobBytes jobs read) start (t .deadline) same zero
+    zero-none jobs (altered-are-valid .1 free margin given jobs (jobs-valid jobBytes given read) altered) start (t .deadline) same zero

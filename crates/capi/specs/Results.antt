@@ -96,12 +96,12 @@ touchingResult (answer t) = record {
 }
 
 -- A call that lists what touches a span from C: what it returns, and what the lists hold afterwards.
-pub record TouchingCall (jobBytes markBytes : List ℕ) (parameters : Parameters) (plan : List ℕ) (start end : ℕ) (before after : Lists) (result : TouchingResult) : Type 0 where
-  pub result-is : result ≡ touchingResult (touching jobBytes markBytes parameters plan start end before)
-  pub lists-are : after ≡ listsAfter (touching jobBytes markBytes parameters plan start end before) before
+pub record TouchingCall (jobBytes markBytes : List ℕ) (free margin : ℕ) (plan : List ℕ) (start end : ℕ) (before after : Lists) (result : TouchingResult) : Type 0 where
+  pub result-is : result ≡ touchingResult (touching jobBytes markBytes free margin plan start end before)
+  pub lists-are : after ≡ listsAfter (touching jobBytes markBytes free margin plan start end before) before
 
 -- In an answer a deadline of 0 says that there is none. Proved in proofs/NoDeadline.antt.
 abbrev pub ZeroIsNone : Type 0
 ZeroIsNone =
-    (jobBytes markBytes : List ℕ) (parameters : Parameters) (plan : List ℕ) (start end : ℕ) (before : Lists) (t : Touched) → touching jobBytes markBytes parameters plan start end before ≡ answer t
+    (jobBytes markBytes : List ℕ) (free margin : ℕ) (plan : List ℕ) (start end : ℕ) (before : Lists) (t : Touched) → touching jobBytes markBytes free margin plan start end before ≡ answer t
     → deadlineNumber (nearestAnswer (t .deadline)) ≡ 0 → t .deadline ≡ none

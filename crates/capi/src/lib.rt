@@ -8,6 +8,7 @@ ghost use Rattle.capi.specs.Results.{fitsResult, checkResult, settingRes
 use audit::CheckAnswer;
 use audit::FitsAnswer;
 use levels::SettingAnswer;
+use model::Parameters;
 use ordering::OrderAnswer;
 use planning::PlanAnswer;
 use rounds::RoundsAnswer;
@@ -98,11 +99,19 @@ pub extern "C" fn ramyearly_fits(
     levels: &[u8],
     jobs: &[u8],
     marks: &[u8],
+    highest: u32,
+    free_ticks: u32,
+    margin: u32,
     plan: &[u8],
 ) -> FitsResult
-    ensures { λ r. ⌜ r ≡ fitsResult (fits (now (levels .entry)) (now (jobs .entry)) (now (marks .entry)) (now (plan .entry))) ⌝ }
+    ensures { λ r. ⌜ r ≡ fitsResult (fits (now (levels .entry)) (now (jobs .entry)) (now (marks .entry)) (record { highest = highest; free = «free_ticks»; margin = margin }) (now (plan .entry))) ⌝ }
 {
-    let answer = audit::fits(levels, jobs, marks, plan);
+    let parameters = Parameters {
+        highest,
+        free: free_ticks,
+        margin,
+    };
+    let answer = audit::fits(levels, jobs, marks, parameters, plan);
     match answer {
         FitsAnswer::Fits { energy } => FitsResult {
             number: 0,
@@ -122,12 +131,20 @@ pub extern "C" fn ramyearly_check(
     levels: &[u8],
     jobs: &[u8],
     marks: &[u8],
+    highest: u32,
+    free_ticks: u32,
+    margin: u32,
     plan: &[u8],
     prices: &[u8],
 ) -> CheckResult
-    ensures { λ r. ⌜ r ≡ checkResult (check (now (levels .entry)) (now (jobs .entry)) (now (marks .entry)) (now (plan .entry)) (now (prices .entry))) ⌝ }
+    ensures { λ r. ⌜ r ≡ checkResult (check (now (levels .entry)) (now (jobs .entry)) (now (marks .entry)) (record { highest = highest; free = «free_ticks»; margin = margin }) (now (plan .entry)) (now (prices .entry))) ⌝ }
 {
-    let answer = audit::check(levels, jobs, marks, plan, prices);
+    let parameters = Parameters {
+        highest,
+        free: free_ticks,
+        margin,
+    };
+    let answer = audit::check(levels, jobs, marks, parameters, plan, prices);
     match answer {
         CheckAnswer::Accepted { energy } => CheckResult {
             number: 0,
@@ -143,10 +160,15 @@ pub extern "C" fn ramyearly_check(
 }
 
 #[no_mangle]
-pub extern "C" fn ramyearly_setting(levels: &[u8], length: u32, load: u64) -> SettingResult
-    ensures { λ r. ⌜ r ≡ settingResult (setting (now (levels .entry)) length load) ⌝ }
+pub extern "C" fn ramyearly_setting(
+    levels: &[u8],
+    highest: u32,
+    length: u32,
+    load: u64,
+) -> SettingResult
+    ensures { λ r. ⌜ r ≡ settingResult (setting (now (levels .entry)) highest length load) ⌝ }
 {
-    let answer = levels::setting(levels, length, load);
+    let answer = levels::setting(levels, highest, length, load);
     match answer {
         SettingAnswer::Set { band, extra, gap } => SettingResult {
             number: 0,
@@ -166,10 +188,23 @@ pub extern "C" fn ramyearly_setting(levels: &[u8], length: u32, load: u64) -> Se
 }
 
 #[no_mangle]
-pub extern "C" fn ramyearly_spare(levels: &[u8], jobs: &[u8], start: u32, end: u32) -> SpareResult
-    ensures { λ r. ⌜ r ≡ spareResult (spare (now (levels .entry)) (now (jobs .entry)) start end) ⌝ }
+pub extern "C" fn ramyearly_spare(
+    levels: &[u8],
+    jobs: &[u8],
+    highest: u32,
+    free_ticks: u32,
+    margin: u32,
+    start: u32,
+    end: u32,
+) -> SpareResult
+    ensures { λ r. ⌜ r ≡ spareResult (spare (now (levels .entry)) (now (jobs .entry)) (record { highest = highest; free = «free_ticks»; margin = margin }) start end) ⌝ }
 {
-    let answer = windows::spare(levels, jobs, start, end);
+    let parameters = Parameters {
+        highest,
+        free: free_ticks,
+        margin,
+    };
+    let answer = windows::spare(levels, jobs, parameters, start, end);
     match answer {
         SpareAnswer::Spare(spare) => SpareResult {
             number: 0,
@@ -189,15 +224,23 @@ pub extern "C" fn ramyearly_plan(
     levels: &[u8],
     jobs: &[u8],
     marks: &[u8],
+    highest: u32,
+    free_ticks: u32,
+    margin: u32,
     plan: &mut [u8],
     prices: &mut [u8],
     shares: &mut [u32],
 ) -> PlanResult
-    ensures { λ r. ⌜ PlanCall (now (levels .entry)) (now (jobs .entry)) (now (marks .entry))
+    ensures { λ r. ⌜ PlanCall (now (levels .entry)) (now (jobs .entry)) (now (marks .entry)) (record { highest = highest; free = «free_ticks»; margin = margin })
         (record { plan = now (plan .entry); prices = now (prices .entry); shares = now (shares .entry) })
         (record { plan = now (plan .exit); prices = now (prices .exit); shares = now (shares .exit) }) r ⌝ }
 {
-    let answer = planning::plan(levels, jobs, marks, plan, prices, shares);
+    let parameters = Parameters {
+        highest,
+        free: free_ticks,
+        margin,
+    };
+    let answer = planning::plan(levels, jobs, marks, parameters, plan, prices, shares);
     match answer {
         PlanAnswer::Plan {
             intervals,
@@ -262,13 +305,21 @@ pub extern "C" fn ramyearly_order(
     levels: &[u8],
     jobs: &[u8],
     marks: &[u8],
+    highest: u32,
+    free_ticks: u32,
+    margin: u32,
     plan: &[u8],
     prices: &[u8],
     ordered: &mut [u8],
 ) -> OrderResult
-    ensures { λ r. ⌜ OrderCall (now (levels .entry)) (now (jobs .entry)) (now (marks .entry)) (now (plan .entry)) (now (prices .entry)) (now (ordered .entry)) (now (ordered .exit)) r ⌝ }
+    ensures { λ r. ⌜ OrderCall (now (levels .entry)) (now (jobs .entry)) (now (marks .entry)) (record { highest = highest; free = «free_ticks»; margin = margin }) (now (plan .entry)) (now (prices .entry)) (now (ordered .entry)) (now (ordered .exit)) r ⌝ }
 {
-    let answer = ordering::order(levels, jobs, marks, plan, prices, ordered);
+    let parameters = Parameters {
+        highest,
+        free: free_ticks,
+        margin,
+    };
+    let answer = ordering::order(levels, jobs, marks, parameters, plan, prices, ordered);
     match answer {
         OrderAnswer::Ordered { length } => OrderResult {
             number: 0,
@@ -297,6 +348,8 @@ fn deadline_number(nearest: NearestDeadline) -> u32
 pub extern "C" fn ramyearly_touching(
     jobs: &[u8],
     marks: &[u8],
+    free_ticks: u32,
+    margin: u32,
     plan: &[u8],
     start: u32,
     end: u32,
@@ -304,11 +357,22 @@ pub extern "C" fn ramyearly_touching(
     inside_jobs: &mut [u32],
     steps: &mut [u32],
 ) -> TouchingResult
-    ensures { λ r. ⌜ TouchingCall (now (jobs .entry)) (now (marks .entry)) (now (plan .entry)) start end
+    ensures { λ r. ⌜ TouchingCall (now (jobs .entry)) (now (marks .entry)) «free_ticks» margin (now (plan .entry)) start end
         (record { openJobs = now («open_jobs» .entry); insideJobs = now («inside_jobs» .entry); steps = now (steps .entry) })
         (record { openJobs = now («open_jobs» .exit); insideJobs = now («inside_jobs» .exit); steps = now (steps .exit) }) r ⌝ }
 {
-    let answer = touching::touching(jobs, marks, plan, start, end, open_jobs, inside_jobs, steps);
+    let answer = touching::touching(
+        jobs,
+        marks,
+        free_ticks,
+        margin,
+        plan,
+        start,
+        end,
+        open_jobs,
+        inside_jobs,
+        steps,
+    );
     match answer {
         TouchingAnswer::Touching {
             open_jobs,

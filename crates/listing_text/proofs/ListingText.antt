@@ -1,6 +1,6 @@
 -- What was put into the buffer, and what planning answered and left, make the contract of the listing.
 -- Assumes nothing.
-use mathlib.Core.Path.{_≡_, refl, _∙_, ap}
+use mathlib.Core.Path.{_≡_, refl, sym, _∙_, ap}
 use mathlib.Core.List.{List, [], _∷_, _++_}
 use Prim.Native.Nat.{ℕ, suc, _+_, _*_}
 use native.Mathlib.Omega.{arith}
@@ -9,10 +9,12 @@ use lib.IntN.{ℤ}
 use lib.Seq.{sets, take-nil}
 use Rattle.model.specs.declared.Parameters.{Parameters}
 use Rattle.model.specs.Outcome.{Outcome, refused, answer}
-use Rattle.model.specs.Sites.{Site, readSite}
+use Rattle.model.specs.SiteParameters.{asGiven}
+use Rattle.model.specs.Sites.{Site, readSite, readGivenSite}
 use Rattle.model.specs.Plans.{sharesIn}
 use Rattle.model.specs.PriceBytes.{pricesOf}
-use Rattle.model.proofs.RefusalNumbers.{site-by}
+use Rattle.model.proofs.Sites.{as-given-alters-nothing}
+use Rattle.model.proofs.RefusalNumbers.{given-site-by}
 use Rattle.planning.specs.declared.operation.PlanAnswer.{PlanAnswer}
 use Rattle.planning.specs.declared.operation.PlanAnswer.the-variants.{Plan, Overfull, Refused}
 use Rattle.planning.specs.MadePlans.{Buffers}
@@ -39,12 +41,13 @@ sets-start before [] = rw take-nil
 sets-start [] (b ∷ bytes) = sets-nil 0 (b ∷ bytes)
 sets-start (x ∷ before) (b ∷ bytes) = sets-shift b before 0 bytes ∙ ap (λ (l : List ℕ). b ∷ l) (sets-start before bytes)
 
--- the buffers that planning is lent hold zeros
+-- the buffers that planning is lent hold zeros, and the parameters alter nothing
 pub lent-zeros : {levelBytes jobBytes markBytes : List ℕ} {parameters : Parameters} {left : Buffers} {answered : PlanAnswer} {plan prices shares : List ℕ}
     → plan ≡ zeros planRoom → prices ≡ zeros priceRoom → shares ≡ zeros shareRoom
+    → parameters ≡ asGiven levelBytes
     → PlanContract levelBytes jobBytes markBytes parameters (record { plan = plan; prices = prices; shares = shares }) left answered
-    → PlanContract levelBytes jobBytes markBytes parameters zeroBuffers left answered
-lent-zeros plan prices shares planned = rw (plan, prices, shares) at planned
+    → PlanContract levelBytes jobBytes markBytes (asGiven levelBytes) zeroBuffers left answered
+lent-zeros plan prices shares given planned = rw (plan, prices, shares, given) at planned
 
 -- the text of a site that was read
 text-read : (outcome : Outcome Site) (site : Site) → outcome ≡ answer site → (answered case : PlanAnswer) → answered ≡ case
@@ -52,10 +55,10 @@ text-read : (outcome : Outcome Site) (site : Site) → outcome ≡ answer site �
 unfolding listingText
 text-read outcome site read answered case is left = rw (read, is)
 
-module _ {levelBytes jobBytes markBytes : List ℕ} {parameters : Parameters} {left : Buffers} {answered : PlanAnswer} (planned : PlanContract levelBytes jobBytes markBytes parameters zeroBuffers left answered) where
+module _ {levelBytes jobBytes markBytes : List ℕ} {left : Buffers} {answered : PlanAnswer} (planned : PlanContract levelBytes jobBytes markBytes (asGiven levelBytes) zeroBuffers left answered) where
   -- what was written is a plan whose text can be put
   pub plan-listed : (intervals steps energy : ℕ) → answered ≡ Plan intervals steps energy
-      → ListedPlan levelBytes jobBytes markBytes parameters intervals steps energy (left .prices) (left .shares)
+      → ListedPlan levelBytes jobBytes markBytes (asGiven levelBytes) intervals steps energy (left .prices) (left .shares)
   plan-listed intervals steps energy is =
       let (site, read) = plan-read planned intervals steps energy is in
       record {
@@ -65,13 +68,20 @@ module _ {levelBytes jobBytes markBytes : List ℕ} {parameters : Parameters} {l
         planned = planned .written site read intervals steps energy is .planned;
       }
 
-  read-refused : (number place : ℕ) → answered ≡ Refused number place → readSite levelBytes jobBytes markBytes parameters ≡ refused number place
-  read-refused number place is = reading-refused levelBytes jobBytes markBytes parameters number place (rw is at (planned .outcome))
+  read-refused : (number place : ℕ) → answered ≡ Refused number place → readSite levelBytes jobBytes markBytes (asGiven levelBytes) ≡ refused number place
+  read-refused number place is = reading-refused levelBytes jobBytes markBytes (asGiven levelBytes) number place (rw is at (planned .outcome))
+
+  -- the site, or the refusal, is that of the tables as they are given
+  given-refused : (number place : ℕ) → answered ≡ Refused number place → readGivenSite levelBytes jobBytes markBytes ≡ refused number place
+  given-refused number place is = sym (as-given-alters-nothing levelBytes jobBytes markBytes) ∙ read-refused number place is
+
+  given-read : (site : Site) → readSite levelBytes jobBytes markBytes (asGiven levelBytes) ≡ answer site → readGivenSite levelBytes jobBytes markBytes ≡ answer site
+  given-read site read = sym (as-given-alters-nothing levelBytes jobBytes markBytes) ∙ read
 
   module _ (before after : List ℕ) (whole : ℕ) where
     -- what was put is the text
-    text-put : (text : List ℕ) → text ≡ listingText (readSite levelBytes jobBytes markBytes parameters) answered left
-        → Appended before 0 text textRoom after whole → ListingContract levelBytes jobBytes markBytes parameters before after whole
+    text-put : (text : List ℕ) → text ≡ listingText (readGivenSite levelBytes jobBytes markBytes) answered left
+        → Appended before 0 text textRoom after whole → ListingContract levelBytes jobBytes markBytes before after whole
     text-put text is put =
         record {
           text = text;
@@ -80,7 +90,7 @@ module _ {levelBytes jobBytes markBytes : List ℕ} {parameters : Parameters} {l
             left = left;
             planned = planned;
             text-is = is;
-            of-reading = λ number place refused. site-by levelBytes jobBytes markBytes parameters number place (read-refused number place refused);
+            of-reading = λ number place refused. given-site-by levelBytes jobBytes markBytes number place (given-refused number place refused);
           };
           length-is = omega (arith, put .next-is);
           written = put .after-is ∙ sets-start before text;
@@ -88,22 +98,22 @@ module _ {levelBytes jobBytes markBytes : List ℕ} {parameters : Parameters} {l
         }
 
     pub plan-put : (intervals steps energy : ℕ) → answered ≡ Plan intervals steps energy
-        → ((site : Site) → readSite levelBytes jobBytes markBytes parameters ≡ answer site → Appended before 0
+        → ((site : Site) → readSite levelBytes jobBytes markBytes (asGiven levelBytes) ≡ answer site → Appended before 0
         (textOfPlan site (pricesOf (take (2 + 5 * intervals) (left .prices))) (sharesIn (length (site .jobs)) (left .shares)) steps energy) textRoom after whole)
-        → ListingContract levelBytes jobBytes markBytes parameters before after whole
+        → ListingContract levelBytes jobBytes markBytes before after whole
     unfolding siteText
     plan-put intervals steps energy is put =
         let (site, read) = plan-read planned intervals steps energy is in
-        text-put _ (text-read _ site read answered _ is left) (put site read)
+        text-put _ (text-read _ site (given-read site read) answered _ is left) (put site read)
 
     pub overfull-put : (start end : ℕ) (spare : ℤ) → answered ≡ Overfull start end spare
-        → Appended before 0 (overfullLine start end spare) textRoom after whole → ListingContract levelBytes jobBytes markBytes parameters before after whole
+        → Appended before 0 (overfullLine start end spare) textRoom after whole → ListingContract levelBytes jobBytes markBytes before after whole
     unfolding siteText
     overfull-put start end spare is put =
         let (site, read) = site-planned planned (λ number place e. let z : _≡_ {A = ℕ} 0 1 = cc (ap outcomeOf is, e) in omega (arith, z)) in
-        text-put _ (text-read _ site read answered _ is left) put
+        text-put _ (text-read _ site (given-read site read) answered _ is left) put
 
     pub refused-put : (number place : ℕ) → answered ≡ Refused number place
-        → Appended before 0 (refusedLine number place) textRoom after whole → ListingContract levelBytes jobBytes markBytes parameters before after whole
+        → Appended before 0 (refusedLine number place) textRoom after whole → ListingContract levelBytes jobBytes markBytes before after whole
     unfolding listingText
-    refused-put number place is put = text-put _ (rw (read-refused number place is)) put
+    refused-put number place is put = text-put _ (rw (given-refused number place is)) put

@@ -3,11 +3,11 @@ use Prim.Native.Nat.{ℕ, _+_, _*_, _≤_}
 use mathlib.Core.Path.{_≡_}
 use mathlib.Core.List.{List, [], _∷_, _++_}
 use lib.ListN.{length, take, drop, replicate}
-use Rattle.model.specs.declared.Parameters.{Parameters}
 use Rattle.model.specs.Limits.{maxJobs, maxIntervals}
 use Rattle.model.specs.Outcome.{Outcome, refused, answer}
+use Rattle.model.specs.SiteParameters.{asGiven}
 use Rattle.model.specs.Marks.{noMarks}
-use Rattle.model.specs.Sites.{Site, readSite, SiteNumbers}
+use Rattle.model.specs.Sites.{Site, readGivenSite, GivenSiteNumbers}
 use Rattle.model.specs.Plans.{sharesIn}
 use Rattle.model.specs.PriceBytes.{pricesOf}
 use Rattle.planning.specs.declared.operation.PlanAnswer.{PlanAnswer}
@@ -53,22 +53,23 @@ unfoldable pub listingText : Outcome Site → PlanAnswer → (left : Buffers) �
 listingText (refused number place) answered left = refusedLine number place
 listingText (answer site) answered left = siteText site answered left
 
--- Planning answered and left something for the tables, and the text is that of its answer. Which plan is written is free where
+-- Planning answered and left something for the tables, with all their running levels, 0 and 0, so that they are listed as they are
+-- given; and the text is that of its answer. Which plan is written is free where
 -- several are equally cheap, so the text is a function of what planning answered and wrote.
-pub record Listed (levelBytes jobBytes markBytes : List ℕ) (parameters : Parameters) (text : List ℕ) : Type 0 where
+pub record Listed (levelBytes jobBytes markBytes text : List ℕ) : Type 0 where
   pub answered : PlanAnswer
   pub left : Buffers
-  pub planned : PlanContract levelBytes jobBytes markBytes parameters zeroBuffers left answered
-  pub text-is : text ≡ listingText (readSite levelBytes jobBytes markBytes parameters) answered left
+  pub planned : PlanContract levelBytes jobBytes markBytes (asGiven levelBytes) zeroBuffers left answered
+  pub text-is : text ≡ listingText (readGivenSite levelBytes jobBytes markBytes) answered left
   -- "refused, number, place (1 to 10, and later numbers that its files can meet)": those of reading a site; no buffer is too
   -- short, and 11 is an overfull window
-  pub of-reading : (number place : ℕ) → answered ≡ Refused number place → SiteNumbers number
+  pub of-reading : (number place : ℕ) → answered ≡ Refused number place → GivenSiteNumbers number
 
 -- The whole promise: the length of a listing's text is answered, as many of its bytes as have room stand in the buffer, and the
 -- rest of the buffer stays.
-pub record ListingContract (levelBytes jobBytes markBytes : List ℕ) (parameters : Parameters) (before after : List ℕ) (answered : ℕ) : Type 0 where
+pub record ListingContract (levelBytes jobBytes markBytes before after : List ℕ) (answered : ℕ) : Type 0 where
   pub text : List ℕ
-  pub listed : Listed levelBytes jobBytes markBytes parameters text
+  pub listed : Listed levelBytes jobBytes markBytes text
   pub length-is : answered ≡ length text
   pub written : after ≡ take (length before) text ++ drop (length text) before
   pub fits : length text ≤ textRoom

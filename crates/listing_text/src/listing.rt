@@ -7,6 +7,7 @@ use crate::plan::put_plan;
 use model::MAX_INTERVALS;
 use model::MAX_JOBS;
 use planning::PlanAnswer;
+use parameters::as_given;
 use planning::plan;
 
 // Long enough for the plan, the prices and the shares of any site.
@@ -36,7 +37,16 @@ fn list_site(levels: &[u8], jobs: &[u8], marks: &[u8], text: &mut [u8]) -> usize
     let mut bytes = plan_buffer();
     let mut prices = price_buffer();
     let mut shares = share_buffer();
-    let answer = plan(levels, jobs, marks, &mut bytes, &mut prices, &mut shares);
+    let parameters = as_given(levels);
+    let answer = plan(
+        levels,
+        jobs,
+        marks,
+        parameters,
+        &mut bytes,
+        &mut prices,
+        &mut shares,
+    );
     match answer {
         PlanAnswer::Plan {
             intervals,
@@ -46,6 +56,7 @@ fn list_site(levels: &[u8], jobs: &[u8], marks: &[u8], text: &mut [u8]) -> usize
             levels,
             jobs,
             marks,
+            parameters,
             intervals as usize,
             steps,
             energy,

@@ -21,13 +21,15 @@ use crate::lines::put_step;
 use levels::PointTable;
 use model::MAX_BOUNDS;
 use model::MAX_JOBS;
+use model::Parameters;
 use site::read_site;
 
-// Puts the text of a plan for the site that the tables are read as.
+// Puts the text of a plan for the site that the tables are read as with these parameters.
 pub(crate) fn put_plan(
     levels: &[u8],
     jobs: &[u8],
     marks: &[u8],
+    parameters: Parameters,
     intervals: usize,
     steps: u32,
     energy: u64,
@@ -35,8 +37,8 @@ pub(crate) fn put_plan(
     shares: &[u32],
     text: &mut [u8],
 ) -> usize
-    requires { ⌜ ListedPlan (now levels) (now jobs) (now marks) intervals steps energy (now prices) (now shares) ⌝ }
-    ensures { λ r. ⌜ ((s : Site) → readSite (now (levels .entry)) (now (jobs .entry)) (now (marks .entry)) ≡ answer s → Appended (now (text .entry)) 0
+    requires { ⌜ ListedPlan (now levels) (now jobs) (now marks) parameters intervals steps energy (now prices) (now shares) ⌝ }
+    ensures { λ r. ⌜ ((s : Site) → readSite (now (levels .entry)) (now (jobs .entry)) (now (marks .entry)) parameters ≡ answer s → Appended (now (text .entry)) 0
         (textOfPlan s (pricesOf (take (2 + 5 * intervals) (now (prices .entry)))) (sharesIn (length (s .jobs)) (now (shares .entry))) steps energy) textRoom (now (text .exit)) r) ⌝ }
 {
     let mut releases = [0u64; MAX_JOBS];
@@ -47,6 +49,7 @@ pub(crate) fn put_plan(
         levels,
         jobs,
         marks,
+        parameters,
         &mut releases,
         &mut deadlines,
         &mut cycles,

@@ -15,10 +15,10 @@ enum-known-answer-2 : tie.Need-enum-known-answer-2
 enum-known-answer-2 c = search needs
 
 returns : tie.Need-returns
-returns c = check-accepted _ _ _ _ _ _ (sym (c .before .answer .given .1) ∙ c .before .before .before .check .ensures)
+returns c = check-accepted _ _ _ _ _ _ _ (sym (c .before .answer .given .1) ∙ c .before .before .before .check .ensures)
 
 returns-2 : tie.Need-returns-2
-returns-2 c = check-refused _ _ _ _ _ _ _ (sym (c .before .answer2 .given .1) ∙ c .before .before .before .check .ensures)
+returns-2 c = check-refused _ _ _ _ _ _ _ _ (sym (c .before .answer2 .given .1) ∙ c .before .before .before .check .ensures)
 
 pub ramyearly-check-spec : {M : Type 1} → statement M
 ramyearly-check-spec =

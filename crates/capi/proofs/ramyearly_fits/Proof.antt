@@ -15,10 +15,10 @@ enum-known-answer-2 : tie.Need-enum-known-answer-2
 enum-known-answer-2 c = search needs
 
 returns : tie.Need-returns
-returns c = plan-fits _ _ _ _ _ (sym (c .before .answer .given .1) ∙ c .before .before .before .fits2 .ensures)
+returns c = plan-fits _ _ _ _ _ _ (sym (c .before .answer .given .1) ∙ c .before .before .before .fits2 .ensures)
 
 returns-2 : tie.Need-returns-2
-returns-2 c = plan-refused _ _ _ _ _ _ (sym (c .before .answer2 .given .1) ∙ c .before .before .before .fits2 .ensures)
+returns-2 c = plan-refused _ _ _ _ _ _ _ (sym (c .before .answer2 .given .1) ∙ c .before .before .before .fits2 .ensures)
 
 pub ramyearly-fits-spec : {M : Type 1} → statement M
 ramyearly-fits-spec =

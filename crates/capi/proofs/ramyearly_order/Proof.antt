@@ -17,13 +17,13 @@ same-length : tie.Need-same-length
 same-length c = search needs
 
 returns : tie.Need-returns
-returns c = order-ordered _ _ _ _ _ _ _ _ (rw (c .before .answer .given .1) at (c .before .before .before .before .before .order .ensures))
+returns c = order-ordered _ _ _ _ _ _ _ _ _ (rw (c .before .answer .given .1) at (c .before .before .before .before .before .order .ensures))
 
 same-length-2 : tie.Need-same-length-2
 same-length-2 c = search needs
 
 returns-2 : tie.Need-returns-2
-returns-2 c = order-refused _ _ _ _ _ _ _ _ _ (rw (c .before .answer2 .given .1) at (c .before .before .before .before .before .order .ensures))
+returns-2 c = order-refused _ _ _ _ _ _ _ _ _ _ (rw (c .before .answer2 .given .1) at (c .before .before .before .before .before .order .ensures))
 
 pub ramyearly-order-spec : {M : Type 1} → statement M
 ramyearly-order-spec =

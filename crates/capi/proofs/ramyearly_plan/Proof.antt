@@ -44,7 +44,7 @@ same-length-3 : tie.Need-same-length-3
 same-length-3 c = search needs
 
 returns : tie.Need-returns
-returns c = returned _ _ _ _ _ (c .before .before .before .before .before .before .before .before .before .plan .ensures) _ _ (c .before .answer .given .1) refl
+returns c = returned _ _ _ _ _ _ (c .before .before .before .before .before .before .before .before .before .plan .ensures) _ _ (c .before .answer .given .1) refl
 
 same-length-4 : tie.Need-same-length-4
 same-length-4 c = search needs
@@ -58,7 +58,7 @@ same-length-6 c = search needs
 returns-2 : tie.Need-returns-2
 returns-2 c =
     let fits : SFits w64 (c .before .answer2 .given .0 .1 .1 .0) = search needs in
-    rw (toZ-ofZ fits) (returned _ _ _ _ _ (c .before .before .before .before .before .before .before .before .before .plan .ensures) _ _ (c .before .answer2 .given .1) refl)
+    rw (toZ-ofZ fits) (returned _ _ _ _ _ _ (c .before .before .before .before .before .before .before .before .before .plan .ensures) _ _ (c .before .answer2 .given .1) refl)
 
 same-length-7 : tie.Need-same-length-7
 same-length-7 c = search needs
@@ -70,7 +70,7 @@ same-length-9 : tie.Need-same-length-9
 same-length-9 c = search needs
 
 returns-3 : tie.Need-returns-3
-returns-3 c = returned _ _ _ _ _ (c .before .before .before .before .before .before .before .before .before .plan .ensures) _ _ (c .before .answer3 .given .1) refl
+returns-3 c = returned _ _ _ _ _ _ (c .before .before .before .before .before .before .before .before .before .plan .ensures) _ _ (c .before .answer3 .given .1) refl
 
 pub ramyearly-plan-spec : {M : Type 1} → statement M
 ramyearly-plan-spec =

@@ -19,10 +19,10 @@ enum-known-answer-2 c = search needs
 
 returns : tie.Need-returns
 returns c = let fits : SFits w64 (c .before .answer .given .0 .0) = search needs in
-    rw (toZ-ofZ fits) (spare-found _ _ _ _ _ (sym (c .before .answer .given .1) ∙ c .before .before .before .spare .ensures))
+    rw (toZ-ofZ fits) (spare-found _ _ _ _ _ _ (sym (c .before .answer .given .1) ∙ c .before .before .before .spare .ensures))
 
 returns-2 : tie.Need-returns-2
-returns-2 c = spare-refused _ _ _ _ _ _ (sym (c .before .answer2 .given .1) ∙ c .before .before .before .spare .ensures)
+returns-2 c = spare-refused _ _ _ _ _ _ _ (sym (c .before .answer2 .given .1) ∙ c .before .before .before .spare .ensures)
 
 pub ramyearly-spare-spec : {M : Type 1} → statement M
 ramyearly-spare-spec =

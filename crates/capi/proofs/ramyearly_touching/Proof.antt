@@ -27,7 +27,7 @@ same-length-3 c = search needs
 
 returns : tie.Need-returns
 returns c =
-    touching-touched _ _ _ _ _ _ _ _ _ _ _ _ (c .deadline-number .ensures)
+    touching-touched _ _ _ _ _ _ _ _ _ _ _ _ _ _ (c .deadline-number .ensures)
     (rw (c .before .before .answer .given .1) at
     (c .before .before .before .before .before .before .before .before .before .before .touching .ensures))
 
@@ -42,7 +42,7 @@ same-length-6 c = search needs
 
 returns-2 : tie.Need-returns-2
 returns-2 c =
-    touching-refused _ _ _ _ _ _ _ _ _
+    touching-refused _ _ _ _ _ _ _ _ _ _ _
     (rw (c .before .answer2 .given .1) at (c .before .before .before .before .before .before .before .before .before .touching .ensures))
 
 pub ramyearly-touching-spec : {M : Type 1} → statement M

@@ -3,8 +3,10 @@
 use mir.Syntax.{w64}
 use mir.Val.{SFits}
 use mir.Facts.{toZ-ofZ}
+use mathlib.Core.Path.{_≡_}
 use denote.Ref.{now}
 use borrow.Author.Needs.{needs}
+use Rattle.model.specs.SiteParameters.{asGiven}
 use Rattle.planning.specs.PlanAnswers.{PlanContract}
 use Rattle.listing_text.specs.Listings.{zeroBuffers}
 use Rattle.listing_text.proofs.ListingText.{lent-zeros, plan-listed, plan-put, overfull-put, refused-put}
@@ -19,6 +21,9 @@ price-buffer-requires c κs = search needs
 
 share-buffer-requires : tie.Need-share-buffer-requires
 share-buffer-requires c κs = search needs
+
+as-given-requires : tie.Need-as-given-requires
+as-given-requires c κs = search needs
 
 slice-aggregate-plan : tie.Need-slice-aggregate-plan
 slice-aggregate-plan c = search needs
@@ -44,15 +49,22 @@ slice-aggregate-put-plan c = search needs
 slice-aggregate-put-plan-2 : tie.Need-slice-aggregate-put-plan-2
 slice-aggregate-put-plan-2 c = search needs
 
+-- the function's entry, and the parameters that alter nothing
+abbrev entry : tie.After-plan → tie.Start
+entry c = c .before .before .before .before .before .before .before .before .before .before .before .before
+
+given : (c : tie.After-plan) → c .before .before .before .before .as-given .result ≡ asGiven (now (entry c .args .levels))
+given c = c .before .before .before .before .as-given .ensures
+
 -- planning, lent zeros
 planned : (c : tie.After-plan)
-    → let a = c .before .before .before .before .before .before .before .before .before .before .before .args in
-    PlanContract (now (a .levels)) (now (a .jobs)) (now (a .marks)) zeroBuffers
-    (record { plan = c .plan .last .1 .1 .1 .0; prices = c .plan .last .1 .1 .1 .1 .0; shares = c .plan .last .1 .1 .1 .1 .1 .0 }) (c .plan .result)
-planned c = lent-zeros (c .before .before .before .before .before .before .plan-buffer .ensures) (c .before .before .before .before .before .price-buffer .ensures) (c .before .before .before .before .share-buffer .ensures) (c .plan .ensures)
+    → let a = entry c .args in
+    PlanContract (now (a .levels)) (now (a .jobs)) (now (a .marks)) (asGiven (now (a .levels))) zeroBuffers
+    (record { plan = c .plan .last .1 .1 .1 .1 .0; prices = c .plan .last .1 .1 .1 .1 .1 .0; shares = c .plan .last .1 .1 .1 .1 .1 .1 .0 }) (c .plan .result)
+planned c = lent-zeros (c .before .before .before .before .before .before .before .plan-buffer .ensures) (c .before .before .before .before .before .before .price-buffer .ensures) (c .before .before .before .before .before .share-buffer .ensures) (given c) (c .plan .ensures)
 
 put-plan-requires : tie.Need-put-plan-requires
-put-plan-requires c κs = plan-listed (planned (c .before .before .before .before .before .before .before .before .before)) _ _ _ (c .before .before .before .before .answer .given .1)
+put-plan-requires c κs = rw (given (c .before .before .before .before .before .before .before .before .before)) (plan-listed (planned (c .before .before .before .before .before .before .before .before .before)) _ _ _ (c .before .before .before .before .answer .given .1))
 
 enum-known-answer-2 : tie.Need-enum-known-answer-2
 enum-known-answer-2 c = search needs
@@ -71,7 +83,7 @@ same-length c = search needs
 
 returns : tie.Need-returns
 returns c =
-    plan-put (planned (c .before .before .before .before .before .before .before .before .before .before .before .before)) _ _ _ _ _ _ (c .before .before .before .before .before .before .before .answer .given .1) (c .before .before .put-plan .ensures)
+    plan-put (planned (c .before .before .before .before .before .before .before .before .before .before .before .before)) _ _ _ _ _ _ (c .before .before .before .before .before .before .before .answer .given .1) (rw (given (c .before .before .before .before .before .before .before .before .before .before .before .before)) at (c .before .before .put-plan .ensures))
 
 same-length-2 : tie.Need-same-length-2
 same-length-2 c = search needs
@@ -96,6 +108,7 @@ list-site-spec =
     plan-buffer-requires
     price-buffer-requires
     share-buffer-requires
+    as-given-requires
     slice-aggregate-plan
     slice-aggregate-plan-2
     slice-aggregate-plan-3
