@@ -173,6 +173,8 @@ int main(void)
     marks();
     boards();
     fits();
+    parameters();
+    parameter_refusals();
     if (!wrong)
         printf("interface: check, fits, setting, spare, plan, rounds, order and touching answer C as they should\n");
     return wrong;

@@ -36,6 +36,11 @@ struct room {
     size_t open, inside, steps;
 };
 
+/* The site parameters of a call. */
+struct parameters {
+    uint32_t highest, free_ticks, margin;
+};
+
 /* A count of 16 bits, then numbers of one width. */
 struct bytes table(unsigned width, unsigned count, const uint32_t *numbers, size_t n);
 /* Each step is its interval, its job and its cycles. */
@@ -50,23 +55,39 @@ struct bytes marks_at(const char *text);
 /* Level pair T: 2 at 10, 4 at 20. Powers 200 and 1,600; gaps 2 and 2; prices 100 and 700. */
 struct bytes level_pair(void);
 
-/* Where a call takes marks and no mark table is given here, none are lent: the two bytes 0 0. */
+/* The number of running levels of a level table: its entries without the idle entry. Any number where the table is damaged. */
+uint32_t running(struct bytes level_table);
+/* All running levels with 0 and 0. */
+struct parameters unaltered(struct bytes level_table);
+
+/* Where a call takes marks and no mark table is given here, none are lent: the two bytes 0 0. Where it takes parameters and none are given,
+ * nothing is altered. */
 
 void same(const char *name, int64_t found, int64_t wanted);
 void setting_is(const char *name, struct bytes level_table, uint32_t length, uint64_t load, struct ramyearly_setting_answer wanted);
+void setting_altered_is(const char *name, struct bytes level_table, uint32_t highest, uint32_t length, uint64_t load,
+    struct ramyearly_setting_answer wanted);
 void spare_is(const char *name, struct bytes level_table, struct bytes job_table, uint32_t start, uint32_t end, struct ramyearly_spare_answer wanted);
+void spare_altered_is(const char *name, struct bytes level_table, struct bytes job_table, struct parameters parameters, uint32_t start, uint32_t end,
+    struct ramyearly_spare_answer wanted);
 void fits_is(const char *name, struct bytes level_table, struct bytes job_table, struct bytes plan_table, struct ramyearly_fits_answer wanted);
 void fits_marked_is(const char *name, struct bytes level_table, struct bytes job_table, struct bytes mark_table, struct bytes plan_table,
     struct ramyearly_fits_answer wanted);
+void fits_altered_is(const char *name, struct bytes level_table, struct bytes job_table, struct bytes mark_table, struct parameters parameters,
+    struct bytes plan_table, struct ramyearly_fits_answer wanted);
 void check_is(const char *name, struct bytes level_table, struct bytes job_table, struct bytes plan_table, struct bytes price_list,
     struct ramyearly_check_answer wanted);
 void check_marked_is(const char *name, struct bytes level_table, struct bytes job_table, struct bytes mark_table, struct bytes plan_table,
     struct bytes price_list, struct ramyearly_check_answer wanted);
+void check_altered_is(const char *name, struct bytes level_table, struct bytes job_table, struct bytes mark_table, struct parameters parameters,
+    struct bytes plan_table, struct bytes price_list, struct ramyearly_check_answer wanted);
 /* Plans with buffers of the given lengths; without a plan they must stay as they were. */
 struct lent plan_is(const char *name, struct bytes level_table, struct bytes job_table, size_t plan_length, size_t prices_length, size_t shares_length,
     struct ramyearly_plan_answer wanted);
 struct lent plan_marked_is(const char *name, struct bytes level_table, struct bytes job_table, struct bytes mark_table, size_t plan_length,
     size_t prices_length, size_t shares_length, struct ramyearly_plan_answer wanted);
+struct lent plan_altered_is(const char *name, struct bytes level_table, struct bytes job_table, struct bytes mark_table, struct parameters parameters,
+    size_t plan_length, size_t prices_length, size_t shares_length, struct ramyearly_plan_answer wanted);
 /* What planning wrote is this plan, these prices and these shares, and it wrote nothing else. */
 void written_is(const char *name, struct lent found, struct bytes plan, struct bytes prices, const uint32_t *shares, size_t count);
 /* Lays out tasks into a job buffer of the given length. These jobs must be written, none where the tasks are refused, and
@@ -79,10 +100,15 @@ struct bytes order_is(const char *name, struct bytes level_table, struct bytes j
     size_t ordered_length, struct ramyearly_order_answer wanted, struct bytes ordered_plan);
 struct bytes order_marked_is(const char *name, struct bytes level_table, struct bytes job_table, struct bytes mark_table, struct bytes plan_table,
     struct bytes price_list, size_t ordered_length, struct ramyearly_order_answer wanted, struct bytes ordered_plan);
+struct bytes order_altered_is(const char *name, struct bytes level_table, struct bytes job_table, struct bytes mark_table,
+    struct parameters parameters, struct bytes plan_table, struct bytes price_list, size_t ordered_length, struct ramyearly_order_answer wanted,
+    struct bytes ordered_plan);
 void order_refused(const char *name, struct bytes level_table, struct bytes job_table, struct bytes plan_table, struct bytes price_list,
     size_t ordered_length, uint32_t number, uint32_t place);
 void order_marked_refused(const char *name, struct bytes level_table, struct bytes job_table, struct bytes mark_table, struct bytes plan_table,
     struct bytes price_list, size_t ordered_length, uint32_t number, uint32_t place);
+void order_altered_refused(const char *name, struct bytes level_table, struct bytes job_table, struct bytes mark_table, struct parameters parameters,
+    struct bytes plan_table, struct bytes price_list, size_t ordered_length, uint32_t number, uint32_t place);
 
 /* Lists what touches a span, into lists of the given lengths. Exactly the wanted numbers must be written, and what stands before
  * and after them must stay. */
@@ -90,11 +116,16 @@ void touching_is(const char *name, struct bytes job_table, struct bytes plan_tab
     const struct touched *wanted);
 void touching_marked_is(const char *name, struct bytes job_table, struct bytes mark_table, struct bytes plan_table, uint32_t start, uint32_t end,
     struct room room, const struct touched *wanted);
+/* Of the parameters touching takes free ticks and margin. */
+void touching_altered_is(const char *name, struct bytes job_table, struct bytes mark_table, struct parameters parameters, struct bytes plan_table,
+    uint32_t start, uint32_t end, struct room room, const struct touched *wanted);
 /* All three lists must stay. */
 void touching_refused(const char *name, struct bytes job_table, struct bytes plan_table, uint32_t start, uint32_t end, struct room room,
     uint32_t number, uint32_t place);
 void touching_marked_refused(const char *name, struct bytes job_table, struct bytes mark_table, struct bytes plan_table, uint32_t start,
     uint32_t end, struct room room, uint32_t number, uint32_t place);
+void touching_altered_refused(const char *name, struct bytes job_table, struct bytes mark_table, struct parameters parameters,
+    struct bytes plan_table, uint32_t start, uint32_t end, struct room room, uint32_t number, uint32_t place);
 
 /* rounds.c: the cases of laying out tasks. */
 void rounds(void);
@@ -110,5 +141,9 @@ void marks(void);
 void boards(void);
 /* fits.c: the cases of whether a plan fits. */
 void fits(void);
+/* parameters.c: the cases of site parameters. */
+void parameters(void);
+/* parameter_refusals.c: the cases where they are refused. */
+void parameter_refusals(void);
 
 #endif
