@@ -8,6 +8,7 @@
 #include "exact.h"
 #include "loads.h"
 #include "other.h"
+#include "parameters.h"
 #include "sites.h"
 #include "spans.h"
 
@@ -15,7 +16,8 @@ enum { FIRST, SECOND, BOARDS };
 
 /* The tables of both boards; the plan that planning writes, and the one that is checked on both. */
 static struct table levels[BOARDS], jobs, marks, plan, prices, ordered[BOARDS];
-static const struct site_tables boards[BOARDS] = { { &levels[FIRST], &jobs, &marks }, { &levels[SECOND], &jobs, &marks } };
+static struct site_tables boards[BOARDS]
+    = { { .levels = &levels[FIRST], .jobs = &jobs, .marks = &marks }, { .levels = &levels[SECOND], .jobs = &jobs, .marks = &marks } };
 static struct plan planned_steps, steps;
 static struct prices planned_list, list;
 
@@ -35,13 +37,13 @@ static struct paper_site light_or_any_site(struct numbers *numbers)
 static void ask_both(struct numbers *numbers, const struct paper_site *site)
 {
     uint32_t length = any_length(numbers);
-    uint64_t load = any_load(numbers, &site->levels, length);
+    uint64_t load = any_load(numbers, &site->given.levels, length);
     struct window window = any_span(numbers, site);
     struct buffer_lengths buffers = one_in(numbers, 4) ? any_buffers(numbers, site) : enough(site);
     compare_boards(numbers, &boards[FIRST], &boards[SECOND], (struct questions) { length, load, window, buffers });
     for (unsigned b = 0; b < BOARDS; b++) {
-        compare_setting(numbers, &levels[b], length, load);
-        compare_spare(numbers, &levels[b], &jobs, window.start, window.end);
+        compare_setting(numbers, &levels[b], boards[b].parameters.highest, length, load);
+        compare_spare(numbers, &boards[b], window.start, window.end);
     }
 }
 
@@ -109,12 +111,23 @@ static void order_both(struct numbers *numbers)
     call_report("two boards");
 }
 
+/* The same site with another board, which has levels above its own highest one: the free ticks and the margin are the same. */
+static struct paper_site with_other_board(struct numbers *numbers, const struct paper_site *site)
+{
+    struct paper_levels board = other_board(numbers, &site->levels);
+    struct paper_given given = { with_higher_levels(numbers, board), site->given.jobs, site->given.parameters };
+    given.parameters.highest = board.count;
+    return site_given(given, site->marks);
+}
+
 void alike_boards(struct numbers *numbers)
 {
     struct paper_site site = light_or_any_site(numbers);
-    struct pair pair = { .site = { site, site_of(other_board(numbers, &site.levels), site.jobs, site.marks) } };
+    struct pair pair = { .site = { site, with_other_board(numbers, &site) } };
     tables_of_site(&site, &levels[FIRST], &jobs, &marks);
-    levels_table(&levels[SECOND], &pair.site[SECOND].levels);
+    levels_table(&levels[SECOND], &pair.site[SECOND].given.levels);
+    for (unsigned b = 0; b < BOARDS; b++)
+        boards[b].parameters = pair.site[b].given.parameters;
     ask_both(numbers, &site);
     plan_both(numbers, &pair);
     for (unsigned i = 0; i < 3; i++) {

@@ -23,8 +23,9 @@ static void change_cell(struct numbers *numbers, const struct paper_site *site, 
 static void change_cycles(struct numbers *numbers, const struct paper_site *site, struct plan *plan)
 {
     unsigned s = any_step(numbers, plan);
-    uint64_t cycles = plan->cycles[s], whole = site->jobs.cycles[plan->cell[s] % 64];
-    plan->cycles[s] = (uint32_t)ONE_OF(numbers, 0, cycles + 1, cycles - 1, whole, whole + 1, UINT32_MAX, any_number(numbers));
+    unsigned job = plan->cell[s] % 64;
+    uint64_t cycles = plan->cycles[s], whole = site->jobs.cycles[job], given = site->given.jobs.cycles[job];
+    plan->cycles[s] = (uint32_t)ONE_OF(numbers, 0, cycles + 1, cycles - 1, whole, whole + 1, given, UINT32_MAX, any_number(numbers));
 }
 
 static void swap_cells(struct plan *plan, unsigned a, unsigned b)
@@ -220,10 +221,10 @@ void change_prices(struct numbers *numbers, const struct paper_site *site, struc
     if (prices->intervals == 0)
         return;
     unsigned i = (unsigned)below(numbers, prices->intervals), other = (unsigned)below(numbers, prices->intervals);
-    uint64_t end = prices->end[i], price = prices->price[i], m = site->points.m;
+    uint64_t end = prices->end[i], given_end = end + site->given.parameters.free_ticks, price = prices->price[i], m = site->points.m;
     switch (below(numbers, 4)) {
     case 0:
-        prices->end[i] = (uint32_t)ONE_OF(numbers, end + 1, end - 1, 0, prices->end[other], UINT32_MAX, any_number(numbers));
+        prices->end[i] = (uint32_t)ONE_OF(numbers, end + 1, end - 1, 0, prices->end[other], given_end, UINT32_MAX, any_number(numbers));
         break;
     case 1:
         prices->price[i] = prices->price[other];

@@ -5,7 +5,13 @@
 #include "numbers.h"
 #include "table.h"
 
-enum { REFUSALS = 34 };
+enum { REFUSALS = 36 };
+
+/* Sites that were altered: by fewer levels, free ticks or a margin; and what came of them. Of the jobs refused by 36, some have an emptied
+ * window and some too many cycles. */
+struct altered_tally {
+    uint64_t fewer_levels, free_ticks, margins, plans, accepted, ordered, touched, emptied, too_many_cycles;
+};
 
 /* What was counted. by_number[0] counts the answers, and by_fits those calls that ask whether a plan fits. Of the plans, some have a
  * mark as a bound, and some have as many intervals or open pairs as there can be. Lists too short are those of touching, of which each
@@ -13,6 +19,7 @@ enum { REFUSALS = 34 };
 struct tally {
     uint64_t calls, plans, accepted, ordered, touched, disagreements, by_number[REFUSALS + 1], by_fits[REFUSALS + 1], too_short[PAPER_LISTS];
     uint64_t cut, most_intervals, most_pairs, least, dearer;
+    struct altered_tally altered;
 };
 
 /* Calls are counted here. */
@@ -23,13 +30,15 @@ extern void (*on_disagreement)(void);
 /* Maps the memory that is lent. Once, before all calls. */
 void compare_start(void);
 
-/* The tables of a site, whether or not they are right. */
+/* The tables of a site and its parameters, whether or not they are right. */
 struct site_tables {
     const struct table *levels, *jobs, *marks;
+    struct paper_parameters parameters;
 };
 
-void compare_setting(struct numbers *numbers, const struct table *levels, uint32_t length, uint64_t load);
-void compare_spare(struct numbers *numbers, const struct table *levels, const struct table *jobs, uint32_t start, uint32_t end);
+void compare_setting(struct numbers *numbers, const struct table *levels, uint32_t highest, uint32_t length, uint64_t load);
+/* Lent are the site's levels and jobs. */
+void compare_spare(struct numbers *numbers, const struct site_tables *site, uint32_t start, uint32_t end);
 /* Answers what the archive did. */
 struct ramyearly_fits_answer compare_fits(struct numbers *numbers, const struct site_tables *site, const struct table *plan);
 /* The same of the check. Whether the plan fits is asked beside it, and both answers are held against each other. */

@@ -28,23 +28,22 @@ static void ask_of_plan(struct paper_tables t, struct window span, struct answer
     a->check = call_check(t, p, r);
     call_count(a->check.number);
     a->fits = call_first_half(t, p, a->check);
-    a->order = ramyearly_order(t.levels.at, t.levels.length, t.jobs.at, t.jobs.length, t.marks.at, t.marks.length, p.at, p.length, r.at, r.length,
-        a->ordered, sizeof a->ordered);
+    a->order = ramyearly_order(SITE_ARGUMENTS(t), p.at, p.length, r.at, r.length, a->ordered, sizeof a->ordered);
     call_count(a->order.number);
-    a->touching = ramyearly_touching(t.jobs.at, t.jobs.length, t.marks.at, t.marks.length, p.at, p.length, span.start, span.end,
-        a->open, COUNT(a->open), a->inside, COUNT(a->inside), a->steps, COUNT(a->steps));
+    a->touching = ramyearly_touching(t.jobs.at, t.jobs.length, t.marks.at, t.marks.length, t.parameters.free_ticks, t.parameters.margin,
+        p.at, p.length, span.start, span.end, a->open, COUNT(a->open), a->inside, COUNT(a->inside), a->steps, COUNT(a->steps));
     call_count(a->touching.number);
 }
 
 static void ask(struct paper_tables t, struct questions questions, struct answers *a)
 {
     memset(a, 0xa5, sizeof *a);
-    a->setting = ramyearly_setting(t.levels.at, t.levels.length, questions.length, questions.load);
+    a->setting = ramyearly_setting(t.levels.at, t.levels.length, t.parameters.highest, questions.length, questions.load);
     call_count(a->setting.number);
-    a->spare = ramyearly_spare(t.levels.at, t.levels.length, t.jobs.at, t.jobs.length, questions.window.start, questions.window.end);
+    a->spare = call_spare(t, questions.window.start, questions.window.end);
     call_count(a->spare.number);
-    a->planning = ramyearly_plan(t.levels.at, t.levels.length, t.jobs.at, t.jobs.length, t.marks.at, t.marks.length,
-        a->plan, questions.buffers.plan, a->prices, questions.buffers.prices, a->shares, questions.buffers.shares);
+    a->planning = ramyearly_plan(SITE_ARGUMENTS(t), a->plan, questions.buffers.plan, a->prices, questions.buffers.prices, a->shares,
+        questions.buffers.shares);
     call_count(a->planning.number);
     ask_of_plan(t, questions.window, a);
 }

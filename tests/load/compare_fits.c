@@ -3,8 +3,7 @@
 struct ramyearly_fits_answer call_fits(struct paper_tables site, struct paper_bytes plan)
 {
     struct ramyearly_fits_answer wanted = paper_fits(site, plan);
-    struct ramyearly_fits_answer found = ramyearly_fits(site.levels.at, site.levels.length, site.jobs.at, site.jobs.length,
-        site.marks.at, site.marks.length, plan.at, plan.length);
+    struct ramyearly_fits_answer found = ramyearly_fits(SITE_ARGUMENTS(site), plan.at, plan.length);
     same("whether it fits: number", found.number, wanted.number);
     same("whether it fits: place", found.place, wanted.place);
     same("whether it fits: energy", (int64_t)found.energy, (int64_t)wanted.energy);

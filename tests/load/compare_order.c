@@ -27,9 +27,8 @@ static struct lent lend(struct numbers *numbers, const struct site_tables *site,
 
 static struct ramyearly_order_answer order(const struct lent *lent, const struct guarded *memory, struct part part)
 {
-    const struct paper_tables *t = &lent->site;
-    return ramyearly_order(t->levels.at, t->levels.length, t->jobs.at, t->jobs.length, t->marks.at, t->marks.length,
-        lent->plan.at, lent->plan.length, lent->prices.at, lent->prices.length, memory->lent + part.start, part.length);
+    return ramyearly_order(SITE_ARGUMENTS(lent->site), lent->plan.at, lent->plan.length, lent->prices.at, lent->prices.length,
+        memory->lent + part.start, part.length);
 }
 
 /* What came out, lent as the plan: it is accepted with the figure of the plan that was given. */
@@ -82,6 +81,7 @@ bool compare_order(struct numbers *numbers, const struct site_tables *site, cons
         table_keep(ordered, written.plan);
         tally->ordered++;
     }
+    call_count_altered(given.site, wanted.number, wanted.place, &tally->altered.ordered);
     if (!call_agrees())
         printf("  a buffer of %zu bytes\n", ordered_length);
     came_out = came_out && call_agrees();

@@ -111,9 +111,8 @@ bool compare_plan(struct numbers *numbers, const struct site_tables *site, struc
     call_begin();
     struct paper_tables t = call_lend_site(numbers, site);
     struct buffers buffers = fill_buffers(numbers, lengths);
-    struct ramyearly_plan_answer found = ramyearly_plan(t.levels.at, t.levels.length, t.jobs.at, t.jobs.length, t.marks.at, t.marks.length,
-        plan_buffer.lent + buffers.plan.start, lengths.plan, prices_buffer.lent + buffers.prices.start, lengths.prices,
-        (uint32_t *)(void *)(shares_buffer.lent + buffers.shares.start), lengths.shares);
+    struct ramyearly_plan_answer found = ramyearly_plan(SITE_ARGUMENTS(t), plan_buffer.lent + buffers.plan.start, lengths.plan,
+        prices_buffer.lent + buffers.prices.start, lengths.prices, (uint32_t *)(void *)(shares_buffer.lent + buffers.shares.start), lengths.shares);
     struct ramyearly_plan_answer wanted = paper_planning(t, lengths.plan, lengths.prices, lengths.shares);
     same("number", found.number, wanted.number);
     same("place", found.place, wanted.place);
@@ -128,6 +127,7 @@ bool compare_plan(struct numbers *numbers, const struct site_tables *site, struc
     } else if (call_agrees()) {
         judge_plan(&buffers, t, found, plan, prices);
     }
+    call_count_altered(t, wanted.number, wanted.place, &tally->altered.plans);
     if (!call_agrees())
         printf("  buffers of %zu bytes, %zu bytes and %zu numbers\n", lengths.plan, lengths.prices, lengths.shares);
     bool planned = found.number == 0 && call_agrees();

@@ -46,14 +46,18 @@ void compare_touching(struct numbers *numbers, const struct site_tables *site, c
 {
     static struct paper_touched touched;
     call_begin();
-    struct paper_bytes j = call_lend(numbers, JOBS, site->jobs), m = call_lend(numbers, MARKS, site->marks), p = call_lend(numbers, PLAN, plan);
+    struct paper_tables t = { .parameters = call_lend_parameters(site->parameters) };
+    t.jobs = call_lend(numbers, JOBS, site->jobs);
+    t.marks = call_lend(numbers, MARKS, site->marks);
+    struct paper_bytes p = call_lend(numbers, PLAN, plan);
     uint8_t seed = any_byte(numbers);
     lend(&open, lengths.open, seed & 1, seed);
     lend(&inside, lengths.inside, seed & 2, seed);
     lend(&steps, lengths.steps, seed & 4, seed);
-    struct ramyearly_touching_answer found = ramyearly_touching(j.at, j.length, m.at, m.length, p.at, p.length, span.start, span.end,
-        numbers_of(&open), lengths.open, numbers_of(&inside), lengths.inside, numbers_of(&steps), lengths.steps);
-    struct ramyearly_touching_answer wanted = paper_touching(j, m, p, span.start, span.end, lengths.open, lengths.inside, lengths.steps, &touched);
+    struct ramyearly_touching_answer found = ramyearly_touching(t.jobs.at, t.jobs.length, t.marks.at, t.marks.length, t.parameters.free_ticks,
+        t.parameters.margin, p.at, p.length, span.start, span.end, numbers_of(&open), lengths.open, numbers_of(&inside), lengths.inside,
+        numbers_of(&steps), lengths.steps);
+    struct ramyearly_touching_answer wanted = paper_touching(t, p, span.start, span.end, lengths.open, lengths.inside, lengths.steps, &touched);
     same("number", found.number, wanted.number);
     same("place", found.place, wanted.place);
     same("open", found.open, wanted.open);
@@ -67,6 +71,7 @@ void compare_touching(struct numbers *numbers, const struct site_tables *site, c
         printf("  from %" PRIu32 " to %" PRIu32 ", lists of %zu, %zu and %zu numbers\n", span.start, span.end, lengths.open, lengths.inside,
             lengths.steps);
     tally->touched += found.number == 0;
+    call_count_altered(t, wanted.number, wanted.place, &tally->altered.touched);
     if (wanted.number == 14)
         tally->too_short[touched.too_short]++;
     call_end("touching", found.number);

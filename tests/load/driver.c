@@ -55,6 +55,19 @@ static void one_case(void)
     run_case(&numbers);
 }
 
+static void add_altered(struct altered_tally *all, const struct altered_tally *one)
+{
+    all->fewer_levels += one->fewer_levels;
+    all->free_ticks += one->free_ticks;
+    all->margins += one->margins;
+    all->plans += one->plans;
+    all->accepted += one->accepted;
+    all->ordered += one->ordered;
+    all->touched += one->touched;
+    all->emptied += one->emptied;
+    all->too_many_cycles += one->too_many_cycles;
+}
+
 static struct tally total(void)
 {
     struct tally all = { .calls = 0 };
@@ -71,6 +84,7 @@ static struct tally total(void)
         all.dearer += one->dearer;
         all.most_intervals += one->most_intervals;
         all.most_pairs += one->most_pairs;
+        add_altered(&all.altered, &one->altered);
         for (unsigned i = 0; i <= REFUSALS; i++) {
             all.by_number[i] += one->by_number[i];
             all.by_fits[i] += one->by_fits[i];
@@ -115,10 +129,21 @@ static bool print_cut_plans(const struct tally *t)
     return t->cut > 0 && t->most_intervals > 0 && t->most_pairs > 0;
 }
 
-/* Of levels, jobs and marks, and 15 to 20. */
+/* Answers whether sites were altered by each parameter and in each operation, and whether 36 had each of its reasons. */
+static bool print_altered(const struct altered_tally *t)
+{
+    printf("altered sites: by fewer levels %" PRIu64 ", by free ticks %" PRIu64 ", by a margin %" PRIu64 "; plans %" PRIu64 ", accepted %" PRIu64
+        ", ordered %" PRIu64 ", touched %" PRIu64 "; jobs refused by an emptied window %" PRIu64 ", by too many cycles %" PRIu64 "\n",
+        t->fewer_levels, t->free_ticks, t->margins, t->plans, t->accepted, t->ordered, t->touched, t->emptied, t->too_many_cycles);
+    return t->fewer_levels > 0 && t->free_ticks > 0 && t->margins > 0 && t->plans > 0 && t->accepted > 0 && t->ordered > 0 && t->touched > 0
+        && t->emptied > 0 && t->too_many_cycles > 0;
+}
+
+/* Of levels, jobs, marks and parameters, and 15 to 20. */
 static bool is_of_fits(unsigned number)
 {
-    return (1 <= number && number <= 10) || (15 <= number && number <= 20) || number == 31 || number == 32 || number == 34;
+    return (1 <= number && number <= 10) || (15 <= number && number <= 20) || number == 31 || number == 32
+        || (34 <= number && number <= 36);
 }
 
 /* Answers whether each refusal of a plan without prices occurred, and whether plans that fit were least and not. */
@@ -148,6 +173,10 @@ static int run(uint64_t calls)
     each = print_short_lists(&all) && each;
     if (!print_fitting(&all)) {
         printf("load: the plans without prices were not of every kind\n");
+        return 1;
+    }
+    if (!print_altered(&all.altered)) {
+        printf("load: the altered sites were not of every kind\n");
         return 1;
     }
     if (!print_cut_plans(&all)) {

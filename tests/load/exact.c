@@ -4,11 +4,11 @@
 #include "call.h"
 
 static struct table levels, jobs, marks, plan, prices;
-static const struct site_tables tables = { &levels, &jobs, &marks };
 
 struct planned plan_exactly(struct numbers *numbers, const struct paper_site *site)
 {
     struct planned planned = { .came_out = false };
+    const struct site_tables tables = { &levels, &jobs, &marks, site->given.parameters };
     tables_of_site(site, &levels, &jobs, &marks);
     if (!compare_plan(numbers, &tables, enough(site), &plan, &prices))
         return planned;

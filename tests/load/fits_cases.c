@@ -10,14 +10,20 @@
 
 /* The site's tables, a plan that fits, and one that is made of it. */
 static struct table levels, jobs, marks, plan, prices;
-static const struct site_tables tables = { &levels, &jobs, &marks };
+static struct site_tables tables = { .levels = &levels, .jobs = &jobs, .marks = &marks };
 static struct plan fitting, steps;
 static struct prices list;
+
+static void make_tables(const struct paper_site *site)
+{
+    tables_of_site(site, &levels, &jobs, &marks);
+    tables.parameters = site->given.parameters;
+}
 
 /* The plan that planning writes, where one comes out. */
 static bool make_fitting(struct numbers *numbers, const struct paper_site *site)
 {
-    tables_of_site(site, &levels, &jobs, &marks);
+    make_tables(site);
     if (!compare_plan(numbers, &tables, enough(site), &plan, &prices))
         return false;
     plan_of_table(&fitting, &plan);
@@ -77,7 +83,7 @@ static void fit_tiny_plan(const struct paper_site *site, bool has_placement, uin
 
 void fit_tiny_site(struct numbers *numbers, const struct paper_site *site, bool has_placement, uint64_t least)
 {
-    tables_of_site(site, &levels, &jobs, &marks);
+    make_tables(site);
     for (unsigned i = 0; i < 3; i++) {
         hand_made_plan(numbers, site, &steps);
         plan_table(&plan, &steps);

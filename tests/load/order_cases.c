@@ -5,19 +5,23 @@
 #include "call.h"
 #include "change.h"
 #include "other.h"
+#include "parameters.h"
 #include "sites.h"
 
-/* The site's tables, a plan for it and what that comes out as; then another plan for the same jobs and marks. */
+/* The site's tables, a plan for it and what that comes out as; then another plan for the same jobs, marks, free ticks and
+ * margin. */
 static struct table levels, jobs, marks, plan, prices, ordered, other_levels, other_plan, other_prices, other_ordered;
-static const struct site_tables tables = { &levels, &jobs, &marks }, other_tables = { &other_levels, &jobs, &marks };
+static struct site_tables tables = { .levels = &levels, .jobs = &jobs, .marks = &marks };
+static struct site_tables other_tables = { .levels = &other_levels, .jobs = &jobs, .marks = &marks };
 static struct plan steps, other_steps;
 static struct prices list, other_list;
 
 /* The plan itself, the plan with some of its shares changed, or one with steps in all open pairs; the steps are in any order.
- * Sometimes it comes with another board of the same type, or with other prices. */
+ * Sometimes it comes with another board of the same type, other levels above the highest one, or other prices. */
 static void make_other(struct numbers *numbers, const struct paper_site *site)
 {
-    struct paper_levels given = one_in(numbers, 4) ? other_board(numbers, &site->levels) : site->levels;
+    struct paper_levels board = one_in(numbers, 4) ? other_board(numbers, &site->levels) : site->levels;
+    struct paper_levels given = with_higher_levels(numbers, board);
     if (one_in(numbers, 4))
         full_plan(numbers, site, &other_steps);
     else
@@ -29,11 +33,14 @@ static void make_other(struct numbers *numbers, const struct paper_site *site)
         change_prices(numbers, site, &other_list);
     change_order(numbers, &other_steps);
     levels_table(&other_levels, &given);
+    other_tables.parameters = tables.parameters;
+    other_tables.parameters.highest = board.count;
     plan_table(&other_plan, &other_steps);
     prices_table(&other_prices, &other_list);
 }
 
-/* Two accepted plans for one job table and the same marks come out equal exactly when every job has the same cycles in every interval. */
+/* Two accepted plans for one job table and the same marks, free ticks and margin come out equal exactly when every job has the same cycles
+ * in every interval. */
 static void order_other(struct numbers *numbers, const struct paper_site *site)
 {
     make_other(numbers, site);
@@ -55,6 +62,7 @@ static struct shape light_shape(struct numbers *numbers)
 static bool make_plan(struct numbers *numbers, const struct paper_site *site, bool light)
 {
     tables_of_site(site, &levels, &jobs, &marks);
+    tables.parameters = site->given.parameters;
     if (!compare_plan(numbers, &tables, enough(site), &plan, &prices))
         return false;
     plan_of_table(&steps, &plan);

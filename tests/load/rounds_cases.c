@@ -5,6 +5,7 @@
 #include "damage.h"
 #include "exact.h"
 #include "marks.h"
+#include "parameters.h"
 #include "sites.h"
 #include "tasks.h"
 
@@ -51,14 +52,14 @@ static uint64_t idle_between(const struct paper_site *round, uint32_t multiple, 
     return (times - 1) * stretch * (uint64_t)paper_idle_power(&round->levels) * paper_gaps(&round->points);
 }
 
-/* The levels, and the jobs that were written, with any marks. */
+/* The levels, and the jobs that were written, with any marks and any parameters that refuse no job. */
 static struct paper_site site_of_round(struct numbers *numbers)
 {
     struct paper_levels given;
     struct paper_jobs released;
     same("the level table is read", paper_read_levels(bytes_of(&levels), &given).number, 0);
     same("the job table is read", paper_read_jobs(bytes_of(&jobs), &released).number, 0);
-    return site_of(given, released, any_marks(numbers, &released));
+    return site_given((struct paper_given) { given, released, fitting_parameters(numbers, &given, &released) }, any_marks(numbers, &released));
 }
 
 /* As often as a job table and its deadlines have room for. */
@@ -68,8 +69,8 @@ static uint64_t most_repeats(const struct paper_jobs *round, uint32_t multiple)
     return by_jobs < by_time ? by_jobs : by_time;
 }
 
-/* Plans the round that was written, and two or more repeats of it, each with marks of its own. They are planned exactly when the
- * round is, and have so many times its least exact energy and that of idling between; where that wraps, both sides wrap alike. */
+/* Plans the round that was written, and two or more repeats of it, each with marks of its own and with the same parameters. They are planned
+ * exactly when the round is, and have so many times its least exact energy and that of idling between; where that wraps, both sides wrap alike. */
 static void plan_repeats(struct numbers *numbers, uint32_t multiple)
 {
     struct paper_site round = site_of_round(numbers);
@@ -78,8 +79,8 @@ static void plan_repeats(struct numbers *numbers, uint32_t multiple)
     if (most < 2)
         return;
     unsigned times = (unsigned)between(numbers, 2, most);
-    struct paper_jobs all_jobs = repeated(&round.jobs, multiple, times);
-    struct paper_site all = site_of(round.levels, all_jobs, any_marks(numbers, &all_jobs));
+    struct paper_jobs all_jobs = repeated(&round.given.jobs, multiple, times);
+    struct paper_site all = site_given((struct paper_given) { round.given.levels, all_jobs, round.given.parameters }, any_marks(numbers, &all_jobs));
     struct planned repeats = plan_exactly(numbers, &all);
     same("the repeated round was planned", repeats.came_out, once.came_out);
     if (once.came_out && repeats.came_out)

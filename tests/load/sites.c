@@ -1,6 +1,7 @@
 #include "sites.h"
 
 #include "marks.h"
+#include "parameters.h"
 
 static void add_level(struct paper_levels *levels, uint64_t frequency, uint64_t voltage)
 {
@@ -223,9 +224,18 @@ struct paper_jobs fitting_jobs(struct numbers *numbers, struct shape shape, cons
     return jobs;
 }
 
+struct paper_site site_given(struct paper_given given, struct paper_marks marks)
+{
+    struct paper_site site = { .given = given, .marks = marks };
+    paper_alter(&site);
+    site.points = paper_points(&site.levels);
+    site.intervals = paper_intervals(&site.jobs, &marks);
+    return site;
+}
+
 struct paper_site site_of(struct paper_levels levels, struct paper_jobs jobs, struct paper_marks marks)
 {
-    return (struct paper_site) { levels, jobs, marks, paper_points(&levels), paper_intervals(&jobs, &marks) };
+    return site_given((struct paper_given) { levels, jobs, unaltered(&levels) }, marks);
 }
 
 struct paper_site tiny_site(struct numbers *numbers)
@@ -236,7 +246,7 @@ struct paper_site tiny_site(struct numbers *numbers)
     struct paper_jobs jobs = windows(numbers, shape);
     for (unsigned j = 0; j < jobs.count; j++)
         jobs.cycles[j] = (uint32_t)between(numbers, 1, PAPER_TINY_CYCLES);
-    return site_of(levels, jobs, any_marks(numbers, &jobs));
+    return site_given(any_given(numbers, levels, jobs), any_marks(numbers, &jobs));
 }
 
 static uint64_t shortest_interval(const struct paper_intervals *intervals)
@@ -263,7 +273,7 @@ struct paper_site light_site(struct numbers *numbers, struct shape shape)
     struct paper_jobs jobs = windows(numbers, shape);
     struct paper_site site = site_of(levels, jobs, any_marks(numbers, &jobs));
     set_light_cycles(numbers, &site);
-    return site;
+    return site_given(any_given(numbers, levels, site.jobs), site.marks);
 }
 
 /* Each job has up to an equal share of what the top frequency does in its window, so that all can be served. */
@@ -288,14 +298,14 @@ static struct paper_site largest_site(struct numbers *numbers)
         set_light_cycles(numbers, &site);
     else
         set_shared_cycles(numbers, &site);
-    return site;
+    return site_given(any_given(numbers, levels, site.jobs), site.marks);
 }
 
 struct paper_site any_site(struct numbers *numbers, struct shape shape)
 {
     struct paper_levels levels = any_levels(numbers);
     struct paper_jobs jobs = one_in(numbers, 6) ? any_jobs(numbers, shape, &levels) : fitting_jobs(numbers, shape, &levels);
-    return site_of(levels, jobs, any_marks(numbers, &jobs));
+    return site_given(any_given(numbers, levels, jobs), any_marks(numbers, &jobs));
 }
 
 struct paper_site large_site(struct numbers *numbers)

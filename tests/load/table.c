@@ -67,8 +67,8 @@ void marks_table(struct table *table, const struct paper_marks *marks)
 
 void tables_of_site(const struct paper_site *site, struct table *levels, struct table *jobs, struct table *marks)
 {
-    levels_table(levels, &site->levels);
-    jobs_table(jobs, &site->jobs);
+    levels_table(levels, &site->given.levels);
+    jobs_table(jobs, &site->given.jobs);
     marks_table(marks, &site->marks);
 }
 

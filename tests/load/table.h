@@ -36,7 +36,7 @@ void table_set(struct table *table, size_t at, unsigned width, uint32_t number);
 void levels_table(struct table *table, const struct paper_levels *levels);
 void jobs_table(struct table *table, const struct paper_jobs *jobs);
 void marks_table(struct table *table, const struct paper_marks *marks);
-/* All three. */
+/* All three, as the site was given. */
 void tables_of_site(const struct paper_site *site, struct table *levels, struct table *jobs, struct table *marks);
 /* A table of that many tasks, even more than are allowed: the given ones, and after the last the same again. */
 void tasks_table(struct table *table, unsigned count, const struct paper_tasks *tasks);

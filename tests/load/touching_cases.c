@@ -4,19 +4,21 @@
 #include "change.h"
 #include "damage.h"
 #include "other.h"
+#include "parameters.h"
 #include "sites.h"
 #include "spans.h"
 
 static struct table levels, jobs, marks, plan, prices;
-static const struct site_tables tables = { &levels, &jobs, &marks };
+static struct site_tables tables = { .levels = &levels, .jobs = &jobs, .marks = &marks };
 static struct plan steps;
 
 /* Around the lengths wanted; or any where the call is refused whatever they are. */
 static struct list_lengths any_lists(struct numbers *numbers, const struct site_tables *given, const struct table *plan_of_jobs, struct window span)
 {
     static struct paper_touched ignored;
-    struct ramyearly_touching_answer wanted = paper_touching(bytes_of(given->jobs), bytes_of(given->marks), bytes_of(plan_of_jobs),
-        span.start, span.end, SIZE_MAX, SIZE_MAX, SIZE_MAX, &ignored);
+    const struct paper_tables bytes = { .jobs = bytes_of(given->jobs), .marks = bytes_of(given->marks), .parameters = given->parameters };
+    struct ramyearly_touching_answer wanted
+        = paper_touching(bytes, bytes_of(plan_of_jobs), span.start, span.end, SIZE_MAX, SIZE_MAX, SIZE_MAX, &ignored);
     struct list_lengths lengths;
     lengths.open = any_buffer(numbers, wanted.open);
     lengths.inside = any_buffer(numbers, wanted.inside);
@@ -58,11 +60,14 @@ void touched_spans(struct numbers *numbers)
 {
     struct paper_site site = one_in(numbers, 4) ? light_site(numbers, small_shape(numbers)) : small_or_large_site(numbers);
     tables_of_site(&site, &levels, &jobs, &marks);
+    tables.parameters = site.given.parameters;
     make_plan(numbers, &site);
     if (one_in(numbers, 24))
         damage_jobs(numbers, &jobs);
     if (one_in(numbers, 24))
         damage_marks(numbers, &marks);
+    if (one_in(numbers, 24))
+        tables.parameters = other_parameters(numbers, &site.given);
     for (unsigned i = 0; i < 6; i++)
         touch_any(numbers, &site, &tables, &plan);
 }

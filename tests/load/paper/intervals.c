@@ -59,11 +59,14 @@ uint64_t paper_length(const struct paper_intervals *intervals, unsigned interval
 
 struct paper_refusal paper_read_site(struct paper_tables tables, struct paper_site *site)
 {
-    struct paper_refusal refusal = paper_read_levels(tables.levels, &site->levels);
+    site->given.parameters = tables.parameters;
+    struct paper_refusal refusal = paper_read_levels(tables.levels, &site->given.levels);
     if (!refusal.number)
-        refusal = paper_read_jobs(tables.jobs, &site->jobs);
+        refusal = paper_read_jobs(tables.jobs, &site->given.jobs);
     if (!refusal.number)
         refusal = paper_read_marks(tables.marks, &site->marks);
+    if (!refusal.number)
+        refusal = paper_alter(site);
     if (!refusal.number) {
         site->points = paper_points(&site->levels);
         site->intervals = paper_intervals(&site->jobs, &site->marks);

@@ -76,10 +76,12 @@ unsigned paper_band(const struct paper_points *points, uint64_t length, uint64_t
     return k;
 }
 
-struct ramyearly_setting_answer paper_setting(struct paper_bytes levels_bytes, uint32_t length, uint64_t load)
+struct ramyearly_setting_answer paper_setting(struct paper_bytes levels_bytes, uint32_t highest, uint32_t length, uint64_t load)
 {
     struct paper_levels levels;
     struct paper_refusal refusal = paper_read_levels(levels_bytes, &levels);
+    if (!refusal.number)
+        refusal = paper_alter_levels(highest, &levels);
     if (refusal.number)
         return (struct ramyearly_setting_answer) { .number = refusal.number, .place = refusal.place };
     if (length < 1 || length > PAPER_TIME)

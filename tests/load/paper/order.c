@@ -60,7 +60,7 @@ static void take_shares(struct paper_bytes plan, uint32_t shares[STEPS])
         shares[paper_step(plan, s).cell] = paper_step(plan, s).cycles;
 }
 
-/* Whether every job has the same cycles in every interval, by two accepted plans for one job table and the same marks. */
+/* Whether every job has the same cycles in every interval, by two accepted plans for one job table and the same marks, free ticks and margin. */
 bool paper_same_shares(struct paper_bytes plan, struct paper_bytes other)
 {
     uint32_t shares[STEPS], others[STEPS];

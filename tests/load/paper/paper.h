@@ -1,4 +1,4 @@
-/* Document 01 and Changes 1 to 3 and 5 to 8 of document 02 in plain C, written from the pages alone, to be held against the archive.
+/* Document 01 and Changes 1 to 3 and 5 to 9 of document 02 in plain C, written from the pages alone, to be held against the archive.
  * It reads tables, lays out tasks, judges plans, puts them in order, lists what touches a span and says when planning must
  * refuse. It does not plan.
  * Nothing here is meant to be fast: each function follows the words of the pages. */
@@ -26,7 +26,8 @@ enum {
     PAPER_CYCLES = 1000000000,
     PAPER_FREQUENCY = 1000,
     PAPER_VOLTAGE = 500,
-    PAPER_DRAW = 65535
+    PAPER_DRAW = 65535,
+    PAPER_MARGIN = 100
 };
 
 /* Tiny sites, whose schedules can be gone through whole. */
@@ -37,9 +38,15 @@ struct paper_bytes {
     size_t length;
 };
 
-/* The tables of a site. */
+/* The site parameters: the highest running level allowed, ticks kept free before each deadline, and a margin on cycles in percent. */
+struct paper_parameters {
+    uint32_t highest, free_ticks, margin;
+};
+
+/* The tables of a site, and its parameters. */
 struct paper_tables {
     struct paper_bytes levels, jobs, marks;
+    struct paper_parameters parameters;
 };
 
 /* Number 0: nothing is refused. */
@@ -83,8 +90,16 @@ struct paper_intervals {
     uint64_t open[PAPER_INTERVALS];
 };
 
-/* The tables, decoded, with what follows from them. */
+/* A site as it is given, before its parameters alter the levels and the jobs. */
+struct paper_given {
+    struct paper_levels levels;
+    struct paper_jobs jobs;
+    struct paper_parameters parameters;
+};
+
+/* The tables, decoded and altered, with what follows from them. */
 struct paper_site {
+    struct paper_given given;
     struct paper_levels levels;
     struct paper_jobs jobs;
     struct paper_marks marks;
@@ -122,6 +137,13 @@ struct paper_refusal paper_read_jobs(struct paper_bytes bytes, struct paper_jobs
 struct paper_refusal paper_read_marks(struct paper_bytes bytes, struct paper_marks *marks);
 bool paper_mark_is_bound(const struct paper_jobs *jobs, uint32_t tick);
 
+/* parameters.c */
+struct paper_refusal paper_alter_levels(uint32_t highest, struct paper_levels *levels);
+uint64_t paper_with_margin(uint64_t cycles, uint32_t margin);
+bool paper_emptied(uint32_t release, uint32_t deadline, uint32_t free_ticks);
+struct paper_refusal paper_alter_jobs(uint32_t free_ticks, uint32_t margin, struct paper_jobs *jobs);
+struct paper_refusal paper_alter(struct paper_site *site);
+
 /* levels.c */
 int64_t paper_idle_power(const struct paper_levels *levels);
 int64_t paper_power(const struct paper_levels *levels, unsigned level);
@@ -129,7 +151,7 @@ struct paper_points paper_points(const struct paper_levels *levels);
 bool paper_same_type(const struct paper_levels *one, const struct paper_levels *other);
 uint32_t paper_top(const struct paper_levels *levels);
 unsigned paper_band(const struct paper_points *points, uint64_t length, uint64_t load);
-struct ramyearly_setting_answer paper_setting(struct paper_bytes levels, uint32_t length, uint64_t load);
+struct ramyearly_setting_answer paper_setting(struct paper_bytes levels, uint32_t highest, uint32_t length, uint64_t load);
 
 /* intervals.c */
 void paper_sort(uint32_t *numbers, unsigned count);
@@ -141,7 +163,7 @@ struct paper_refusal paper_read_site(struct paper_tables tables, struct paper_si
 /* windows.c */
 int64_t paper_spare_of(const struct paper_site *site, uint32_t start, uint32_t end);
 bool paper_overfull(const struct paper_site *site, uint32_t *start, uint32_t *end);
-struct ramyearly_spare_answer paper_spare(struct paper_bytes levels, struct paper_bytes jobs, uint32_t start, uint32_t end);
+struct ramyearly_spare_answer paper_spare(struct paper_tables tables, uint32_t start, uint32_t end);
 
 /* energy.c */
 uint64_t paper_figure(const struct paper_site *site, const struct paper_loads *loads);
@@ -178,8 +200,8 @@ struct ramyearly_order_answer paper_order(struct paper_tables tables, struct pap
 bool paper_same_shares(struct paper_bytes plan, struct paper_bytes other);
 
 /* touching.c */
-struct ramyearly_touching_answer paper_touching(struct paper_bytes jobs, struct paper_bytes marks, struct paper_bytes plan, uint32_t start,
-    uint32_t end, size_t open_length, size_t inside_length, size_t steps_length, struct paper_touched *touched);
+struct ramyearly_touching_answer paper_touching(struct paper_tables tables, struct paper_bytes plan, uint32_t start, uint32_t end,
+    size_t open_length, size_t inside_length, size_t steps_length, struct paper_touched *touched);
 
 /* carrying.c */
 bool paper_carries_out(const struct paper_site *site, struct paper_bytes plan);

@@ -1,4 +1,4 @@
-/* What touches a span of ticks: refusal 33, those of the job table, 34 and 15 to 18, then 14 for the first list that is too short. */
+/* What touches a span of ticks: refusal 33, those of the job table, 34 to 36 and 15 to 18, then 14 for the first list that is too short. */
 #include "paper.h"
 
 /* The ticks from the first up to, not including, the end. */
@@ -80,18 +80,21 @@ static struct ramyearly_touching_answer list_too_short(enum paper_list list, uin
     return refuse(14, wanted);
 }
 
-/* Number 0: the numbers that must be written are put there, as many as the answer says. */
-struct ramyearly_touching_answer paper_touching(struct paper_bytes job_bytes, struct paper_bytes mark_bytes, struct paper_bytes plan, uint32_t start,
-    uint32_t end, size_t open_length, size_t inside_length, size_t steps_length, struct paper_touched *touched)
+/* Number 0: the numbers that must be written are put there, as many as the answer says. No levels are read, and the highest one is not
+ * looked at. */
+struct ramyearly_touching_answer paper_touching(struct paper_tables tables, struct paper_bytes plan, uint32_t start, uint32_t end,
+    size_t open_length, size_t inside_length, size_t steps_length, struct paper_touched *touched)
 {
     struct paper_jobs jobs;
     struct paper_marks marks;
     struct ticks span = { start, end };
     if (start >= end || end > PAPER_TIME)
         return refuse(33, 0);
-    struct paper_refusal refusal = paper_read_jobs(job_bytes, &jobs);
+    struct paper_refusal refusal = paper_read_jobs(tables.jobs, &jobs);
     if (!refusal.number)
-        refusal = paper_read_marks(mark_bytes, &marks);
+        refusal = paper_read_marks(tables.marks, &marks);
+    if (!refusal.number)
+        refusal = paper_alter_jobs(tables.parameters.free_ticks, tables.parameters.margin, &jobs);
     if (refusal.number)
         return refuse(refusal.number, refusal.place);
     struct paper_intervals intervals = paper_intervals(&jobs, &marks);

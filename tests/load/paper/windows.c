@@ -44,12 +44,14 @@ bool paper_overfull(const struct paper_site *site, uint32_t *start, uint32_t *en
 }
 
 /* No marks are read, and no intervals are cut. */
-struct ramyearly_spare_answer paper_spare(struct paper_bytes levels, struct paper_bytes jobs, uint32_t start, uint32_t end)
+struct ramyearly_spare_answer paper_spare(struct paper_tables tables, uint32_t start, uint32_t end)
 {
-    struct paper_site site;
-    struct paper_refusal refusal = paper_read_levels(levels, &site.levels);
+    struct paper_site site = { .given = { .parameters = tables.parameters } };
+    struct paper_refusal refusal = paper_read_levels(tables.levels, &site.given.levels);
     if (!refusal.number)
-        refusal = paper_read_jobs(jobs, &site.jobs);
+        refusal = paper_read_jobs(tables.jobs, &site.given.jobs);
+    if (!refusal.number)
+        refusal = paper_alter(&site);
     if (refusal.number)
         return (struct ramyearly_spare_answer) { .number = refusal.number, .place = refusal.place };
     if (start >= end || end > PAPER_TIME)
