@@ -31,28 +31,26 @@ void wrong(const char *who, const char *what)
     exit(1);
 }
 
-typedef __typeof__(ramyearly_plan) planner;
-
-static struct ramyearly_plan_answer plan_with(planner *call, struct buffers *to)
-{
-    return call(site.level_bytes, site.level_length, site.job_bytes, site.job_length, site.mark_bytes, site.mark_length,
-        to->plan, sizeof to->plan, to->prices, sizeof to->prices, to->shares, sizeof to->shares / sizeof *to->shares);
-}
+#define LEVELS site.level_bytes, site.level_length
+#define JOBS site.job_bytes, site.job_length
+#define MARKS site.mark_bytes, site.mark_length
+/* Nothing is altered: all running levels, no free ticks and no margin. */
+#define PARAMETERS site.levels, 0, 0
+#define BUFFERS(to) (to).plan, sizeof (to).plan, (to).prices, sizeof (to).prices, (to).shares, sizeof (to).shares / sizeof *(to).shares
 
 void call_plan(void)
 {
-    planned = plan_with(ramyearly_plan, &ours);
+    planned = ramyearly_plan(LEVELS, JOBS, MARKS, PARAMETERS, BUFFERS(ours));
 }
 
 void call_plain(void)
 {
-    answered = plan_with(plain_plan, &theirs);
+    answered = plain_plan(LEVELS, JOBS, MARKS, BUFFERS(theirs));
 }
 
 static struct ramyearly_fits_answer fitted(const uint8_t *steps)
 {
-    return ramyearly_fits(site.level_bytes, site.level_length, site.job_bytes, site.job_length, site.mark_bytes, site.mark_length,
-        steps, 4 + 6 * planned.steps);
+    return ramyearly_fits(LEVELS, JOBS, MARKS, PARAMETERS, steps, 4 + 6 * planned.steps);
 }
 
 void call_fits(void)
@@ -65,61 +63,68 @@ void call_fits_mixed(void)
     kept = fitted(mixed).energy;
 }
 
-typedef __typeof__(ramyearly_check) checker;
-
-static struct ramyearly_check_answer check_with(checker *call, const uint8_t *steps)
+static struct ramyearly_check_answer checked(const uint8_t *steps)
 {
-    return call(site.level_bytes, site.level_length, site.job_bytes, site.job_length, site.mark_bytes, site.mark_length,
-        steps, 4 + 6 * planned.steps, ours.prices, 2 + 5 * planned.intervals);
+    return ramyearly_check(LEVELS, JOBS, MARKS, PARAMETERS, steps, 4 + 6 * planned.steps, ours.prices, 2 + 5 * planned.intervals);
 }
 
 void call_check(void)
 {
-    kept = check_with(ramyearly_check, ours.plan).energy;
+    kept = checked(ours.plan).energy;
 }
 
 void call_check_mixed(void)
 {
-    kept = check_with(ramyearly_check, mixed).energy;
+    kept = checked(mixed).energy;
 }
 
 #ifdef WITH_BEFORE
-/* They take what ours take: bench/run says of which commits. */
-planner before_plan;
-checker before_check;
+/* They take no parameters: bench/run says of which commits. */
+__typeof__(plain_plan) before_plan;
+struct ramyearly_check_answer before_check(
+    const uint8_t *levels, size_t levels_length,
+    const uint8_t *jobs, size_t jobs_length,
+    const uint8_t *marks, size_t marks_length,
+    const uint8_t *plan, size_t plan_length,
+    const uint8_t *prices, size_t prices_length);
+
+static struct ramyearly_check_answer checked_before(void)
+{
+    return before_check(LEVELS, JOBS, MARKS, ours.plan, 4 + 6 * planned.steps, ours.prices, 2 + 5 * planned.intervals);
+}
 
 void call_plan_before(void)
 {
-    answered = plan_with(before_plan, &theirs);
+    answered = before_plan(LEVELS, JOBS, MARKS, BUFFERS(theirs));
 }
 
 void call_check_before(void)
 {
-    kept = check_with(before_check, ours.plan).energy;
+    kept = checked_before().energy;
 }
 #endif
 
 void call_order(void)
 {
-    kept = ramyearly_order(site.level_bytes, site.level_length, site.job_bytes, site.job_length, site.mark_bytes, site.mark_length,
-        mixed, 4 + 6 * planned.steps, ours.prices, 2 + 5 * planned.intervals, ordered, sizeof ordered).length;
+    kept = ramyearly_order(LEVELS, JOBS, MARKS, PARAMETERS, mixed, 4 + 6 * planned.steps, ours.prices, 2 + 5 * planned.intervals,
+        ordered, sizeof ordered).length;
 }
 
 void call_touching(void)
 {
-    touched = ramyearly_touching(site.job_bytes, site.job_length, site.mark_bytes, site.mark_length,
-        mixed, 4 + 6 * planned.steps, 0, MAX_DEADLINE, open_jobs, MAX_JOBS, inside_jobs, MAX_JOBS, cells, MAX_PAIRS);
+    touched = ramyearly_touching(JOBS, MARKS, 0, 0, mixed, 4 + 6 * planned.steps, 0, MAX_DEADLINE, open_jobs, MAX_JOBS, inside_jobs, MAX_JOBS,
+        cells, MAX_PAIRS);
 }
 
 void call_settings(void)
 {
     for (uint32_t i = 0; i < planned.intervals; i++)
-        kept = ramyearly_setting(site.level_bytes, site.level_length, network.size[i], loads[i]).extra;
+        kept = ramyearly_setting(LEVELS, site.levels, network.size[i], loads[i]).extra;
 }
 
 void call_spare(void)
 {
-    kept = ramyearly_spare(site.level_bytes, site.level_length, site.job_bytes, site.job_length, site.release[0], site.deadline[0]).spare;
+    kept = ramyearly_spare(LEVELS, JOBS, PARAMETERS, site.release[0], site.deadline[0]).spare;
 }
 
 /* The most tasks and jobs there are: 16 tasks of 64 jobs in 20 ticks, one of period 20, three of 4 and twelve of 5. Each has
@@ -188,10 +193,10 @@ static void all_accept(void)
 {
     struct ramyearly_fits_answer f = fitted(ours.plan);
     accepts("fitting", f.number, f.energy);
-    struct ramyearly_check_answer c = check_with(ramyearly_check, ours.plan);
+    struct ramyearly_check_answer c = checked(ours.plan);
     accepts("checking", c.number, c.energy);
 #ifdef WITH_BEFORE
-    c = check_with(before_check, ours.plan);
+    c = checked_before();
     accepts("checking before", c.number, c.energy);
 #endif
 }

@@ -1,5 +1,5 @@
-/* The plain planner: the same operation as ramyearly_plan, with the same algorithm, unproved. It knows no idle entry: no site
- * of the benchmark has one. */
+/* The plain planner: the same operation as ramyearly_plan, with the same algorithm, unproved. It knows no idle entry and no site
+ * parameters: no site of the benchmark has an entry, or parameters that alter anything. */
 #ifndef PLAIN_H
 #define PLAIN_H
 
