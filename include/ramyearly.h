@@ -24,14 +24,15 @@
  * the tables after these are read, and the function then works on the altered tables:
  *   highest     the highest running level allowed, 1 to the number of running levels, which is that of the entries without the idle
  *               entry: the first `highest` running levels stay, and so does the idle entry
- *   free_ticks  the ticks kept free before each deadline, 0 to 1,000,000: every deadline is earlier by them, and no release is
+ *   free_ticks  the ticks kept free before each deadline, 0 to 1,000,000: every deadline is earlier by them
  *   margin      the margin on cycles in percent, 0 to 100: each job has margin x cycles / 100 more, rounded up, job by job
- * Marks are not altered; those strictly between earliest release and latest altered deadline cut. A parameter out of its range,
- * whether or not it would alter anything, gives 35 with place 0, right after the refusals of the tables and before all others. Then
- * 36 names the first job, its place, whose window is empty by then, its altered deadline not after its release, or whose altered
- * cycles are above 1,000,000,000. All running levels with 0 and 0 alter nothing. What is said below of levels, of the top and the
- * working frequencies, of jobs with their deadlines and cycles, of intervals and of every schedule that a plan is compared with is
- * said of the altered tables. A plan and its price list go with the parameters that they were made for, as they do with the marks.
+ * Releases and marks are not altered; a mark strictly between earliest release and latest altered deadline is a bound. A parameter out
+ * of its range, whether or not it would alter anything, gives 35 with place 0, right after the refusals of the tables and before all
+ * others but 33 of ramyearly_touching, which stays first. Then 36 names the first job, its place, whose window is emptied, its altered
+ * deadline not after its release, or whose altered cycles are above 1,000,000,000. All running levels with 0 and 0 alter nothing. What
+ * this header says of levels, of the top and the working frequencies, of jobs with their deadlines and cycles, of intervals, and of every
+ * schedule that a plan is compared with is said of the altered tables. A plan and its price list go with the parameters that they were
+ * made for, as they do with the marks.
  *
  * No function uses a heap or writable static data. The deepest stack that was measured, on x86-64, is 13 kB for ordering, 12 kB
  * for checking, 11 kB for planning and for whether a plan fits, 6 kB for touching, 3 kB for the spare, and 2 kB for the setting and

@@ -29,9 +29,10 @@ struct paper_jobs any_jobs(struct numbers *numbers, struct shape shape, const st
 struct paper_site site_given(struct paper_given given, struct paper_marks marks);
 /* A site of tables that nothing alters. */
 struct paper_site site_of(struct paper_levels levels, struct paper_jobs jobs, struct paper_marks marks);
-/* Half of the sites below are given with parameters that alter something.
- *
- * A site whose placements and schedules can be gone through whole. */
+
+/* Half of the sites that are made here are given with parameters that alter something. */
+
+/* A site whose placements and schedules can be gone through whole. */
 struct paper_site tiny_site(struct numbers *numbers);
 /* Its jobs are so light that all loads stay in band 1, mostly whichever plan it has: then each is a least one. */
 struct paper_site light_site(struct numbers *numbers, struct shape shape);
