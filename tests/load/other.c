@@ -96,7 +96,8 @@ void band_prices(const struct paper_site *site, const struct plan *plan, struct 
 {
     uint64_t load[PAPER_INTERVALS] = { 0 };
     for (unsigned s = 0; s < plan->steps; s++)
-        load[plan->cell[s] / 64] += plan->cycles[s];
+        if (plan->cell[s] / 64 < site->intervals.count)
+            load[plan->cell[s] / 64] += plan->cycles[s];
     prices->intervals = site->intervals.count;
     for (unsigned i = 0; i < prices->intervals; i++) {
         prices->end[i] = site->intervals.bound[i + 1];

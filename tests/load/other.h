@@ -13,7 +13,7 @@ void first_plan(const struct paper_site *site, struct plan *plan);
 void full_plan(struct numbers *numbers, const struct paper_site *site, struct plan *plan);
 /* One of these three. */
 void hand_made_plan(struct numbers *numbers, const struct paper_site *site, struct plan *plan);
-/* The band of each load as the price, m where it is overloaded. */
+/* The band of each load as the price, m where it is overloaded. A step in an interval that the site does not have counts for none. */
 void band_prices(const struct paper_site *site, const struct plan *plan, struct prices *prices);
 
 #endif
