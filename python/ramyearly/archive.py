@@ -8,6 +8,7 @@ import functools
 import os
 
 from .errors import Trouble
+from .parameters import UNALTERED
 
 ROOT = os.path.dirname(os.path.dirname(os.path.dirname(os.path.abspath(__file__))))
 # In a release, and in the repository after a build.
@@ -76,17 +77,19 @@ class TouchingAnswer(ctypes.Structure):
 
 TABLE = (ctypes.c_char_p, ctypes.c_size_t)
 BUFFER = (ctypes.c_void_p, ctypes.c_size_t)
+NUMBER = (ctypes.c_uint32,)
+SITE = TABLE * 3 + NUMBER * 3  # levels, jobs, marks and the parameters
 
 # For each function what it answers and what it is lent, as in the header.
 FUNCTIONS = {
-    "ramyearly_check": (CheckAnswer, TABLE * 5),
-    "ramyearly_fits": (FitsAnswer, TABLE * 4),
-    "ramyearly_setting": (SettingAnswer, TABLE + (ctypes.c_uint32, ctypes.c_uint64)),
-    "ramyearly_spare": (SpareAnswer, TABLE * 2 + (ctypes.c_uint32, ctypes.c_uint32)),
-    "ramyearly_plan": (PlanAnswer, TABLE * 3 + BUFFER * 3),
+    "ramyearly_check": (CheckAnswer, SITE + TABLE * 2),
+    "ramyearly_fits": (FitsAnswer, SITE + TABLE),
+    "ramyearly_setting": (SettingAnswer, TABLE + NUMBER * 2 + (ctypes.c_uint64,)),
+    "ramyearly_spare": (SpareAnswer, TABLE * 2 + NUMBER * 5),
+    "ramyearly_plan": (PlanAnswer, SITE + BUFFER * 3),
     "ramyearly_rounds": (RoundsAnswer, TABLE + BUFFER),
-    "ramyearly_order": (OrderAnswer, TABLE * 5 + BUFFER),
-    "ramyearly_touching": (TouchingAnswer, TABLE * 3 + (ctypes.c_uint32, ctypes.c_uint32) + BUFFER * 3),
+    "ramyearly_order": (OrderAnswer, SITE + TABLE * 2 + BUFFER),
+    "ramyearly_touching": (TouchingAnswer, TABLE * 2 + NUMBER * 2 + TABLE + NUMBER * 2 + BUFFER * 3),
 }
 
 
@@ -123,20 +126,31 @@ def tables(*tables_in_bytes):
     return [word for data in tables_in_bytes for word in (data, len(data))]
 
 
-def check(levels, jobs, marks, plan, prices):
-    return library().ramyearly_check(*tables(levels, jobs, marks, plan, prices))
+def numbers(levels, parameters):
+    """The three numbers for this level table."""
+    return parameters.allowed(levels), parameters.free, parameters.margin
 
 
-def fits(levels, jobs, marks, plan):
-    return library().ramyearly_fits(*tables(levels, jobs, marks, plan))
+def site(levels, jobs, marks, parameters=UNALTERED):
+    """What an operation is lent of a site."""
+    return [*tables(levels, jobs, marks), *numbers(levels, parameters)]
 
 
-def setting(levels, length, load):
-    return library().ramyearly_setting(*tables(levels), length, load)
+def check(levels, jobs, marks, plan, prices, parameters=UNALTERED):
+    return library().ramyearly_check(*site(levels, jobs, marks, parameters), *tables(plan, prices))
 
 
-def spare(levels, jobs, start, end):
-    return library().ramyearly_spare(*tables(levels, jobs), start, end)
+def fits(levels, jobs, marks, plan, parameters=UNALTERED):
+    return library().ramyearly_fits(*site(levels, jobs, marks, parameters), *tables(plan))
+
+
+def setting(levels, length, load, parameters=UNALTERED):
+    """Of the parameters the highest level is taken."""
+    return library().ramyearly_setting(*tables(levels), parameters.allowed(levels), length, load)
+
+
+def spare(levels, jobs, start, end, parameters=UNALTERED):
+    return library().ramyearly_spare(*tables(levels, jobs), *numbers(levels, parameters), start, end)
 
 
 # For each function that writes, its buffers in their order: the refusal that says that one is too short, and its elements.
@@ -172,9 +186,9 @@ def shorter_than_wanted(answer, kinds, lengths):
     return [which for which, (number, _) in enumerate(kinds) if number == answer.number and lengths[which] < answer.place]
 
 
-def plan(levels, jobs, marks):
+def plan(levels, jobs, marks, parameters=UNALTERED):
     """Plans: the answer, and the buffers of plan, prices and shares."""
-    return call(library().ramyearly_plan, tables(levels, jobs, marks), PLAN_BUFFERS)
+    return call(library().ramyearly_plan, site(levels, jobs, marks, parameters), PLAN_BUFFERS)
 
 
 def rounds(tasks):
@@ -182,11 +196,14 @@ def rounds(tasks):
     return call(library().ramyearly_rounds, tables(tasks), ROUNDS_BUFFERS)
 
 
-def order(levels, jobs, marks, plan, prices):
+def order(levels, jobs, marks, plan, prices, parameters=UNALTERED):
     """Orders a plan's steps: the answer, and the buffer of the ordered plan."""
-    return call(library().ramyearly_order, tables(levels, jobs, marks, plan, prices), ORDER_BUFFERS)
+    lent = [*site(levels, jobs, marks, parameters), *tables(plan, prices)]
+    return call(library().ramyearly_order, lent, ORDER_BUFFERS)
 
 
-def touching(jobs, marks, plan, start, end):
-    """Lists what touches a span: the answer, and the lists of open jobs, of jobs inside and of the steps' cells."""
-    return call(library().ramyearly_touching, [*tables(jobs, marks, plan), start, end], TOUCHING_BUFFERS)
+def touching(jobs, marks, plan, start, end, parameters=UNALTERED):
+    """Lists what touches a span: the answer, and the lists of open jobs, of jobs inside and of the steps' cells. Of the
+    parameters the free ticks and the margin are taken."""
+    lent = [*tables(jobs, marks), parameters.free, parameters.margin, *tables(plan), start, end]
+    return call(library().ramyearly_touching, lent, TOUCHING_BUFFERS)

@@ -6,12 +6,17 @@ entry (0, draw): idling then draws 1,000 x draw in each tick, and without it not
 each one strictly between the earliest release and the latest deadline bounds intervals as these do, and others have no
 effect. A refusal is raised as Refused, or as Overfull where no schedule meets all deadlines. A number that has no room in the
 tables is a ValueError.
+
+Three numbers may come with a site, by name: highest, the highest running level allowed, counted from 1 without the idle entry
+(None allows all); free, the ticks kept free before each deadline; and margin, the percent put on the cycles of each job,
+rounded up. Every answer is about the tables that they make of the ones given, and left out they alter nothing.
 """
 
 from typing import NamedTuple
 
 from . import archive, tables
-from .calls import Call, interval_spans
+from .calls import Call, altered_jobs, interval_spans
+from .parameters import UNALTERED, Parameters, with_room
 from .refusals import overfull, refused
 from .tables import check_room, entries_of
 
@@ -29,8 +34,8 @@ class Planned(NamedTuple):
 
 
 class Ordered(NamedTuple):
-    """A plan with its steps in cell order. Two plans for the same jobs and the same marks come out equal exactly where every
-    job has the same cycles in every interval."""
+    """A plan with its steps in cell order. Two plans for the same jobs, marks, free ticks and margin come out equal exactly where
+    every job has the same cycles in every interval."""
 
     steps: list  # (interval, job, cycles), interval by interval and within it by job
     plan_bytes: bytes  # the same plan as the kernel loads it
@@ -79,17 +84,18 @@ def plan_table(intervals, steps):
     return tables.to_bytes(tables.join_cells(steps), tables.PLAN, sizes=(intervals,))
 
 
-def plan(levels, jobs, *, marks=()):
+def plan(levels, jobs, *, marks=(), highest=None, free=0, margin=0):
     """A plan that no schedule beats which meets all deadlines, with the prices that show it. Levels may begin with
     (0, draw); every schedule pays the draw where it idles, and the energy figure has it for the whole time. Marks cut
-    intervals, and the least energy is the same with them as without."""
-    return plan_tables(level_table(levels), job_table(jobs), mark_table(marks))
+    intervals, and the least energy is the same with them as without. With parameters the schedules, the deadlines and the
+    cycles are those of the altered tables."""
+    return plan_tables(level_table(levels), job_table(jobs), mark_table(marks), with_room(highest, free, margin))
 
 
-def plan_tables(levels, jobs, marks):
+def plan_tables(levels, jobs, marks, parameters=UNALTERED):
     """Plans a site whose tables are bytes."""
-    answer, plan_buffer, price_buffer, shares = archive.plan(levels, jobs, marks)
-    call = Call(levels, jobs, marks)
+    answer, plan_buffer, price_buffer, shares = archive.plan(levels, jobs, marks, parameters)
+    call = Call(levels, jobs, marks, parameters=parameters)
     if answer.number == 11:
         raise overfull(answer, call)
     if answer.number:
@@ -110,10 +116,11 @@ def plan_tables(levels, jobs, marks):
     )
 
 
-def check(levels, jobs, steps, prices, *, marks=()):
+def check(levels, jobs, steps, prices, *, marks=(), highest=None, free=0, margin=0):
     """The energy figure of a plan that is accepted with its prices. A plan has as many intervals as there are prices, and
-    its marks are those that it was made with. Levels may begin with (0, draw)."""
-    return check_tables(level_table(levels), job_table(jobs), mark_table(marks), *plan_and_prices(steps, prices))
+    its marks and parameters are those that it was made with. Levels may begin with (0, draw)."""
+    tables_in_bytes = level_table(levels), job_table(jobs), mark_table(marks), *plan_and_prices(steps, prices)
+    return check_tables(*tables_in_bytes, with_room(highest, free, margin))
 
 
 def plan_and_prices(steps, prices):
@@ -121,74 +128,80 @@ def plan_and_prices(steps, prices):
     return plan_table(len(prices), steps), tables.to_bytes(prices, tables.PRICES)
 
 
-def check_tables(levels, jobs, marks, plan_bytes, price_bytes):
+def check_tables(levels, jobs, marks, plan_bytes, price_bytes, parameters=UNALTERED):
     """Checks a plan and its price list that are bytes."""
-    answer = archive.check(levels, jobs, marks, plan_bytes, price_bytes)
+    call = Call(levels, jobs, marks, plan_bytes, price_bytes, parameters=parameters)
+    answer = archive.check(levels, jobs, marks, plan_bytes, price_bytes, parameters)
     if answer.number:
-        raise refused(answer.number, answer.place, Call(levels, jobs, marks, plan_bytes, price_bytes))
+        raise refused(answer.number, answer.place, call)
     return answer.energy
 
 
-def fits(levels, jobs, plan, *, marks=()):
+def fits(levels, jobs, plan, *, marks=(), highest=None, free=0, margin=0):
     """The energy figure of a plan that fits: it gives each job exactly its cycles between release and deadline and, carried out,
     meets all deadlines. Whether another schedule needs less energy is not said: that is what check says, with prices. A plan is
-    (intervals, steps): how many intervals it has, and its steps, in any order. Its marks are those that it was made with.
-    Levels may begin with (0, draw)."""
-    return fits_tables(level_table(levels), job_table(jobs), mark_table(marks), plan_table(*plan))
+    (intervals, steps): how many intervals it has, and its steps, in any order. Its marks and parameters are those that it was
+    made with. Levels may begin with (0, draw)."""
+    tables_in_bytes = level_table(levels), job_table(jobs), mark_table(marks), plan_table(*plan)
+    return fits_tables(*tables_in_bytes, with_room(highest, free, margin))
 
 
-def fits_tables(levels, jobs, marks, plan_bytes):
+def fits_tables(levels, jobs, marks, plan_bytes, parameters=UNALTERED):
     """The energy figure of a plan that fits, of tables that are bytes."""
-    answer = archive.fits(levels, jobs, marks, plan_bytes)
+    answer = archive.fits(levels, jobs, marks, plan_bytes, parameters)
     if answer.number:
-        raise refused(answer.number, answer.place, Call(levels, jobs, marks, plan_bytes))
+        raise refused(answer.number, answer.place, Call(levels, jobs, marks, plan_bytes, parameters=parameters))
     return answer.energy
 
 
-def spans_of_tables(levels, jobs, marks):
+def spans_of_tables(levels, jobs, marks, parameters=UNALTERED):
     """From and to of each interval of a site whose tables are bytes. Wrong tables are refused: the archive does so before it
     reads a plan, and so without one, which is then what it refuses."""
-    answer = archive.fits(levels, jobs, marks, b"")
+    answer = archive.fits(levels, jobs, marks, b"", parameters)
     if answer.number != 15:
-        raise refused(answer.number, answer.place, Call(levels, jobs, marks))
-    return interval_spans(jobs, marks)
+        raise refused(answer.number, answer.place, Call(levels, jobs, marks, parameters=parameters))
+    return interval_spans(altered_jobs(jobs, parameters), marks)
 
 
-def order(levels, jobs, steps, prices, *, marks=()):
+def order(levels, jobs, steps, prices, *, marks=(), highest=None, free=0, margin=0):
     """A plan that is accepted with its prices, with its steps in cell order; the prices are those of the ordered plan too.
-    A plan has as many intervals as there are prices, and its marks are those that it was made with. Levels may begin with
-    (0, draw)."""
-    return order_tables(level_table(levels), job_table(jobs), mark_table(marks), *plan_and_prices(steps, prices))
+    A plan has as many intervals as there are prices, and its marks and parameters are those that it was made with. Levels may
+    begin with (0, draw)."""
+    tables_in_bytes = level_table(levels), job_table(jobs), mark_table(marks), *plan_and_prices(steps, prices)
+    return order_tables(*tables_in_bytes, with_room(highest, free, margin))
 
 
-def order_tables(levels, jobs, marks, plan_bytes, price_bytes):
+def order_tables(levels, jobs, marks, plan_bytes, price_bytes, parameters=UNALTERED):
     """Orders a plan that is bytes, as is its price list."""
-    answer, buffer = archive.order(levels, jobs, marks, plan_bytes, price_bytes)
+    call = Call(levels, jobs, marks, plan_bytes, price_bytes, parameters=parameters)
+    answer, buffer = archive.order(levels, jobs, marks, plan_bytes, price_bytes, parameters)
     if answer.number:
-        raise refused(answer.number, answer.place, Call(levels, jobs, marks, plan_bytes, price_bytes))
+        raise refused(answer.number, answer.place, call)
     ordered_bytes = bytes(buffer)[: answer.length]
     return Ordered(tables.split_cells(entries_of(ordered_bytes, tables.PLAN)), ordered_bytes)
 
 
-def touching(jobs, plan, start, end, *, marks=()):
+def touching(jobs, plan, start, end, *, marks=(), free=0, margin=0):
     """What touches the span of ticks from start up to, not including, end. A plan is (intervals, steps): how many intervals
-    it has, and its steps, in any order. What its steps add to is no matter here. Its marks are those that it was made
-    with."""
+    it has, and its steps, in any order. What its steps add to is no matter here. Its marks and parameters are those that it was
+    made with."""
     span = check_room(start, "start", 32), check_room(end, "end", 32)
-    return touching_tables(job_table(jobs), mark_table(marks), plan_table(*plan), *span)
+    tables_in_bytes = job_table(jobs), mark_table(marks), plan_table(*plan)
+    return touching_tables(*tables_in_bytes, *span, with_room(free=free, margin=margin))
 
 
-def touching_tables(jobs, marks, plan_bytes, start, end):
+def touching_tables(jobs, marks, plan_bytes, start, end, parameters=UNALTERED):
     """What touches a span, of jobs, marks and a plan that are bytes."""
-    answer, open_jobs, inside_jobs, cells = archive.touching(jobs, marks, plan_bytes, start, end)
+    call = Call(jobs=jobs, marks=marks, plan=plan_bytes, start=start, end=end, parameters=parameters)
+    answer, open_jobs, inside_jobs, cells = archive.touching(jobs, marks, plan_bytes, start, end, parameters)
     if answer.number:
-        raise refused(answer.number, answer.place, Call(jobs=jobs, marks=marks, plan=plan_bytes, start=start, end=end))
+        raise refused(answer.number, answer.place, call)
     cycles = dict(entries_of(plan_bytes, tables.PLAN))
     return Touched(
         open_jobs=open_jobs[: answer.open],
         inside_jobs=inside_jobs[: answer.inside],
         steps=tables.split_cells([(cell, cycles[cell]) for cell in cells[: answer.steps]]),
-        spans=interval_spans(jobs, marks),
+        spans=interval_spans(altered_jobs(jobs, parameters), marks),
         deadline=answer.deadline or None,  # no deadline is 0
     )
 
@@ -200,44 +213,48 @@ def check_span(start, end):
         raise refused(answer.number, answer.place, Call(start=start, end=end))
 
 
-def setting(levels, length, load):
+def setting(levels, length, load, *, highest=None):
     """The setting of one interval of this length with this load; zeros for load 0. Levels may begin with (0, draw), and
     the draw is one of the powers that decide which levels work."""
-    return setting_of(level_table(levels), check_room(length, "length", 32), check_room(load, "load", 64))
+    length, load = check_room(length, "length", 32), check_room(load, "load", 64)
+    return setting_of(level_table(levels), length, load, with_room(highest))
 
 
-def setting_of(levels, length, load):
-    answer = archive.setting(levels, length, load)
+def setting_of(levels, length, load, parameters=UNALTERED):
+    answer = archive.setting(levels, length, load, parameters)
     if answer.number:
-        raise refused(answer.number, answer.place, Call(levels=levels, length=length, load=load))
+        raise refused(answer.number, answer.place, Call(levels=levels, length=length, load=load, parameters=parameters))
     return Setting(answer.band, answer.extra, answer.gap)
 
 
-def spare(levels, jobs, start, end):
+def spare(levels, jobs, start, end, *, highest=None, free=0, margin=0):
     """The spare of a window, negative where it is overfull. Levels may begin with (0, draw), which is no matter here."""
-    return spare_of(level_table(levels), job_table(jobs), check_room(start, "start", 32), check_room(end, "end", 32))
+    span = check_room(start, "start", 32), check_room(end, "end", 32)
+    return spare_of(level_table(levels), job_table(jobs), *span, with_room(highest, free, margin))
 
 
-def spare_of(levels, jobs, start, end):
-    answer = archive.spare(levels, jobs, start, end)
+def spare_of(levels, jobs, start, end, parameters=UNALTERED):
+    answer = archive.spare(levels, jobs, start, end, parameters)
     if answer.number:
-        raise refused(answer.number, answer.place, Call(levels=levels, jobs=jobs, start=start, end=end))
+        raise refused(answer.number, answer.place, Call(levels, jobs, start=start, end=end, parameters=parameters))
     return answer.spare
 
 
-def working_frequencies(levels):
-    """The frequencies of the levels that work, rising. Boards of which they are the same take the same plans with the same
-    prices, and differ in their energy figures. Levels may begin with (0, draw)."""
-    return working_frequencies_of(level_table(levels))
+def working_frequencies(levels, *, highest=None):
+    """The frequencies of the levels that work, rising, among those that are allowed. Boards of which they are the same take the
+    same plans with the same prices, and differ in their energy figures. Levels may begin with (0, draw)."""
+    return working_frequencies_of(level_table(levels), with_room(highest))
 
 
-def working_frequencies_of(levels):
+def working_frequencies_of(levels, parameters=UNALTERED):
     """The working frequencies of levels that are bytes. The archive says which: the band of one cycle more than a working
-    frequency gives in a tick leads, by its gap, to the next, and the top frequency is the last."""
-    top = spare_of(levels, tables.NO_JOBS, 0, 1)
+    frequency gives in a tick leads, by its gap, to the next, and the top frequency is the last. Jobs have no part in it, and of the
+    parameters the highest level alone."""
+    highest = Parameters(highest=parameters.highest)
+    top = spare_of(levels, tables.NO_JOBS, 0, 1, highest)
     found, frequency = [], 0
     while frequency < top:
-        frequency += setting_of(levels, 1, frequency + 1).gap
+        frequency += setting_of(levels, 1, frequency + 1, highest).gap
         found.append(frequency)
     return found
 

@@ -237,6 +237,41 @@ def count_of_rounds(call, place):
     return f"with this task there are more than 64 jobs; {before}"
 
 
+# Parameters.
+
+
+def highest_level(call, place):
+    count = tables.count_running(call.levels)
+    return f"highest level {call.parameters.highest} is not in range (1 to {count}, the running levels of the table)"
+
+
+def free_ticks(call, place):
+    return f"free ticks {call.parameters.free} are not in range (0 to 1,000,000)"
+
+
+def margin(call, place):
+    return f"margin {call.parameters.margin} is not in range (0 to 100 percent)"
+
+
+def parameter(call):
+    """Which of the parameters 35 is about: the first that is out of range."""
+    highest, free, _ = call.parameters
+    if highest is not None and not 1 <= highest <= tables.count_running(call.levels):
+        return "highest"
+    return "free" if free > 1_000_000 else "margin"
+
+
+def altered_job(call, place):
+    release, deadline, cycles = entries_of(call.jobs, tables.JOBS)[place]
+    _, free, percent = call.parameters
+    if deadline <= release + free:
+        less = f"deadline {deadline} less {ticks(free)} kept free is not after release {release}"
+        return f"nothing is left of the window of job {place}: {less}"
+    # What is put on is rounded up.
+    sum_of_both = cycles - -cycles * percent // 100
+    return f"cycles {cycles} of job {place} with a margin of {percent} percent are {sum_of_both}, above 1,000,000,000"
+
+
 # Setting, spare and what touches a span.
 
 
@@ -327,4 +362,16 @@ REASONS = {
     32: (tables.LEVELS, idle_draw, at_place),
     33: (None, span, no_entry),
     34: (tables.MARKS, mark, faulty_mark),
+    36: (tables.JOBS, altered_job, at_place),
 }
+# The same for 35, by the parameter that it is about. The highest level alone is compared with a table.
+PARAMETERS = {
+    "highest": (tables.LEVELS, highest_level, no_entry),
+    "free": (None, free_ticks, no_entry),
+    "margin": (None, margin, no_entry),
+}
+
+
+def reason(number, call):
+    """The table that a refusal is about, its words, and the entry."""
+    return PARAMETERS[parameter(call)] if number == 35 else REASONS[number]

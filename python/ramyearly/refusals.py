@@ -1,8 +1,8 @@
 """Refusals as exceptions: which one the archive answered, at which place, and why."""
 
 from . import tables
-from .calls import inside
-from .reasons import REASONS, listed
+from .calls import altered, inside
+from .reasons import listed, reason
 
 
 class Refused(Exception):
@@ -26,9 +26,9 @@ class Refused(Exception):
 class Overfull(Refused):
     """Refusal 11: the earliest overfull window, its spare, and the numbers of its own jobs."""
 
-    def __init__(self, start, end, spare, inside):
+    def __init__(self, start, end, spare, inside, said=""):
         more = f"{-spare} cycle{'s' if spare < -1 else ''} more"
-        words = f"overfull: from {start} to {end} {own_jobs(inside)} {more} than the top frequency gives"
+        words = f"overfull: from {start} to {end} {own_jobs(inside)} {more} than the top frequency gives{said}"
         super().__init__(11, 0, tables.JOBS, None, words)
         self.start, self.end, self.spare, self.inside = start, end, spare, inside
 
@@ -46,17 +46,23 @@ PLACES = {
     **dict.fromkeys((12, 13, 14), "length wanted"),
     **dict.fromkeys((17, 18, 24), "step"),
     **dict.fromkeys((20, 22, 23), "interval"),
-    19: "job",
+    **dict.fromkeys((19, 36), "job"),
 }
+# The refusals beside 11 that speak of levels, deadlines or cycles as the parameters have altered them.
+OF_ALTERED_TABLES = (16, 17, 18, 19, 20, 22, 23, 24, 26)
 
 
 def refused(number, place, call):
     """The exception for a refusal other than 11."""
-    table, says, find_entry = REASONS[number]
+    table, says, find_entry = reason(number, call)
+    said = ""
+    if number in OF_ALTERED_TABLES:
+        call, said = altered(call), call.parameters.said(call.levels)
     entry = find_entry(call, place)
-    return Refused(number, place, table, entry, says(call, place if entry is None else entry))
+    return Refused(number, place, table, entry, says(call, place if entry is None else entry) + said)
 
 
 def overfull(answer, call):
     """The exception for refusal 11."""
-    return Overfull(answer.start, answer.end, answer.spare, inside(call, answer.start, answer.end))
+    own = inside(altered(call), answer.start, answer.end)
+    return Overfull(answer.start, answer.end, answer.spare, own, call.parameters.said(call.levels))

@@ -224,6 +224,12 @@ def sizes_of(data, table):
     return [int.from_bytes(data[at : at + SIZE_BYTES], "little") for at in range(0, table.head(), SIZE_BYTES)]
 
 
+def count_running(levels):
+    """The running levels that a level table in bytes has by its count and its first entry; of a malformed one, any number."""
+    count = int.from_bytes(levels[:SIZE_BYTES], "little")
+    return max(count - (levels[SIZE_BYTES : 2 * SIZE_BYTES] == bytes(SIZE_BYTES)), 0)
+
+
 def length_fault(data, table):
     """Why these bytes are no table, as words, or nothing where their length is right."""
     have = "1 byte" if len(data) == 1 else f"{len(data)} bytes"

@@ -268,7 +268,7 @@ class Buffers(unittest.TestCase):
         """The answer's number and place, and how much of three buffers of which so many elements are lent was written to."""
         buffers = [(kind * 101)(*[0xA5] * 101) for kind in (ctypes.c_uint8, ctypes.c_uint8, ctypes.c_uint32)]
         lent = [word for buffer, length in zip(buffers, lengths) for word in (ctypes.addressof(buffer), length)]
-        answer = archive.library().ramyearly_plan(*archive.tables(PAIR, TWO_JOBS, operations.mark_table(marks)), *lent)
+        answer = archive.library().ramyearly_plan(*archive.site(PAIR, TWO_JOBS, operations.mark_table(marks)), *lent)
         return (answer.number, answer.place), [written(list(buffer)) for buffer in buffers]
 
     def test_lengths(self):

@@ -149,7 +149,9 @@ class Buffers(unittest.TestCase):
     def call(self, lent, length):
         """The answer's numbers, and 1001 bytes of which so many are lent."""
         buffer = (ctypes.c_uint8 * 1001)(*[0xA5] * 1001)
-        answer = archive.library().ramyearly_order(*archive.tables(*lent), ctypes.addressof(buffer), length)
+        answer = archive.library().ramyearly_order(
+            *archive.site(*lent[:3]), *archive.tables(*lent[3:]), ctypes.addressof(buffer), length
+        )
         return (answer.number, answer.place, answer.length), bytes(buffer)
 
     def test_lengths(self):

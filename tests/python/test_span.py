@@ -211,7 +211,8 @@ class Lists(unittest.TestCase):
         """The answer's numbers, and three lists of 100 numbers of which so many are lent."""
         lists = [(ctypes.c_uint32 * 100)(*[self.FILL] * 100) for _ in lengths]
         lent = [word for numbers, length in zip(lists, lengths) for word in (ctypes.addressof(numbers), length)]
-        answer = archive.library().ramyearly_touching(*archive.tables(call.jobs, call.marks, call.plan), call.start, call.end, *lent)
+        tables_lent = [*archive.tables(call.jobs, call.marks), 0, 0, *archive.tables(call.plan)]
+        answer = archive.library().ramyearly_touching(*tables_lent, call.start, call.end, *lent)
         return tuple(getattr(answer, name) for name, _ in answer._fields_), [list(numbers) for numbers in lists]
 
     def untouched(self, written=((), (), ())):

@@ -203,7 +203,7 @@ class Numbers(unittest.TestCase):
             self.assertEqual(str(refusal), f"{what} is too short (refusal {number}, length wanted 22)")
 
     def test_every_refusal_has_words(self):
-        self.assertEqual(sorted([*reasons.REASONS, 11]), list(range(1, 35)))
+        self.assertEqual(sorted([*reasons.REASONS, 11, 35]), list(range(1, 37)))
 
 
 if __name__ == "__main__":
