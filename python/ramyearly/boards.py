@@ -1,8 +1,9 @@
 """The boards of a site's folder: each has a level list of its own, and all have the same jobs, marks and plan.
 
 Boards of one type have the same working frequencies and differ in voltage. A plan that is accepted with its prices for one of
-them is accepted for all of them, and is a plan of least energy on each. The energy figure is each board's own. Nothing of this
-is decided here: the archive is asked for each board.
+them is accepted for all of them, and is a plan of least energy on each. The energy figure is each board's own. The parameters are
+the same for all, and the working frequencies are those of the levels that these allow. Nothing of this is decided here: the
+archive is asked for each board.
 """
 
 import os
@@ -20,7 +21,7 @@ class Board(NamedTuple):
 
     file: str  # the name of its level list's file
     source: Source = None  # its level list, or None where the text is no table
-    frequencies: list = None  # the working ones, rising, or None where the level list is not read
+    frequencies: list = None  # the working ones, rising, or None where the level list is refused
     energy: int = None  # the figure of the plan, or None where it is not accepted
     fault: str = None  # why not, as one line
 
@@ -49,11 +50,11 @@ def on_board(site, board):
 
 
 def with_frequencies(site, board):
-    """The board with its working frequencies, or with the refusal of its level list."""
+    """The board with its working frequencies, or with the refusal of its level list or of the highest level for it."""
     if board.fault:
         return board
     try:
-        return board._replace(frequencies=working_frequencies_of(board.source.data))
+        return board._replace(frequencies=working_frequencies_of(board.source.data, site.parameters))
     except Refused as refusal:
         return board._replace(fault=explain(refusal, on_board(site, board)))
 
@@ -75,7 +76,7 @@ def plan_for(site, board):
     """The site with a plan that is made for a board. What is said of the plan says so, since there is no file to name."""
     lent = on_board(site, board)
     with explained(lent):
-        planned = plan_tables(*map(lent.data, tables.LENT_TO_PLAN))
+        planned = plan_tables(*lent.arguments(tables.LENT_TO_PLAN))
     return site.adding(
         {
             tables.PLAN: Source(f"the plan for {board.file}", planned.plan_bytes),
@@ -91,6 +92,6 @@ def checked(site, board):
         return board
     lent = on_board(site, board)
     try:
-        return board._replace(energy=check_tables(*map(lent.data, tables.LENT_TO_CHECK)))
+        return board._replace(energy=check_tables(*lent.arguments(tables.LENT_TO_CHECK)))
     except Refused as refusal:
         return board._replace(fault=f"{board.file}: {explain(refusal, lent)}")

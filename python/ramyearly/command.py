@@ -65,6 +65,16 @@ of the periods, and their plan may be repeated any number of times:
 
 The marks of such a site are ticks of one round.
 
+Three numbers may come with a site. They stand in no file; plan, check, fits, boards, order and report
+take them as options, and span the last two. All that these verbs do is about the tables so altered:
+
+  --highest N   only the lowest N running levels are allowed
+  --free N      N ticks are kept free before each deadline
+  --margin N    N percent are put on each job's cycles, rounded up
+
+So ramyearly plan DIR --highest 3 --free 20 --margin 15 plans with the lowest three levels, to be done 20
+ticks early, with 15 percent more cycles. Those left out alter nothing, and the listing takes none.
+
 A plan is plan.tbl, with its price list prices.tbl. One that is made by hand may be text, and has no
 prices. The verb fits says whether it fits, and can write it as plan.tbl; the other verbs read
 plan.tbl alone:

@@ -1,7 +1,8 @@
 """A site's folder: its tables as bytes, each with the file and the lines that they came from.
 
 A task list may stand in place of the job list. The archive lays it out, and the jobs that come out are the site's. A mark
-list may stand beside either, and a site without one has no marks.
+list may stand beside either, and a site without one has no marks. The parameters of a site stand in no file: they are given with
+the folder.
 """
 
 import contextlib
@@ -9,7 +10,9 @@ import os
 from typing import NamedTuple
 
 from . import operations, tables
+from .calls import altered_jobs, altered_levels
 from .errors import SiteError, TableError
+from .parameters import UNALTERED, Parameters
 from .reasons import listed, ticks
 from .refusals import Overfull, Refused
 from .terminal import NAME
@@ -23,6 +26,22 @@ class Source(NamedTuple):
     lines: list = None  # where the file is text, the line of each entry
     trouble: str = None  # why the file can't be read, and counts as empty; or why it means no marks
     tasks: list = None  # where jobs were laid out from tasks, the task of each
+    given: bytes = None  # where parameters have altered the bytes, those that came from the file
+
+    def file_data(self):
+        """The bytes that came from the file."""
+        return self.data if self.given is None else self.given
+
+    def altered_columns(self, table):
+        """The names of the columns that parameters have altered, and what each entry has there as it was given."""
+        entries, given = tables.entries_of(self.data, table), tables.entries_of(self.file_data(), table)
+        places = [place for place, values in enumerate(zip(zip(*entries), zip(*given))) if values[0] != values[1]]
+        names = [table.columns()[place][0] for place in places]
+        return names, [[entry[place] for place in places] for entry in given]
+
+    def altered_to(self, data):
+        """The source with these bytes, which parameters have made of its own."""
+        return self if data == self.data else self._replace(data=data, given=self.data)
 
 
 class Site(NamedTuple):
@@ -31,9 +50,21 @@ class Site(NamedTuple):
     folder: str
     sources: dict
     multiple: int = None  # where its jobs were laid out from tasks, the ticks after which they repeat
+    parameters: Parameters = UNALTERED
 
     def data(self, table):
         return self.sources[table].data
+
+    def arguments(self, lent):
+        """The bytes of these tables and the parameters, as the operations take them."""
+        return [*map(self.data, lent), self.parameters]
+
+    def altered(self):
+        """The site with the tables that its parameters make of its own. These have no fault, and neither have the parameters."""
+        by_parameters = {tables.LEVELS: altered_levels, tables.JOBS: altered_jobs}
+        kinds = [table for table in by_parameters if table in self.sources]
+        changed = {table: by_parameters[table](self.data(table), self.parameters) for table in kinds}
+        return self.adding({table: self.sources[table].altered_to(data) for table, data in changed.items()})
 
     def files(self):
         """The sources that are files of their own. A mark list that is missing is none."""
@@ -51,25 +82,42 @@ class Site(NamedTuple):
         jobs, marks = (tables.sizes_of(self.data(table), table)[0] for table in (tables.JOBS, tables.MARKS))
         return f"jobs {jobs}" + (f", marks {marks}" if marks else "")
 
-    def repeats(self):
-        """What is said behind the figures of a site with tasks."""
-        return "" if self.multiple is None else f", repeats every {ticks(self.multiple)}"
+    def remarks(self):
+        """What is said behind the figures of a site with tasks or with parameters."""
+        repeats = "" if self.multiple is None else f", repeats every {ticks(self.multiple)}"
+        return repeats + self.parameters.said(self.level_data())
+
+    def level_data(self):
+        """The level table that came from the file, or no bytes where levels have no part in what is asked."""
+        return self.sources[tables.LEVELS].file_data() if tables.LEVELS in self.sources else b""
 
 
-def read_site(folder):
+def alterations(parameters, levels):
+    """What parameters do to tables with these levels, as a sentence; nothing where they alter nothing."""
+    highest, free, margin = parameters
+    words = {
+        "highest": "only the lowest " + ("running level is" if highest == 1 else f"{highest} running levels are") + " allowed",
+        "free": f"{ticks(free)} {'is' if free == 1 else 'are'} kept free before each deadline",
+        "margin": f"each job's cycles have a margin of {margin} percent, rounded up",
+    }
+    found = [words[name] for name in parameters.altering(levels)]
+    return f"{listed(found).capitalize()}." if found else ""
+
+
+def read_site(folder, parameters=UNALTERED):
     """The tables of a site. Text that is no table is an error; bytes of any content are not."""
     sources = {table: read_source(folder, table) for table in (tables.LEVELS, tables.work_table(folder))}
     if all(map(is_missing, sources.values())):
         names = "jobs.txt or tasks.txt, levels.txt"
         raise SiteError(f"{folder}: no job list, no task list and no level list ({names}; --help says more)")
-    return Site(folder, {**sources, tables.MARKS: read_marks(folder)})
+    return Site(folder, {**sources, tables.MARKS: read_marks(folder)}, parameters=parameters)
 
 
 def is_missing(source):
     return source.trouble and not os.path.lexists(source.path)
 
 
-def read_planned(folder):
+def read_planned(folder, parameters=UNALTERED):
     """The jobs or the tasks of a site, its marks and its plan, without levels. A site that has no plan is to be planned
     first."""
     work = tables.work_table(folder)
@@ -78,13 +126,13 @@ def read_planned(folder):
         raise SiteError(f"{folder}: no job list and no task list (jobs.txt or tasks.txt; --help says more)")
     if is_missing(sources[tables.PLAN]):
         raise SiteError(f"{sources[tables.PLAN].path}: there is no plan; plan first ({NAME} plan {folder})")
-    return Site(folder, {**sources, tables.MARKS: read_marks(folder)})
+    return Site(folder, {**sources, tables.MARKS: read_marks(folder)}, parameters=parameters)
 
 
-def read_work(folder):
+def read_work(folder, parameters=UNALTERED):
     """The jobs or the tasks of a site and its marks, which are the same for all boards."""
     work = tables.work_table(folder)
-    return Site(folder, {work: read_source(folder, work), tables.MARKS: read_marks(folder)})
+    return Site(folder, {work: read_source(folder, work), tables.MARKS: read_marks(folder)}, parameters=parameters)
 
 
 def read_plan(site):
@@ -107,7 +155,7 @@ def with_intervals(site):
     source = site.sources[tables.PLAN]
     if source.lines is None:
         return site
-    spans = operations.spans_of_tables(*map(site.data, tables.LENT_TO_PLAN))
+    spans = operations.spans_of_tables(*site.arguments(tables.LENT_TO_PLAN))
     entries = tables.entries_of(source.data, tables.PLAN)
     return site.adding({tables.PLAN: source._replace(data=tables.to_bytes(entries, tables.PLAN, sizes=(len(spans),)))})
 
@@ -174,7 +222,9 @@ def entries_of_refusal(refusal, site):
 
 
 def explain(refusal, site):
-    """A refusal as one line, with the file and the lines that it is about."""
+    """A refusal as one line, with the file and the lines that it is about, or with the folder where it is about no file."""
+    if refusal.table is None:
+        return f"{site.folder}: {refusal}"
     source = site.sources[refusal.table]
     entries = entries_of_refusal(refusal, site)
     empty = f"{source.trouble}, so it counts as empty: " if source.trouble else ""

@@ -7,7 +7,7 @@ from .. import tables
 from ..calls import interval_spans
 from ..errors import SiteError
 from ..refusals import Overfull, Refused, own_jobs
-from ..sites import explain
+from ..sites import alterations, explain
 from ..tables import entries_of
 from . import figures, handovers, page_tables, pictures
 from .markup import element, joined
@@ -20,18 +20,27 @@ MOST_ROWS = 20  # of one picture of jobs, so that it fits on a printed page
 
 def page(title, site, outcome):
     """The report of a site. The outcome is a plan, a refusal, or the error that kept the tables from being read. With an
-    error the site may be None."""
+    error the site may be None. Where no table is refused, the page is about the tables that the site's parameters make."""
     if isinstance(outcome, SiteError):
         body = [verdict("Not read", outcome, alarm=True)]
     elif isinstance(outcome, Overfull):
-        body = overfull_body(site, outcome)
+        body = overfull_body(site.altered(), outcome)
     elif isinstance(outcome, Refused):
         body = refused_body(site, outcome)
     elif not outcome.spans:
-        body = empty_body(site)
+        body = empty_body(site.altered())
     else:
-        body = planned_body(site, outcome)
+        body = planned_body(site.altered(), outcome)
     return document(title, body)
+
+
+def parameter_parts(site):
+    """What the parameters alter, where they alter something."""
+    said = alterations(site.parameters, site.level_data())
+    return [paragraph(f"{PARAMETER_WORDS} {said}")] if said else []
+
+
+PARAMETER_WORDS = "The tables of the site are altered by its parameters, and all that stands here is about the altered ones."
 
 
 # A plan.
@@ -45,6 +54,7 @@ def planned_body(site, planned):
     steps = page_tables.step_table(planned.steps, intervals)
     return [
         verdict("Planned", planned_sentence(site)),
+        *parameter_parts(site),
         planned_facts(site, planned, time, windows[0]),
         sections(
             ("jobs", "Jobs", job_pictures(time, entries, JOB_WORDS, intervals=intervals)),
@@ -92,7 +102,7 @@ def planned_facts(site, planned, time, window):
         *handovers.mark_facts(site, time),
         ("Intervals", thousands(len(planned.spans))),
         ("Steps", thousands(len(planned.steps))),
-        *level_facts(site.data(tables.LEVELS)),
+        *level_facts(site),
         ("Least spare", counted(window.spare, "cycle"), f"from {from_to(window.start, window.end)}"),
     )
 
@@ -129,10 +139,13 @@ def job_fact(site, *remarks):
     return "Jobs", thousands(count), *([", ".join(remarks)] if remarks else [])
 
 
-def level_facts(levels):
+def level_facts(site):
+    levels, given = site.data(tables.LEVELS), site.level_data()
     level_list = figures.level_list(levels)
     unused = sum(not level.works for level in level_list)
-    remark = [f"{unused} never used"] if unused else []
+    shut_out = tables.count_running(given) - len(level_list)
+    remarks = [*([f"{unused} never used"] if unused else []), *([f"{shut_out} more not allowed"] if shut_out else [])]
+    remark = [", ".join(remarks)] if remarks else []
     top = thousands(figures.top_frequency(levels))
     return ("Levels", len(level_list), *remark), ("Top frequency", top, "cycles per tick")
 
@@ -225,6 +238,7 @@ def overfull_body(site, refusal):
     )
     return [
         verdict("Overfull", overfull_sentence(window), alarm=True),
+        *parameter_parts(site),
         overfull_facts(site, window, time),
         sections(
             ("overfull", "The overfull window", joined([overfull_words(window, explain(refusal, site)), own])),
@@ -250,7 +264,7 @@ def overfull_facts(site, window, time):
         time_fact(site, time),
         job_fact(site, f"{len(window.inside)} inside the window"),
         *handovers.mark_facts(site, time),
-        *level_facts(site.data(tables.LEVELS)),
+        *level_facts(site),
     )
 
 
@@ -269,6 +283,8 @@ def overfull_words(window, explanation):
 
 def refused_body(site, refusal):
     parts = [verdict("Refused", f"{explain(refusal, site)}.", alarm=True)]
+    if refusal.number == 36:
+        parts += parameter_parts(site)
     if refusal.entry is not None:
         source = site.sources[refusal.table]
         entries = entries_of(source.data, refusal.table)
@@ -285,7 +301,8 @@ def empty_body(site):
     idles = "no time is planned" if power else "the clock idles"
     return [
         verdict("Nothing to run", f"The {kind.entry} list is empty: {idles}, and the energy figure is 0."),
-        facts(("Energy figure", 0), ("Jobs", 0), *level_facts(site.data(tables.LEVELS))),
+        *parameter_parts(site),
+        facts(("Energy figure", 0), ("Jobs", 0), *level_facts(site)),
         *marks,
         element("h2", "Level list"),
         page_tables.level_table(site.sources[tables.LEVELS], level_list, power),

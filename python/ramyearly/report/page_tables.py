@@ -134,17 +134,24 @@ def window_table(windows):
 
 
 def job_table(source, entries, intervals):
-    """The job list and, where there is a plan, in which intervals each job runs."""
-    columns = numbers("Job") + origin_column(source) + numbers("Release", "Deadline", "Ticks", "Cycles")
+    """The job list and, where there is a plan, in which intervals each job runs. What parameters have altered stands there as it
+    was given too."""
+    names, given = source.altered_columns(tables.JOBS)
+    columns = numbers("Job") + origin_column(source) + numbers("Release", "Deadline", "Ticks", "Cycles", *given_names(names))
     if intervals:
         columns += long_words("Runs as interval: cycles")
     rows = []
     for job, (release, deadline, cycles) in enumerate(entries):
-        row = [job, *origin_cell(source, job), release, deadline, deadline - release, cycles]
+        row = [job, *origin_cell(source, job), release, deadline, deadline - release, cycles, *given[job]]
         if intervals:
             row.append(runs_of(job, intervals))
         rows.append(row)
     return table("job-table", file_words(source, tables.JOBS), columns, rows)
+
+
+def given_names(names):
+    """The names of columns that have what was given beside what parameters made of it."""
+    return [f"Given {name}" for name in names]
 
 
 def runs_of(job, intervals):
@@ -181,8 +188,9 @@ def task_table(source, jobs):
 
 
 def own_job_table(source, entries, inside):
-    columns = numbers("Job") + origin_column(source) + numbers("Release", "Deadline", "Cycles")
-    rows = [[job, *origin_cell(source, job), *entries[job]] for job in inside]
+    names, given = source.altered_columns(tables.JOBS)
+    columns = numbers("Job") + origin_column(source) + numbers("Release", "Deadline", "Cycles", *given_names(names))
+    rows = [[job, *origin_cell(source, job), *entries[job], *given[job]] for job in inside]
     caption = f"The {counted(len(inside), 'job')} inside the overfull window, from {source.path}."
     return table("own-job-table", caption, columns, rows)
 
@@ -201,12 +209,23 @@ def level_table(source, levels, idle_power):
         else:
             row += [NOTHING, NOTHING, "never used: a mix of other levels costs no more"]
         rows.append(row)
+    rows += shut_out_rows(source, len(rows), len(levels))
     beyond = " beyond what idling draws" if idle_power else ""
     caption = file_words(source, tables.LEVELS) + (
         " Frequencies are in cycles per tick. A band goes from the level below that works, or from idling, up to this "
         f"level; a cycle in it costs its price{beyond}."
     )
     return table("level-table", caption, columns, rows)
+
+
+def shut_out_rows(source, entries, running):
+    """The levels behind those that are allowed, which are so many entries with so many running levels among them."""
+    given = list(enumerate(tables.entries_of(source.file_data(), tables.LEVELS)))[entries:]
+    use = "not allowed: above the highest level"
+    return [
+        [number, *origin_cell(source, entry), frequency, f"{voltage / 100:.2f} V", NOTHING, NOTHING, use]
+        for number, (entry, (frequency, voltage)) in enumerate(given, start=running)
+    ]
 
 
 def has_idle_entry(source):
@@ -232,7 +251,7 @@ def source_table(site):
     """The files that a site was read from."""
     rows = []
     for kind, source in site.files().items():
-        state = counted(len(source.data), "byte") if source.lines is None else count_words(source, kind)
+        state = counted(len(source.file_data()), "byte") if source.lines is None else count_words(source, kind)
         if source.trouble:
             state = f"{source.trouble}: {'no marks' if kind is tables.MARKS else 'counts as empty'}"
         rows.append([kind.name.capitalize(), source.path, state])
@@ -245,8 +264,8 @@ def file_words(source, kind):
 
 
 def count_words(source, kind):
-    """How many entries a table has. The idle entry is no level."""
-    entries = entries_of(source.data, kind)
+    """How many entries the table of a file has. The idle entry is no level."""
+    entries = entries_of(source.file_data(), kind)
     if tables.has_idle_entry(kind, entries):
         return f"{counted(len(entries) - 1, kind.entry)} and the idle entry"
     return counted(len(entries), kind.entry)

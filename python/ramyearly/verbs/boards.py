@@ -2,9 +2,10 @@
 
 from .. import tables
 from ..boards import checked, read_boards, with_frequencies, with_plan
-from ..sites import explained, lay_out, read_work
+from ..sites import alterations, explained, lay_out, read_work
 from .folders import LISTS, on_sites, parser_of
 from .pages import columns, counted, page_of
+from .parameters import add_parameters, parameters_of
 
 USAGE = ("boards DIR...", "check one plan for several boards")
 
@@ -33,10 +34,11 @@ def run(arguments, prepare):
         "itself." + SEVERAL + LISTS,
         several=True,
     )
-    folders = parser.parse_args(arguments).folders
+    options = add_parameters(parser).parse_args(arguments)
+    folders = options.folders
 
     def work(folder):
-        site, boards = read_work(folder), read_boards(folder)
+        site, boards = read_work(folder, parameters_of(options)), read_boards(folder)
         prepare()
         with explained(site):
             site = lay_out(site)
@@ -65,10 +67,16 @@ def about_plan(site, boards, first):
         plan = "the plan is that of plan.tbl and prices.tbl"
     else:
         plan = f"the plan is made for {first.file}, since there is no plan.tbl"
-    heading = f"{site.folder}: {counted(len(boards), 'board', 'boards')}; {plan}"
-    if site.multiple is None:
-        return [heading]
-    return [heading, f"The figures are of one round, which repeats every {counted(site.multiple, 'tick', 'ticks')}."]
+    lines = [f"{site.folder}: {counted(len(boards), 'board', 'boards')}; {plan}"]
+    if site.multiple is not None:
+        lines.append(f"The figures are of one round, which repeats every {counted(site.multiple, 'tick', 'ticks')}.")
+    altered = about_parameters(site, boards)
+    return [*lines, altered] if altered else lines
+
+
+def about_parameters(site, boards):
+    """What the parameters alter, for the board on which that is most: a highest level may be the last one of some boards."""
+    return max((alterations(site.parameters, board.source.data) for board in boards if board.source), key=len, default="")
 
 
 def about_boards(boards):
@@ -91,7 +99,8 @@ def about_service(site, boards):
     served = sum(board.energy is not None for board in boards)
     faults = [f"  {board.fault}" for board in boards if board.fault]
     if tables.PLAN not in site.sources:
-        return ["No level list can be read, so no plan can be made.", *faults]
+        wanted = "" if site.parameters.highest is None else " and has so many running levels"
+        return [f"No level list can be read{wanted}, so no plan can be made.", *faults]
     return [f"{service(served, len(boards))}{f' {LEAST}' if served else ''}", *faults]
 
 

@@ -7,6 +7,7 @@ from ..files import write_file
 from ..operations import fits_tables
 from ..sites import explained, lay_out, read_plan_by_hand, read_site, with_intervals
 from .folders import LISTS, check_folder, on_sites, parse_with_out, parser_of
+from .parameters import add_parameters, parameters_of
 
 USAGE = ("fits DIR... [-o OUT]", "say whether a plan made by hand fits")
 
@@ -21,29 +22,30 @@ def run(arguments, prepare):
         "\n"
         "The plan is made by hand in plan.txt or plan.csv, a step to a line: interval, job and cycles. Intervals\n"
         "and jobs are numbered from 0; the lines of the listing that begin with span are the intervals, with\n"
-        "from and to. The steps stand in any order. What follows a '#' counts for nothing, and what decode\n"
-        "prints of a plan is read back. Where neither file is there, the plan is that of plan.tbl.\n"
+        "from and to. With --free they end at the altered deadlines, and report shows them. The steps stand in\n"
+        "any order. What follows a '#' counts for nothing, and what decode prints of a plan is read back. Where\n"
+        "neither file is there, the plan is that of plan.tbl.\n"
         "\n"
         "With -o a plan that fits is written to OUT as plan.tbl, which the reader's kernel loads, whole or not\n"
         "at all, over an older one. No price list is written, and one that is there stays: it is of another\n"
         "plan, as check tells. Where the plan does not fit, an older plan.tbl stays." + LISTS,
         several=True,
     )
-    options = parse_with_out(parser, arguments, left_out="nothing is written")
+    options = parse_with_out(add_parameters(parser), arguments, left_out="nothing is written")
 
     def work(folder):
         if options.out is not None:
             check_folder(options.out)
-        site = read_plan_by_hand(read_site(folder))
+        site = read_plan_by_hand(read_site(folder, parameters_of(options)))
         prepare()
         with explained(site):
             site = lay_out(site)
         with explained(site):
             site = with_intervals(site)
-            energy = fits_tables(*map(site.data, tables.LENT_TO_FITS))
+            energy = fits_tables(*site.arguments(tables.LENT_TO_FITS))
         wrote = "" if options.out is None else f"; wrote {write_plan(site, options.out)}"
         name = os.path.basename(site.sources[tables.PLAN].path)
-        return f"{folder}: {name} fits, energy {energy}{site.repeats()}{wrote}\n", None
+        return f"{folder}: {name} fits, energy {energy}{site.remarks()}{wrote}\n", None
 
     return on_sites(options.folders, work)
 

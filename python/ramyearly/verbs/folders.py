@@ -37,12 +37,16 @@ the worst one.
 """
 
 
-def tick(word):
-    """The number of a tick that stands among the arguments."""
-    try:
-        return read_number(word, "tick", 32)
-    except ValueError as error:
-        raise argparse.ArgumentTypeError(error) from None
+def number(name):
+    """The type of a number of 32 bits that stands among the arguments, and is called by this name."""
+
+    def read(word):
+        try:
+            return read_number(word, name, 32)
+        except ValueError as error:
+            raise argparse.ArgumentTypeError(error) from None
+
+    return read
 
 
 def parser_of(verb, description, several=False, ticks=()):
@@ -53,7 +57,7 @@ def parser_of(verb, description, several=False, ticks=()):
         formatter_class=argparse.RawDescriptionHelpFormatter,
     )  # fmt: skip
     for name, said in ticks:
-        parser.add_argument(name.lower(), metavar=name, type=tick, help=said)
+        parser.add_argument(name.lower(), metavar=name, type=number("tick"), help=said)
     if several:
         parser.add_argument("folders", metavar="DIR", nargs="+", help="the folder of a site")
     else:

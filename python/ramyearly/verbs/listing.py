@@ -4,12 +4,13 @@ from ..program import listing
 from ..refusals import Refused
 from ..sites import explain, lay_out, read_site
 from .folders import LISTS, on_sites, parser_of
+from .parameters import NOT_ALTERED
 
 USAGE = ("DIR...", "print the listing of each site")
 
 
 def run(arguments, prepare):
-    parser = parser_of("", "Prints the listing of each site." + LISTS, several=True)
+    parser = parser_of("", "Prints the listing of each site." + LISTS + NOT_ALTERED, several=True)
     folders = parser.parse_args(arguments).folders
 
     def work(folder):

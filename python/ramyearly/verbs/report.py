@@ -9,6 +9,7 @@ from ..operations import plan_tables
 from ..refusals import Refused
 from ..sites import explain, lay_out, read_site
 from .folders import LISTS, on_site, parser_of
+from .parameters import add_parameters, parameters_of
 
 USAGE = ("report DIR [-o FILE]", "write a page with pictures")
 
@@ -22,15 +23,15 @@ def run(arguments, prepare):
     )
     said = "the file to write, - for standard output (report.html beside the tables if left out)"
     parser.add_argument("-o", dest="out", metavar="FILE.html", help=said)
-    options = parser.parse_args(arguments)
+    options = add_parameters(parser).parse_args(arguments)
 
     def work(folder):
         prepare()
         site, message = None, None
         try:
-            site = read_site(folder)
+            site = read_site(folder, parameters_of(options))
             site = lay_out(site)
-            outcome = plan_tables(*map(site.data, tables.LENT_TO_PLAN))
+            outcome = plan_tables(*site.arguments(tables.LENT_TO_PLAN))
         except Refused as refusal:
             outcome, message = refusal, explain(refusal, site)
         except TableError as error:

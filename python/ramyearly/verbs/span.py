@@ -6,11 +6,12 @@ from .. import tables
 from ..operations import check_span, touching_tables
 from ..reasons import listed
 from ..refusals import Refused
-from ..sites import explained, lay_out, read_planned
+from ..sites import alterations, explained, lay_out, read_planned
 from ..tables import entries_of
 from ..terminal import say
 from .folders import MARK_LIST, REFUSED, TASK_LIST, on_sites, parser_of
 from .pages import columns, counted, page_of
+from .parameters import add_parameters, parameters_of
 
 USAGE = ("span START END DIR...", "say what touches a span of ticks")
 
@@ -35,7 +36,7 @@ def run(arguments, prepare):
         several=True,
         ticks=TICKS,
     )
-    options = parser.parse_args(arguments)
+    options = add_parameters(parser, ("free", "margin"), "140 175 DIR").parse_args(arguments)
     prepare()
     try:
         check_span(options.start, options.end)
@@ -45,13 +46,14 @@ def run(arguments, prepare):
         return REFUSED
 
     def work(folder):
-        site = read_planned(folder)
+        site = read_planned(folder, parameters_of(options))
         with explained(site):
             site = lay_out(site)
         with explained(site):
-            touched = touching_tables(*map(site.data, tables.LENT_TO_TOUCHING), options.start, options.end)
+            lent = *map(site.data, tables.LENT_TO_TOUCHING), options.start, options.end
+            touched = touching_tables(*lent, site.parameters)
         between_sites = "\n" if len(options.folders) > 1 else ""
-        return page(site, touched, options.start, options.end) + between_sites, None
+        return page(site.altered(), touched, options.start, options.end) + between_sites, None
 
     return on_sites(options.folders, work)
 
@@ -71,19 +73,21 @@ def page(site, touched, start, end):
 
 def about_span(site, start, end):
     length = counted(end - start, "tick", "ticks")
-    heading = f"{site.folder}: from tick {start:,} up to, but not including, tick {end:,} ({length})"
-    if site.multiple is None:
-        return [heading]
-    every = counted(site.multiple, "tick", "ticks")
-    return [heading, f"All that follows is of one round, which repeats every {every}; later rounds are not listed."]
+    lines = [f"{site.folder}: from tick {start:,} up to, but not including, tick {end:,} ({length})"]
+    if site.multiple is not None:
+        every = counted(site.multiple, "tick", "ticks")
+        lines.append(f"All that follows is of one round, which repeats every {every}; later rounds are not listed.")
+    altered = alterations(site.parameters, b"")
+    return [*lines, altered] if altered else lines
 
 
 def about_open_jobs(source, jobs, open_jobs):
-    """The jobs, with the line of each where their file is text."""
+    """The jobs, with what parameters have altered as it was given, and with the line of each where their file is text."""
     if not open_jobs:
         return ["No job is open in it."]
-    names = ["job", "release", "deadline", "cycles"]
-    rows = [[number, *jobs[number]] for number in open_jobs]
+    given_names, given = source.altered_columns(tables.JOBS)
+    names = ["job", "release", "deadline", "cycles", *(f"given {name}" for name in given_names)]
+    rows = [[number, *jobs[number], *given[number]] for number in open_jobs]
     if source.lines is not None:
         names.append(f"{os.path.basename(source.path)} line")
         rows = [[*row, source.lines[number]] for row, number in zip(rows, open_jobs)]
