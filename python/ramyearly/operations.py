@@ -191,7 +191,8 @@ def touching(jobs, plan, start, end, *, marks=(), free=0, margin=0):
 
 
 def touching_tables(jobs, marks, plan_bytes, start, end, parameters=UNALTERED):
-    """What touches a span, of jobs, marks and a plan that are bytes."""
+    """What touches a span, of jobs, marks and a plan that are bytes. Of the parameters the highest level has no part in it."""
+    parameters = parameters._replace(highest=None)
     call = Call(jobs=jobs, marks=marks, plan=plan_bytes, start=start, end=end, parameters=parameters)
     answer, open_jobs, inside_jobs, cells = archive.touching(jobs, marks, plan_bytes, start, end, parameters)
     if answer.number:
@@ -221,6 +222,8 @@ def setting(levels, length, load, *, highest=None):
 
 
 def setting_of(levels, length, load, parameters=UNALTERED):
+    """The setting of an interval, of levels that are bytes. Of the parameters the highest level alone has a part in it."""
+    parameters = Parameters(highest=parameters.highest)
     answer = archive.setting(levels, length, load, parameters)
     if answer.number:
         raise refused(answer.number, answer.place, Call(levels=levels, length=length, load=load, parameters=parameters))

@@ -12,6 +12,28 @@ def spans_of(jobs, marks=()):
     return list(zip(bounds, bounds[1:]))
 
 
+def running_by_definition(levels):
+    """The number of running levels: all entries but the idle entry."""
+    return sum(frequency > 0 for frequency, _ in levels)
+
+
+def altered_by_definition(levels, jobs, highest, free, margin):
+    """The tables as the three parameters alter them. A percent of the cycles is rounded up, job by job."""
+    kept = len(levels) - running_by_definition(levels) + highest
+    more = [-(-Fraction(margin * cycles, 100) // 1) for _, _, cycles in jobs]
+    return levels[:kept], [(release, deadline - free, cycles + m) for (release, deadline, cycles), m in zip(jobs, more)]
+
+
+def refused_by_definition(levels, jobs, highest, free, margin):
+    """For tables without a fault: number and place of refusal 35 or 36 of the three parameters, or 0 and 0."""
+    if not (1 <= highest <= running_by_definition(levels) and free <= 1_000_000 and margin <= 100):
+        return 35, 0
+    for number, (release, deadline, cycles) in enumerate(altered_by_definition(levels, jobs, highest, free, margin)[1]):
+        if deadline <= release or cycles > 1_000_000_000:
+            return 36, number
+    return 0, 0
+
+
 def touched_by_definition(jobs, steps, start, end, marks=()):
     """What touches a span, tick by tick."""
     span, spans = set(range(start, end)), spans_of(jobs, marks)

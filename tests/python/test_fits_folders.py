@@ -328,7 +328,8 @@ class Usage(FitsFolders):
         for words in ([], ["--nonsense", self.hand_made()], [self.hand_made(), "-o"]):
             ended = self.run_command("fits", *words)
             self.assertEqual((ended.returncode, ended.stdout), (2, ""))
-            self.assertIn("usage: ramyearly fits [-h] [-o OUT] DIR", ended.stderr)
+            usage = "usage: ramyearly fits [-h] [--highest N] [--free N] [--margin N] [-o OUT] DIR"
+            self.assertIn(usage, " ".join(ended.stderr.split()))
 
     def test_a_folder_with_the_name_of_the_verb(self):
         site = self.site(name="fits", levels_txt=LEVELS, jobs_txt=JOBS, plan_txt=STEPS)

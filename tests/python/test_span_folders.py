@@ -233,7 +233,7 @@ class Refused(SpanFolders):
             ended = self.run_command("span", *words)
             self.assertEqual((ended.returncode, ended.stdout), (2, ""))
             self.assertEqual(ended.stderr.splitlines()[-1], f"ramyearly span: error: {said}")
-            self.assertIn("usage: ramyearly span [-h] START END DIR", ended.stderr)
+            self.assertIn("usage: ramyearly span [-h] [--free N] [--margin N] START END DIR", " ".join(ended.stderr.split()))
 
     def test_folders(self):
         missing, file = self.folder + "/none", os.path.join(self.planned(), "jobs.tbl")
