@@ -52,7 +52,7 @@ class InFolder(unittest.TestCase):
             path = tempfile.mkdtemp(dir=self.folder)
         else:
             path = os.path.join(self.folder, name)
-            os.mkdir(path)
+            os.makedirs(path)
         for file, content in files.items():
             write(os.path.join(path, file.replace("_", ".")), content)
         return path
