@@ -227,8 +227,9 @@ class Refused(ParameterFolders):
         for verb in VERBS:
             if verb in WITH_HIGHEST:
                 self.refuse(verb, site, ["--highest", "3"], f"/levels.txt: highest level 3 {levels}")
-            self.refuse(verb, site, ["--margin", "101"], ": margin 101 is not in range (0 to 100 percent) (refusal 35)")
         self.refuse("plan", site, ["--highest", "0"], f"/levels.txt: highest level 0 {levels}")
+        for verb in ("check", "span"):
+            self.refuse(verb, site, ["--margin", "101"], ": margin 101 is not in range (0 to 100 percent) (refusal 35)")
         free = ": free ticks 1000001 are not in range (0 to 1,000,000) (refusal 35)"
         self.refuse("plan", site, ["--free", "1_000_001"], free)
 

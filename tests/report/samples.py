@@ -7,6 +7,7 @@ import tempfile
 
 from ramyearly import operations, report, sites, tables
 from ramyearly.errors import SiteError
+from ramyearly.parameters import UNALTERED, Parameters
 from ramyearly.refusals import Refused
 
 ROOT = os.path.dirname(os.path.dirname(os.path.dirname(os.path.abspath(__file__))))
@@ -93,6 +94,28 @@ MARKED = {
     "marks that fall": (OVERFULL, [10, 50, 40, 60]),
     "too many marks": (OVERFULL, [*range(9)]),
 }
+ROUND = [(0, 120, 30_000), (70, 200, 30_000), (240, 300, 12_000)]
+# Jobs or tasks with parameters, which come with a folder and stand in no file of it. All have a mark at 190. Beside the first and
+# before the one that alters nothing stand the sites that are to have the same plans.
+WITH_PARAMETERS = {
+    "parameters": (LEVELS, "jobs", ROUND, Parameters(3, 20, 20)),
+    "altered by hand": (LEVELS[:3], "jobs", [(r, d - 20, c * 6 // 5) for r, d, c in ROUND], UNALTERED),
+    "parameters that just alter": (LEVELS, "jobs", ROUND, Parameters(4, 1, 1)),
+    "highest level alone": (LEVELS, "jobs", ROUND, Parameters(highest=2)),
+    "free ticks alone": (LEVELS, "jobs", ROUND, Parameters(free=20)),
+    "margin alone": (LEVELS, "jobs", ROUND, Parameters(margin=7)),
+    "no parameters": (LEVELS, "jobs", ROUND, UNALTERED),
+    "parameters that alter nothing": (LEVELS, "jobs", ROUND, Parameters(5, 0, 0)),
+    "parameters, idle draw": (IDLE_LEVELS, "jobs", ROUND, Parameters(3, 20, 20)),
+    "parameters, overfull": (LEVELS, "jobs", ROUND, Parameters(3, 20, 21)),
+    "parameters, tasks": (LEVELS, "tasks", TASKS["three tasks"], Parameters(4, 3, 10)),
+    "parameters, large": (LEVELS, "jobs", crowded_jobs(), Parameters(4, 700_000, 20)),
+    "parameters, no jobs": (LEVELS, "jobs", [], Parameters(3, 20, 20)),
+    "parameters, emptied window": (LEVELS, "jobs", ROUND, Parameters(3, 60, 0)),
+    "parameters, too many cycles": (LEVELS, "jobs", [(0, 9, 10**9)], Parameters(margin=1)),
+    "highest level out of range": (LEVELS, "jobs", ROUND, Parameters(highest=6)),
+    "margin out of range": (LEVELS, "jobs", ROUND, Parameters(margin=101)),
+}
 HOSTILE = b'<b>&"x\' \xff\x1b<i>'
 
 
@@ -117,6 +140,8 @@ class Samples:
         for name, (jobs, marks) in MARKED.items():
             files = {"levels.txt": lines(LEVELS), "jobs.txt": lines(jobs)}
             self.make(name, **files, **{"marks.txt": "# a line before the first\n" + lines((mark,) for mark in marks)})
+        for name, (levels, work, entries, _) in WITH_PARAMETERS.items():
+            self.make(name, **{"levels.txt": lines(levels), f"{work}.txt": lines(entries), "marks.txt": "190\n"})
         self.make(os.fsdecode(HOSTILE), **{"levels.txt": lines(LEVELS), "jobs.txt": lines(OVERFULL[:2])})
         self.make("no level list", **{"jobs.txt": lines(OVERFULL)})
         self.make("no job list", **{"levels.txt": lines(LEVELS)})
@@ -159,9 +184,10 @@ def outcome_of(folder):
     """The site in a folder and what planning it gives, as the command has them."""
     site = None
     try:
-        site = sites.read_site(folder)
+        *_, parameters = WITH_PARAMETERS.get(os.path.basename(folder), [UNALTERED])
+        site = sites.read_site(folder, parameters)
         site = sites.lay_out(site)
-        return site, operations.plan_tables(*map(site.data, tables.LENT_TO_PLAN))
+        return site, operations.plan_tables(*site.arguments(tables.LENT_TO_PLAN))
     except (Refused, SiteError) as error:
         return site, error
 
