@@ -16,9 +16,9 @@ while it idles. The first five take handover marks, which cut intervals, by name
 schedule needs less energy only check says, which takes prices. A plan that is accepted with its prices for one board is
 accepted for every board with the same working frequencies.
 
-Three numbers may come with a site, and are given by name: highest, the highest running level allowed; free, the ticks kept free
-before each deadline; and margin, the percent put on each job's cycles, rounded up. Each function but rounds takes those that bear
-on its tables, and answers for the tables so altered. Left out they alter nothing.
+Three numbers may come with a site, and are given by name: highest, the highest running level allowed; free, the ticks kept
+free before each deadline; and margin, the percent put on each job's cycles, rounded up. Each function but rounds takes those
+that bear on its tables, and answers for the tables so altered. Left out they alter nothing.
 
 Every answer is the archive's: the package decides nothing.
 """

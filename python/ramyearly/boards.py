@@ -1,9 +1,9 @@
 """The boards of a site's folder: each has a level list of its own, and all have the same jobs, marks and plan.
 
 Boards of one type have the same working frequencies and differ in voltage. A plan that is accepted with its prices for one of
-them is accepted for all of them, and is a plan of least energy on each. The energy figure is each board's own. The parameters are
-the same for all, and the working frequencies are those of the levels that these allow. Nothing of this is decided here: the
-archive is asked for each board.
+them is accepted for all of them, and is a plan of least energy on each. The energy figure is each board's own. The parameters
+are the same for all, and the working frequencies are those of the levels that these allow. Nothing of this is decided here:
+the archive is asked for each board.
 """
 
 import os

@@ -34,8 +34,8 @@ class Planned(NamedTuple):
 
 
 class Ordered(NamedTuple):
-    """A plan with its steps in cell order. Two plans for the same jobs, marks, free ticks and margin come out equal exactly where
-    every job has the same cycles in every interval."""
+    """A plan with its steps in cell order. Two plans for the same jobs, marks, free ticks and margin come out equal exactly
+    where every job has the same cycles in every interval."""
 
     steps: list  # (interval, job, cycles), interval by interval and within it by job
     plan_bytes: bytes  # the same plan as the kernel loads it
@@ -251,8 +251,8 @@ def working_frequencies(levels, *, highest=None):
 
 def working_frequencies_of(levels, parameters=UNALTERED):
     """The working frequencies of levels that are bytes. The archive says which: the band of one cycle more than a working
-    frequency gives in a tick leads, by its gap, to the next, and the top frequency is the last. Jobs have no part in it, and of the
-    parameters the highest level alone."""
+    frequency gives in a tick leads, by its gap, to the next, and the top frequency is the last. Of the parameters the highest
+    level alone has a part in it."""
     highest = Parameters(highest=parameters.highest)
     top = spare_of(levels, tables.NO_JOBS, 0, 1, highest)
     found, frequency = [], 0

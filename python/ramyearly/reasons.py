@@ -267,9 +267,8 @@ def altered_job(call, place):
     if deadline <= release + free:
         less = f"deadline {deadline} less {ticks(free)} kept free is not after release {release}"
         return f"nothing is left of the window of job {place}: {less}"
-    # What is put on is rounded up.
-    sum_of_both = cycles - -cycles * percent // 100
-    return f"cycles {cycles} of job {place} with a margin of {percent} percent are {sum_of_both}, above 1,000,000,000"
+    more = -(-cycles * percent // 100)  # rounded up
+    return f"cycles {cycles} of job {place} with a margin of {percent} percent are {cycles + more}, above 1,000,000,000"
 
 
 # Setting, spare and what touches a span.

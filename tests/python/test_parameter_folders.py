@@ -94,14 +94,14 @@ class Verbs(ParameterFolders):
     def test_a_plan_made_by_hand(self):
         """Its intervals are those of the altered tables."""
         site, out = self.given(plan_txt="0 0 4\n1 1 3\n2 0 2\n"), self.site()
-        wrote = f"wrote {out}/plan.tbl"
-        self.expect(["fits", site, *OPTIONS, "-o", out], 0, f"{site}: plan.txt fits, energy 1500, with free 5, margin 50; {wrote}\n")
+        printed = f"{site}: plan.txt fits, energy 1500, with free 5, margin 50; wrote {out}/plan.tbl\n"
+        self.expect(["fits", site, *OPTIONS, "-o", out], 0, printed)
         self.assertEqual(self.contents(out)["plan.tbl"][:4], b"\3\0\3\0")
         few = "the plan gives job 0 6 cycles, but it has 7, with free 5, margin 51 (refusal 19, job 0)"
         self.expect(["fits", site, "--free", "5", "--margin", "51"], 1, "", f"ramyearly: {site}/jobs.txt line 2: {few}\n")
-        over = "interval 0, from 0 to 2, has 6 cycles, but the top frequency gives 4 in 2 ticks, with highest 1, free 5, margin 50"
+        over = "interval 0, from 0 to 2, has 6 cycles, but the top frequency gives 4 in 2 ticks"
         site = self.given(plan_txt="0 0 6\n1 1 3\n")
-        said = f"ramyearly: {site}/plan.txt line 1: {over} (refusal 20, interval 0)\n"
+        said = f"ramyearly: {site}/plan.txt line 1: {over}, with highest 1, free 5, margin 50 (refusal 20, interval 0)\n"
         self.expect(["fits", site, *OPTIONS, "--highest", "1"], 1, "", said)
 
     def test_span(self):
@@ -145,8 +145,8 @@ The nearest deadline at or after tick 2 is tick 3, of job 1.
         write(os.path.join(site, "levels-low.txt"), "0 1\n300 120\n350 128\n400 137\n900 138\n")
         page = f"""\
 {site}: 3 boards; the plan is made for levels.txt, since there is no plan.tbl
-Only the lowest 3 running levels are allowed, 10 ticks are kept free before each deadline and each job's cycles have a margin of \
-15 percent, rounded up.
+Only the lowest 3 running levels are allowed, 10 ticks are kept free before each deadline and each job's cycles have a \
+margin of 15 percent, rounded up.
 
   level list      working frequencies  energy figure
   levels.txt      300 350 400             92,703,500
@@ -170,13 +170,14 @@ Boards with the same working frequencies take the same plans with the same price
             os.remove(os.path.join(site, name))
         shown = self.run_command("boards", site, "--highest", "9").stdout
         self.assertIn("No level list can be read and has so many running levels, so no plan can be made.\n", shown)
-        self.expect(["boards", site, "--margin", "101"], 1, "", f"ramyearly: {site}: margin 101 is not in range (0 to 100 percent) (refusal 35)\n")
+        said = f"ramyearly: {site}: margin 101 is not in range (0 to 100 percent) (refusal 35)\n"
+        self.expect(["boards", site, "--margin", "101"], 1, "", said)
 
     def test_report(self):
         site = self.given()
         self.expect(["report", site, *OPTIONS, "--highest", "2"], 0, f"{site}: wrote {site}/report.html\n")
         page = read(os.path.join(site, "report.html")).decode()
-        self.assertTrue("5 ticks are kept free before each deadline and each job&#39;s cycles have a margin of 50 percent" in page)
+        self.assertTrue("5 ticks are kept free before each deadline and each job&#39;s cycles have a margin of 50" in page)
         self.assertTrue("1,500" in page)
 
     def test_several_folders(self):
@@ -199,8 +200,8 @@ class NothingAltered(ParameterFolders):
             expected = self.printed(words_of(verb, plain), plain)
             self.assertEqual(self.printed([*words_of(verb, given), *options], given), expected)
             self.assertEqual(expected[0], 0)
-            pages = [{name: data.replace(site.encode(), b"") for name, data in self.contents(site).items()} for site in (plain, given)]
-            self.assertTrue(pages[0] == pages[1])
+            for name, content in self.contents(given).items():
+                self.assertTrue(content.replace(given.encode(), plain.encode()) == read(os.path.join(plain, name)))
 
     def test_no_file(self):
         """A file of such a name means nothing."""
@@ -236,9 +237,9 @@ class Refused(ParameterFolders):
     def test_jobs(self):
         """The job, its file and its line, by each verb."""
         site = self.given(plan_tbl=PLAN, prices_tbl=PRICES)
-        empty = "/jobs.txt line 4: nothing is left of the window of job 1: deadline 8 less 6 ticks kept free is not after release 2"
+        empty = "nothing is left of the window of job 1: deadline 8 less 6 ticks kept free is not after release 2"
         for verb in VERBS:
-            self.refuse(verb, site, ["--free", "6"], f"{empty} (refusal 36, job 1)")
+            self.refuse(verb, site, ["--free", "6"], f"/jobs.txt line 4: {empty} (refusal 36, job 1)")
         # The page has the entry as it stands in the file.
         page = read(os.path.join(site, "report.html")).decode()
         self.assertTrue("6 ticks are kept free before each deadline." in page and "The refused entry" in page)
@@ -285,7 +286,7 @@ class Refused(ParameterFolders):
             self.assertIn(f"ramyearly {verb} {folder} {highest}--free 20 --margin 15", shown)
         site = self.given()
         shown = " ".join(self.run_command(site, "--help").stdout.split())
-        self.assertIn("uses all running levels, 0 free ticks and a margin of 0, and takes no --highest, --free or --margin", shown)
+        self.assertIn("all running levels, 0 free ticks and a margin of 0, and takes no --highest, --free or --margin", shown)
         shown = self.run_command("--help").stdout
         self.assertIn("  --highest N   only the lowest N running levels are allowed\n", shown)
         self.assertIn("ramyearly plan DIR --highest 3 --free 20 --margin 15", shown)

@@ -46,8 +46,8 @@ class Words(unittest.TestCase):
         ):
             self.expect(said, ramyearly.plan, T, JOBS, free=free)
             self.expect(said, ramyearly.touching, JOBS, (3, []), 0, 4, free=free)
-        said = "jobs: cycles 990099010 of job 1 with a margin of 1 percent are 1000000001, above 1,000,000,000 (refusal 36, job 1)"
-        self.expect(said, ramyearly.spare, T, [(0, 4, 6), (0, 4, 990_099_010)], 0, 4, margin=1)
+        many = "cycles 990099010 of job 1 with a margin of 1 percent are 1000000001, above 1,000,000,000"
+        self.expect(f"jobs: {many} (refusal 36, job 1)", ramyearly.spare, T, [(0, 4, 6), (0, 4, 990_099_010)], 0, 4, margin=1)
 
     def test_of_altered_tables(self):
         """What is said of a plan or of a window has the altered numbers, and the parameters that made them."""
@@ -80,7 +80,8 @@ class Words(unittest.TestCase):
                 steps,
                 [(2, 1), (3, 1), (4, 1)],
                 {},
-                "prices: price 1 does not fit the load 4 of interval 1, which is in band 2, with free 5 (refusal 23, interval 1)",
+                "prices: price 1 does not fit the load 4 of interval 1, which is in band 2, with free 5 "
+                "(refusal 23, interval 1)",
             ),
         ):
             self.expect(said, ramyearly.check, T, jobs, steps, prices, free=5, **given)
@@ -93,13 +94,13 @@ class Words(unittest.TestCase):
         said = "load 3 is more than the top frequency gives in 1 ticks, with highest 1 (refusal 26)"
         self.expect(said, ramyearly.setting, T, 1, 3, highest=1)
         # What alters nothing is not said.
-        said = "jobs: overfull: from 0 to 1 job 0 needs 1 cycle more than the top frequency gives (refusal 11, window 0 to 1, spare -1)"
-        self.expect(said, ramyearly.plan, T, [(0, 1, 5)], highest=2)
+        more = "overfull: from 0 to 1 job 0 needs 1 cycle more than the top frequency gives"
+        self.expect(f"jobs: {more} (refusal 11, window 0 to 1, spare -1)", ramyearly.plan, T, [(0, 1, 5)], highest=2)
 
     def test_dearer(self):
-        jobs = [(0, 5, 4), (2, 5, 2)]
-        said = "plan: job 0 runs in interval 1 at price 2, but is open in one of a smaller price, with free 1 (refusal 24, step 0)"
-        self.expect(said, ramyearly.check, T, jobs, [(1, 0, 4), (1, 1, 2)], [(2, 1), (4, 2)], free=1)
+        dearer = "job 0 runs in interval 1 at price 2, but is open in one of a smaller price"
+        made = [(0, 5, 4), (2, 5, 2)], [(1, 0, 4), (1, 1, 2)], [(2, 1), (4, 2)]
+        self.expect(f"plan: {dearer}, with free 1 (refusal 24, step 0)", ramyearly.check, T, *made, free=1)
 
 
 if __name__ == "__main__":

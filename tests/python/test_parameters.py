@@ -132,8 +132,8 @@ class Ranges(unittest.TestCase):
             ("free", (ramyearly.touching,)),
             ("margin", (ramyearly.touching,)),
         ):
-            values = {ramyearly.setting: (T, 1, 1), ramyearly.working_frequencies: (T,), ramyearly.touching: (JOBS, (3, []), 0, 4)}
-            values |= {ramyearly.plan: (T, JOBS), ramyearly.spare: (T, JOBS, 0, 4), ramyearly.fits: (T, JOBS, (3, []))}
+            values = {ramyearly.setting: (T, 1, 1), ramyearly.working_frequencies: (T,)}
+            values |= {ramyearly.touching: (JOBS, (3, []), 0, 4), ramyearly.plan: (T, JOBS), ramyearly.spare: (T, JOBS, 0, 4), ramyearly.fits: (T, JOBS, (3, []))}
             values |= dict.fromkeys((ramyearly.check, ramyearly.order), (T, JOBS, [], []))
             common = (ramyearly.plan, ramyearly.check, ramyearly.fits, ramyearly.order, ramyearly.spare)
             for function in (*functions, *common):
@@ -153,7 +153,8 @@ class Altered(unittest.TestCase):
 
     def test_windows(self):
         jobs = [(0, 10, 1), (5, 9, 1), (7, 20, 1)]
-        for free, expected in ((0, (0, 0)), (3, (0, 0)), (4, (36, 1)), (9, (36, 1)), (10, (36, 0)), (11, (36, 0)), (10**6, (36, 0))):
+        for free, place in ((0, None), (3, None), (4, 1), (9, 1), (10, 0), (11, 0), (10**6, 0)):
+            expected = (0, 0) if place is None else (36, place)
             for name in ("plan", "spans", "spare"):
                 self.assertEqual(refused(name, lent(T, jobs, free=free)), expected)
         # One tick is left, in the last place too.
@@ -263,7 +264,7 @@ class AsAlteredByHand(unittest.TestCase):
             jobs, levels, numbers = random_site(draw)
             if draw.random() < 0.5:
                 # Frequencies that some windows need more than.
-                levels = [(0, 0), (draw.randint(1, 9), 10), (draw.randint(10, 60), 20), (draw.randint(61, 99), 21)][draw.randrange(2) :]
+                levels = [(0, 0), *((draw.randint(least, least + 25), 10) for least in (1, 30, 60))][draw.randrange(2) :]
                 numbers = draw.randint(1, 3), *numbers[1:]
             marks = operations.mark_table(sorted(draw.sample(range(42), draw.randrange(4))))
             others = {"marks": marks, "start": draw.randrange(20), "end": draw.randint(20, 45), "load": draw.randrange(400)}

@@ -109,15 +109,28 @@ class WithParameters(WithSamples):
     def test_refusals(self):
         empty = "nothing is left of the window of job 2: deadline 300 less 60 ticks kept free is not after release 240"
         many = "cycles 1000000000 of job 0 with a margin of 1 percent are 1010000000, above 1,000,000,000"
-        for name, said, altered, row in (
-            ("parameters, emptied window", f"jobs.txt line 3: {empty} (refusal 36, job 2)", True, ["\u25b8 2", "3", "240", "300", "12,000"]),
-            ("parameters, too many cycles", f"jobs.txt line 1: {many} (refusal 36, job 0)", True, ["\u25b8 0", "1", "0", "9", "1,000,000,000"]),
-            ("highest level out of range", "levels.txt: highest level 6 is not in range (1 to 5", False, None),
-            ("margin out of range", "margin out of range: margin 101 is not in range (0 to 100 percent) (refusal 35)", False, None),
+        for name, said, parameters, row in (
+            (
+                "parameters, emptied window",
+                f"jobs.txt line 3: {empty} (refusal 36, job 2)",
+                "Only the lowest 3 running levels are allowed and 60 ticks are kept free before each deadline.",
+                ["\u25b8 2", "3", "240", "300", "12,000"],
+            ),
+            (
+                "parameters, too many cycles",
+                f"jobs.txt line 1: {many} (refusal 36, job 0)",
+                "Each job's cycles have a margin of 1 percent, rounded up.",
+                ["\u25b8 0", "1", "0", "9", "1,000,000,000"],
+            ),
+            ("highest level out of range", "levels.txt: highest level 6 is not in range (1 to 5", None, None),
+            ("margin out of range", "/margin out of range: margin 101 is not in range (0 to 100 percent)", None, None),
         ):
             page = self.parsed(name)
             self.assertIn(said, verdict_of(page))
-            self.assertEqual(said_of(page) is not None, altered)
+            # The tables that are shown are those of the files.
+            self.assertIsNone(said_of(page))
+            found = [text_of(part) for part in page.iter(f"{HTML}p") if text_of(part).startswith("The site has parameters.")]
+            self.assertEqual(found, [f"The site has parameters. {parameters}"] if parameters else [])
             marked = [[text_of(cell) for cell in row] for row in page.iter(f"{HTML}tr") if row.get("class") == "marked"]
             self.assertEqual(marked, [[*row, "\u25c2 refused"]] if row else [])
             self.assertEqual([row[0] for row in rows_of(page, "source-table")], ["Levels", "Jobs", "Marks"])

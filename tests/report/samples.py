@@ -95,8 +95,8 @@ MARKED = {
     "too many marks": (OVERFULL, [*range(9)]),
 }
 ROUND = [(0, 120, 30_000), (70, 200, 30_000), (240, 300, 12_000)]
-# Jobs or tasks with parameters, which come with a folder and stand in no file of it. All have a mark at 190. Beside the first and
-# before the one that alters nothing stand the sites that are to have the same plans.
+# Jobs or tasks with parameters, which come with a folder and stand in no file of it. All have a mark at 190. Two without
+# parameters are to have the plans of others.
 WITH_PARAMETERS = {
     "parameters": (LEVELS, "jobs", ROUND, Parameters(3, 20, 20)),
     "altered by hand": (LEVELS[:3], "jobs", [(r, d - 20, c * 6 // 5) for r, d, c in ROUND], UNALTERED),

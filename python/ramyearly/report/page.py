@@ -34,13 +34,13 @@ def page(title, site, outcome):
     return document(title, body)
 
 
-def parameter_parts(site):
-    """What the parameters alter, where they alter something."""
+ALTERED_WORDS = "The tables of the site are altered by its parameters, and all that stands here is about the altered ones. "
+
+
+def parameter_parts(site, words=ALTERED_WORDS):
+    """What the parameters alter, where they alter something, behind these words."""
     said = alterations(site.parameters, site.level_data())
-    return [paragraph(f"{PARAMETER_WORDS} {said}")] if said else []
-
-
-PARAMETER_WORDS = "The tables of the site are altered by its parameters, and all that stands here is about the altered ones."
+    return [paragraph(words + said)] if said else []
 
 
 # A plan.
@@ -284,7 +284,7 @@ def overfull_words(window, explanation):
 def refused_body(site, refusal):
     parts = [verdict("Refused", f"{explain(refusal, site)}.", alarm=True)]
     if refusal.number == 36:
-        parts += parameter_parts(site)
+        parts += parameter_parts(site, "The site has parameters. ")
     if refusal.entry is not None:
         source = site.sources[refusal.table]
         entries = entries_of(source.data, refusal.table)

@@ -31,7 +31,7 @@ def run(arguments, prepare):
         "Boards of one type differ in voltage, and may differ in what idling draws. A level works unless a mix\n"
         "of others costs no more. Boards with the same working frequencies take the same plans with the same\n"
         "prices. With other working frequencies a plan may be refused, and that board is to be planned for\n"
-        "itself." + SEVERAL + LISTS,
+        "itself. A highest level is that of every board, and a board with fewer running levels refuses it." + SEVERAL + LISTS,
         several=True,
     )
     options = add_parameters(parser).parse_args(arguments)
@@ -75,8 +75,9 @@ def about_plan(site, boards, first):
 
 
 def about_parameters(site, boards):
-    """What the parameters alter, for the board on which that is most: a highest level may be the last one of some boards."""
-    return max((alterations(site.parameters, board.source.data) for board in boards if board.source), key=len, default="")
+    """What the parameters alter on the board where that is most: a highest level may be the last one of some boards."""
+    found = [alterations(site.parameters, board.source.data) for board in boards if board.frequencies]
+    return max(found, key=len, default="")
 
 
 def about_boards(boards):

@@ -1,6 +1,7 @@
 """The parameters of a site as options of the verbs. They stand in no file of the folder."""
 
 from ..parameters import Parameters
+from ..reasons import listed
 from .folders import number
 
 # Of each parameter its value in the examples, and what it does.
@@ -9,13 +10,11 @@ OPTIONS = {
     "free": (20, "keep N ticks free before each deadline, 0 to 1,000,000 (0 if left out)"),
     "margin": (15, "put N percent on each job's cycles, rounded up, 0 to 100 (0 if left out)"),
 }
-LEVELS_ALLOWED = "only the lowest N running levels are allowed with --highest N, "
 ALTERED = """
 
-The tables are altered before anything else is done: {levels}N ticks are kept
-free before each deadline with --free N, and N percent are put on each job's cycles with --margin N,
-rounded up. All that is done, printed and refused is about the altered tables. A plan goes with the
-numbers that it was made with. These stand in no file, and those left out alter nothing:
+{names} alter the tables of a site, as is said below, before anything else is
+done: what is done and printed is about the altered tables. A plan goes with the numbers that it was
+made with. These stand in no file, and those left out alter nothing. For example:
 
   {example}"""
 
@@ -23,13 +22,13 @@ numbers that it was made with. These stand in no file, and those left out alter 
 NOT_ALTERED = """
 
 The listing uses all running levels, 0 free ticks and a margin of 0, and takes no --highest, --free or
---margin; the verbs plan, check, fits, boards, order, span and report do."""
+--margin."""
 
 
 def add_parameters(parser, names=tuple(OPTIONS), before_options="DIR"):
     """The parser with an option for each of these parameters, which its description explains with an example."""
     example = " ".join([parser.prog, before_options, *(f"--{name} {OPTIONS[name][0]}" for name in names)])
-    parser.description += ALTERED.format(levels=LEVELS_ALLOWED if "highest" in names else "", example=example)
+    parser.description += ALTERED.format(names=listed(f"--{name}" for name in names), example=example)
     for name in names:
         default, said = Parameters._field_defaults[name], OPTIONS[name][1]
         parser.add_argument(f"--{name}", metavar="N", type=number(name), default=default, help=said)
