@@ -17,11 +17,12 @@ use Rattle.model.specs.Limits.{maxMarks}
 use Rattle.model.specs.Outcome.{Outcome, refused, answer, andThen, refuseWhen}
 use Rattle.model.specs.Bytes.{IsBytes}
 use Rattle.model.specs.Jobs.{readJobs}
-use Rattle.model.specs.Processors.{processorOf, topOf}
+use Rattle.model.specs.SiteParameters.{alterLevels, alterJobs}
+use Rattle.model.specs.Processors.{topOf}
 use Rattle.model.specs.Intervals.{boundsOf, earliestRelease, latestDeadline}
 use Rattle.model.specs.Marks.{markCount, markEntries, notRising, readMarks, encodeMarks, noMarks, insertMarks, boundsWith}
 use Rattle.model.specs.LevelTables.{readLevels}
-use Rattle.model.specs.Sites.{Tables, readTables, Site, siteOf, readSite, ValidSite}
+use Rattle.model.specs.Sites.{Given, readGiven, Tables, tablesOf, alterTables, readTables, Site, siteOf, readSite, ValidSite}
 use Rattle.model.specs.Windows.{Window, earliestOverfull, wrongSpan}
 use Rattle.model.specs.Steps.{sharesOf}
 use Rattle.model.specs.PriceBytes.{pricesOf}
@@ -55,7 +56,7 @@ use Rattle.planning.proofs.PlanStages.{planned-as}
 use Rattle.ordering.specs.Ordering.{order}
 use Rattle.touching.specs.Touching.{Lists, touchingFor, touching}
 use Rattle.demands.specs.ThreeDemands.{Call, PlanComesOut, planWritten}
-use Rattle.demands.specs.HandoverMarks.{AreMarks, IsBound, OfAJob, Cuts, SameWith, RefusedBy34, OtherMarks, Roomy, HandoverMarks}
+use Rattle.demands.specs.HandoverMarks.{AreMarks, IsBound, OfAJob, Cuts, SameWith, SiteRefused, OtherMarks, Roomy, HandoverMarks}
 use Rattle.demands.proofs.SiteParts.{site-tables}
 use Rattle.demands.proofs.SameSites.{contract-kept, fits-kept, checks-kept, orders-kept}
 
@@ -91,15 +92,15 @@ by-34 bytes =
     (λ number place e. absurd (refused≢answer (sym e))))))
 
 -- levels and jobs first, then marks
-tables-first : (levelBytes jobBytes markBytes : List ℕ) (parameters : Parameters) (number place : ℕ) → readTables levelBytes jobBytes ≡ refused number place
+tables-first : (levelBytes jobBytes markBytes : List ℕ) (parameters : Parameters) (number place : ℕ) → readGiven levelBytes jobBytes ≡ refused number place
     → readSite levelBytes jobBytes markBytes parameters ≡ refused number place
 unfolding readSite
 tables-first levelBytes jobBytes markBytes parameters number place e = rw e
 
-marks-next : (levelBytes jobBytes markBytes : List ℕ) (parameters : Parameters) (tables : Tables) → readTables levelBytes jobBytes ≡ answer tables
+marks-next : (levelBytes jobBytes markBytes : List ℕ) (parameters : Parameters) (given : Given) → readGiven levelBytes jobBytes ≡ answer given
     → (number place : ℕ) → readMarks markBytes ≡ refused number place → readSite levelBytes jobBytes markBytes parameters ≡ refused 34 0
 unfolding readSite
-marks-next levelBytes jobBytes markBytes parameters tables read number place e =
+marks-next levelBytes jobBytes markBytes parameters given read number place e =
     let (is-34, no-place) = by-34 markBytes number place e in
     rw (read, e, is-34, no-place)
 
@@ -115,16 +116,17 @@ refused-answer (Refused n p) number place e =
 refused-is-no-plan : (answered : PlanAnswer) (number place : ℕ) → outcomeOf answered ≡ refusal number place → outcomeOf answered ≡ comesOut → ⊥
 refused-is-no-plan answered number place e is = let z : _≡_ {A = ℕ} 0 1 = cc (sym e ∙ is) in omega (arith, z)
 
-refused-by-34 : (levelBytes jobBytes markBytes : List ℕ) (parameters : Parameters) → readSite levelBytes jobBytes markBytes parameters ≡ refused 34 0 → RefusedBy34 levelBytes jobBytes markBytes parameters
+pub site-refused : (levelBytes jobBytes markBytes : List ℕ) (parameters : Parameters) (number place : ℕ)
+    → readSite levelBytes jobBytes markBytes parameters ≡ refused number place → SiteRefused levelBytes jobBytes markBytes parameters number place
 unfolding fits check order planning
-refused-by-34 levelBytes jobBytes markBytes parameters e =
+site-refused levelBytes jobBytes markBytes parameters number place e =
     record {
       fitting = λ plan. rw e;
       checks = λ plan prices. rw e;
       orders = λ plan prices room. rw e;
       plans = λ before after answered contract.
-          let is : outcomeOf answered ≡ refusal 34 0 = contract .outcome ∙ rw e in
-          (refused-answer answered 34 0 is, contract .untouched (refused-is-no-plan answered 34 0 is));
+          let is : outcomeOf answered ≡ refusal number place = contract .outcome ∙ rw e in
+          (refused-answer answered number place is, contract .untouched (refused-is-no-plan answered number place is));
     }
 
 -- the bounds of jobs with marks: the jobs' own times, and the marks that cut
@@ -152,47 +154,70 @@ uncut : (jobs : List Job) (marks : List ℕ) → ((time : ℕ) → Cuts jobs mar
 unfolding boundsWith insertMarks
 uncut jobs marks none-cut = marked-none (earliestRelease jobs) (latestDeadline jobs) marks (boundsOf jobs) none-cut
 
-module _ (jobBytes markBytes : List ℕ) (parameters : Parameters) (jobs : List Job) (marks : List ℕ) (jobs-read : readJobs jobBytes ≡ answer jobs)
-    (marks-read : readMarks markBytes ≡ answer marks) (none-cut : (time : ℕ) → Cuts jobs marks time → ⊥) where
-  same-touching : (plan : List ℕ) (start end : ℕ) (before : Lists) → touching jobBytes markBytes parameters plan start end before ≡ touching jobBytes noMarks plan start end before
+module _ (jobBytes markBytes : List ℕ) (parameters : Parameters) (given jobs : List Job) (marks : List ℕ)
+    (jobs-read : readJobs jobBytes ≡ answer given) (marks-read : readMarks markBytes ≡ answer marks)
+    (altered : alterJobs (parameters .free) (parameters .margin) given ≡ answer jobs) (none-cut : (time : ℕ) → Cuts jobs marks time → ⊥) where
+  same-touching : (plan : List ℕ) (start end : ℕ) (before : Lists)
+      → touching jobBytes markBytes (parameters .free) (parameters .margin) plan start end before
+      ≡ touching jobBytes noMarks (parameters .free) (parameters .margin) plan start end before
   unfolding touching
-  same-touching plan start end before = rw (jobs-read, marks-read, no-marks-read, uncut jobs marks none-cut)
+  same-touching plan start end before = rw (jobs-read, marks-read, no-marks-read, altered, uncut jobs marks none-cut)
 
-  same-site : (levelBytes : List ℕ) → readSite levelBytes jobBytes markBytes parameters ≡ readSite levelBytes jobBytes noMarks
-  unfolding readSite readTables
-  same-site levelBytes = go (readLevels levelBytes)
+  same-site : (levelBytes : List ℕ) → readSite levelBytes jobBytes markBytes parameters ≡ readSite levelBytes jobBytes noMarks parameters
+  unfolding readSite readGiven alterTables
+  same-site levelBytes = rw (jobs-read, marks-read, no-marks-read) (go (readLevels levelBytes))
     where
-      go : (levels : Outcome (List Level))
-          → (andThen (andThen levels λ entries. andThen (readJobs jobBytes) λ found. answer (record { processor = processorOf entries; jobs = found })) λ tables.
-          andThen (readMarks markBytes) λ ticks. answer (siteOf tables ticks))
-          ≡ (andThen (andThen levels λ entries. andThen (readJobs jobBytes) λ found. answer (record { processor = processorOf entries; jobs = found })) λ tables.
-          andThen (readMarks noMarks) λ ticks. answer (siteOf tables ticks))
-      go (refused number place) = refl
-      go (answer entries) = rw (jobs-read, marks-read, no-marks-read, uncut jobs marks none-cut)
+      last : (levels : Outcome (List Level))
+          → (andThen (andThen levels λ levels. answer (tablesOf (record { levels = levels; jobs = jobs }))) λ tables. answer (siteOf tables marks))
+          ≡ (andThen (andThen levels λ levels. answer (tablesOf (record { levels = levels; jobs = jobs }))) λ tables. answer (siteOf tables []))
+      last (refused number place) = refl
+      last (answer levels) = rw (uncut jobs marks none-cut)
 
-  same-with : (levelBytes : List ℕ) → SameWith levelBytes jobBytes markBytes parameters noMarks
+      go : (levels : Outcome (List Level))
+          → (andThen (andThen levels λ entries. answer (record { levels = entries; jobs = given })) λ read.
+          andThen (alterTables parameters read) λ tables. answer (siteOf tables marks))
+          ≡ (andThen (andThen levels λ entries. answer (record { levels = entries; jobs = given })) λ read.
+          andThen (alterTables parameters read) λ tables. answer (siteOf tables []))
+      go (refused number place) = refl
+      go (answer entries) = rw altered (last (alterLevels (parameters .highest) entries))
+
+  same-with : (levelBytes : List ℕ) → SameWith levelBytes jobBytes markBytes noMarks parameters
   same-with levelBytes =
       let same = same-site levelBytes in
       record {
         sites = same;
-        fitting = fits-kept _ _ _ _ _ _ same;
-        checks = checks-kept _ _ _ _ _ _ same;
-        orders = orders-kept _ _ _ _ _ _ same;
+        fitting = fits-kept _ _ _ _ _ _ _ _ same;
+        checks = checks-kept _ _ _ _ _ _ _ _ same;
+        orders = orders-kept _ _ _ _ _ _ _ _ same;
         touches = same-touching;
         plans = λ before after answered.
-            (contract-kept _ _ _ _ _ _ same before after answered, contract-kept _ _ _ _ _ _ (sym same) before after answered);
+            (contract-kept _ _ _ _ _ _ _ _ same before after answered, contract-kept _ _ _ _ _ _ _ _ (sym same) before after answered);
       }
 
-as-before : (levelBytes jobBytes : List ℕ) → readSite levelBytes jobBytes noMarks
-    ≡ (andThen (readTables levelBytes jobBytes) λ tables.
-    answer (record { processor = tables .processor; jobs = tables .jobs; bounds = boundsOf (tables .jobs) }))
-unfolding readSite boundsWith insertMarks
-as-before levelBytes jobBytes = rw no-marks-read
+-- the site of levels and jobs with the jobs' own bounds alone
+abbrev uncutSite : Tables → Site
+uncutSite tables = record { processor = tables .processor; jobs = tables .jobs; bounds = boundsOf (tables .jobs) }
 
-touched-as-before : (jobBytes plan : List ℕ) (start end : ℕ) (before : Lists) → touching jobBytes noMarks plan start end before
-    ≡ refuseWhen (wrongSpan start end) 33 (andThen (readJobs jobBytes) λ jobs. touchingFor jobs (boundsOf jobs) plan start end before)
+as-before : (levelBytes jobBytes : List ℕ) (parameters : Parameters) → readSite levelBytes jobBytes noMarks parameters
+    ≡ (andThen (readTables levelBytes jobBytes parameters) λ tables.
+    answer (record { processor = tables .processor; jobs = tables .jobs; bounds = boundsOf (tables .jobs) }))
+unfolding readSite readTables boundsWith insertMarks
+as-before levelBytes jobBytes parameters = rw no-marks-read (go (readGiven levelBytes jobBytes))
+  where
+    go : (read : Outcome Given)
+        → andThen {B = Site} read (λ given. andThen (alterTables parameters given) (λ tables. answer (uncutSite tables)))
+        ≡ andThen {B = Site} (andThen read (alterTables parameters)) (λ tables. answer (uncutSite tables))
+    go (refused number place) = refl
+    go (answer given) = refl
+
+touched-as-before : (jobBytes : List ℕ) (free margin : ℕ) (plan : List ℕ) (start end : ℕ) (before : Lists)
+    → touching jobBytes noMarks free margin plan start end before
+    ≡ refuseWhen (wrongSpan start end) 33
+    (andThen (readJobs jobBytes) λ given.
+    andThen (alterJobs free margin given) λ jobs.
+    touchingFor jobs (boundsOf jobs) plan start end before)
 unfolding touching boundsWith insertMarks
-touched-as-before jobBytes plan start end before = rw no-marks-read
+touched-as-before jobBytes free margin plan start end before = rw no-marks-read
 
 -- buffers never make a window
 no-window-wanted : (own wanted room : ℕ) (next : PlanOutcome) (start end : ℕ) (spare : ℤ) → (next ≡ overfull start end spare → ⊥)
@@ -241,8 +266,8 @@ energy-moves tables marks others site other is other-is valid other-valid plan p
     )
 
 -- Two sites of the same levels and jobs, with any marks.
-module _ (levelBytes jobBytes one two : List ℕ) (site other : Site)
-    (read : ValidTables levelBytes jobBytes one site) (other-read : ValidTables levelBytes jobBytes two other) where
+module _ (levelBytes jobBytes one two : List ℕ) (parameters : Parameters) (site other : Site)
+    (read : ValidTables levelBytes jobBytes one parameters site) (other-read : ValidTables levelBytes jobBytes two parameters other) where
   -- they differ in their bounds alone
   record Alike : Type 0 where
     tables : Tables
@@ -253,9 +278,10 @@ module _ (levelBytes jobBytes one two : List ℕ) (site other : Site)
 
   alike : Alike
   alike =
-      let (tables, marks, tables-read, marks-read, is) = site-tables levelBytes jobBytes one site read in
-      let (others, otherMarks, others-read, other-marks-read, other-is) = site-tables levelBytes jobBytes two other other-read in
-      let same : others ≡ tables = answer-injective (sym others-read ∙ tables-read) in
+      let (given, tables, marks, given-read, marks-read, altered, is) = site-tables levelBytes jobBytes one parameters site read in
+      let (there, others, otherMarks, there-read, other-marks-read, other-altered, other-is) = site-tables levelBytes jobBytes two parameters other other-read in
+      let same-given : there ≡ given = answer-injective (sym there-read ∙ given-read) in
+      let same : others ≡ tables = answer-injective (sym other-altered ∙ ap (alterTables parameters) same-given ∙ altered) in
       record { tables = tables; marks = marks; otherMarks = otherMarks; is = is; other-is = rw same at other-is }
 
   -- two plans with fitting prices have one exact energy
@@ -264,7 +290,7 @@ module _ (levelBytes jobBytes one two : List ℕ) (site other : Site)
   same-energy plan prices accepted otherPlan otherPrices other-accepted =
       let found = alike in
       energy-moves (found .tables) (found .marks) (found .otherMarks) site other (found .is) (found .other-is)
-      (sites-are-valid levelBytes jobBytes one site read) (sites-are-valid levelBytes jobBytes two other other-read)
+      (sites-are-valid levelBytes jobBytes one parameters site read) (sites-are-valid levelBytes jobBytes two parameters other other-read)
       plan prices accepted otherPlan otherPrices other-accepted
 
   -- a schedule for the one is a schedule for the other
@@ -294,15 +320,15 @@ overfull-answer (Refused number place) start end spare e = let z : _≡_ {A = �
 module _ (call other : Call) (alike-calls : OtherMarks call other)
     (site : Site) (tables : ValidTables (call .levelBytes) (call .jobBytes) (call .markBytes) (call .parameters) site)
     (otherSite : Site) (other-tables : ValidTables (other .levelBytes) (other .jobBytes) (other .markBytes) (other .parameters) otherSite) where
-  -- the other's site, read with the one's levels and jobs
-  moved : ValidTables (call .levelBytes) (call .jobBytes) (other .markBytes) (other .parameters) otherSite
-  moved = rw (alike-calls .0, alike-calls .1) other-tables
+  -- the other's site, read with the one's levels, jobs and parameters
+  moved : ValidTables (call .levelBytes) (call .jobBytes) (other .markBytes) (call .parameters) otherSite
+  moved = rw (alike-calls .0, alike-calls .1, alike-calls .2) other-tables
 
   served-too : CanBeServed site → CanBeServed otherSite
-  served-too = same-served (call .levelBytes) (call .jobBytes) (call .markBytes) (call .parameters) (other .markBytes) (other .parameters) site otherSite tables moved
+  served-too = same-served (call .levelBytes) (call .jobBytes) (call .markBytes) (other .markBytes) (call .parameters) site otherSite tables moved
 
   served-back : CanBeServed otherSite → CanBeServed site
-  served-back = same-served (call .levelBytes) (call .jobBytes) (other .markBytes) (other .parameters) (call .markBytes) (call .parameters) otherSite site moved tables
+  served-back = same-served (call .levelBytes) (call .jobBytes) (other .markBytes) (call .markBytes) (call .parameters) otherSite site moved tables
 
   comes-out-too : Roomy call site → Roomy other otherSite → PlanComesOut call ↔ PlanComesOut other
   comes-out-too room other-room =
@@ -314,16 +340,16 @@ module _ (call other : Call) (alike-calls : OtherMarks call other)
       → (otherIntervals otherSteps otherEnergy : ℕ) → other .answered ≡ Plan otherIntervals otherSteps otherEnergy
       → exactFor site (planWritten call steps) ≡ exactFor otherSite (planWritten other otherSteps)
   energy-too intervals steps energy is otherIntervals otherSteps otherEnergy other-is =
-      same-energy (call .levelBytes) (call .jobBytes) (call .markBytes) (call .parameters) (other .markBytes) (other .parameters) site otherSite tables moved
+      same-energy (call .levelBytes) (call .jobBytes) (call .markBytes) (other .markBytes) (call .parameters) site otherSite tables moved
       _ _ (call .contract .best site tables intervals steps energy is .placed-and-priced)
       _ _ (other .contract .best otherSite other-tables otherIntervals otherSteps otherEnergy other-is .placed-and-priced) .0
 
   window-too : (start end : ℕ) (spare : ℤ) → call .answered ≡ Overfull start end spare → other .answered ≡ Overfull start end spare
   window-too start end spare is =
-      let here = sym (planned-as _ _ _ site tables _ _ _) ∙ sym (call .contract .outcome) ∙ ap outcomeOf is in
-      let there = same-overfull (call .levelBytes) (call .jobBytes) (call .markBytes) (call .parameters) (other .markBytes) (other .parameters) site otherSite tables moved
+      let here = sym (planned-as _ _ _ _ site tables _ _ _) ∙ sym (call .contract .outcome) ∙ ap outcomeOf is in
+      let there = same-overfull (call .levelBytes) (call .jobBytes) (call .markBytes) (other .markBytes) (call .parameters) site otherSite tables moved
       _ _ _ (length (other .before .plan)) (length (other .before .prices)) (length (other .before .shares)) start end spare here in
-      overfull-answer (other .answered) start end spare (other .contract .outcome ∙ planned-as _ _ _ otherSite other-tables _ _ _ ∙ there)
+      overfull-answer (other .answered) start end spare (other .contract .outcome ∙ planned-as _ _ _ _ otherSite other-tables _ _ _ ∙ there)
 
 pub handover-marks : HandoverMarks
 handover-marks =
@@ -331,30 +357,30 @@ handover-marks =
       read = are-marks;
       refused-by-34 = by-34;
       tables-first = tables-first;
-      then-marks = λ levelBytes jobBytes markBytes parameters tables read number place e.
-          refused-by-34 levelBytes jobBytes markBytes parameters (marks-next levelBytes jobBytes markBytes parameters tables read number place e);
+      then-marks = λ levelBytes jobBytes markBytes parameters given read number place e.
+          site-refused levelBytes jobBytes markBytes parameters 34 0 (marks-next levelBytes jobBytes markBytes parameters given read number place e);
       bounds = λ levelBytes jobBytes markBytes parameters site tables marks marks-read time.
-          let (found, ticks, tables-read, ticks-read, is) = site-tables levelBytes jobBytes markBytes parameters site tables in
+          let (given, found, ticks, given-read, ticks-read, altered, is) = site-tables levelBytes jobBytes markBytes parameters site tables in
           let same : ticks ≡ marks = answer-injective (sym ticks-read ∙ marks-read) in
           subst (λ (s : Site). IsBound (s .bounds) time ↔ (OfAJob (s .jobs) time ⊎ Cuts (s .jobs) marks time))
           (sym (is ∙ ap (siteOf found) same)) (bounds-are (found .jobs) marks time);
       bounds-rise = λ levelBytes jobBytes markBytes parameters site tables. sites-are-valid levelBytes jobBytes markBytes parameters site tables .bounds .rises;
       few-intervals = λ levelBytes jobBytes markBytes parameters site tables.
           omega (arith, sites-are-valid levelBytes jobBytes markBytes parameters site tables .few-bounds);
-      no-effect = λ levelBytes jobBytes markBytes parameters jobs marks jobs-read marks-read none-cut.
-          same-with jobBytes markBytes parameters jobs marks jobs-read marks-read none-cut levelBytes;
+      no-effect = λ levelBytes jobBytes markBytes parameters given jobs marks jobs-read marks-read altered none-cut.
+          same-with jobBytes markBytes parameters given jobs marks jobs-read marks-read altered none-cut levelBytes;
       none-read = no-marks-read;
       no-marks = as-before;
       no-marks-touched = touched-as-before;
-      same-least-energy = λ levelBytes jobBytes one two site other read other-read plan prices figure checked otherPlan otherPrices otherFigure other-checked.
-          same-energy levelBytes jobBytes one two site other read other-read
-          plan prices (check-accepts site plan prices figure .0 (sym (check-read _ _ _ plan prices site read) ∙ checked) .0)
-          otherPlan otherPrices (check-accepts other otherPlan otherPrices otherFigure .0 (sym (check-read _ _ _ otherPlan otherPrices other other-read) ∙ other-checked) .0);
+      same-least-energy = λ levelBytes jobBytes one two parameters site other read other-read plan prices figure checked otherPlan otherPrices otherFigure other-checked.
+          same-energy levelBytes jobBytes one two parameters site other read other-read
+          plan prices (check-accepts site plan prices figure .0 (sym (check-read _ _ _ _ plan prices site read) ∙ checked) .0)
+          otherPlan otherPrices (check-accepts other otherPlan otherPrices otherFigure .0 (sym (check-read _ _ _ _ otherPlan otherPrices other other-read) ∙ other-checked) .0);
       same-energy-planned = λ call other same site tables otherSite other-tables. energy-too call other same site tables otherSite other-tables;
       comes-out = λ call other same site tables room otherSite other-tables other-room.
           comes-out-too call other same site tables otherSite other-tables room other-room;
       same-window = λ call other same site tables otherSite other-tables start end spare. (
         window-too call other same site tables otherSite other-tables start end spare,
-        window-too other call (sym (same .0), sym (same .1)) otherSite other-tables site tables start end spare,
+        window-too other call (sym (same .0), sym (same .1), sym (same .2)) otherSite other-tables site tables start end spare,
       );
     }

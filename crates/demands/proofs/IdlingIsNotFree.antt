@@ -9,20 +9,25 @@ use native.Mathlib.Omega.{arith}
 use lib.ListN.{length}
 use borrow.Author.Tests.{eqb-true}
 use Rattle.model.specs.declared.Level.{Level}
-use Rattle.model.specs.Outcome.{answer, andThen}
+use Rattle.model.specs.declared.Job.{Job}
+use Rattle.model.specs.declared.Parameters.{Parameters}
+use Rattle.model.specs.Outcome.{Outcome, refused, answer, andThen}
 use Rattle.model.specs.Bytes.{IsBytes}
 use Rattle.model.specs.Levels.{ValidLevels}
 use Rattle.model.specs.Jobs.{readJobs}
 use Rattle.model.specs.LevelTables.{beginsIdle, idleEntry, idlePowerOf, runningLevels, readLevels, ValidLevelTable, DrawFits, encodeLevels}
-use Rattle.model.specs.Processors.{Processor, processorOf, readProcessor}
+use Rattle.model.specs.SiteParameters.{alterLevels, alterJobs}
+use Rattle.model.specs.Marks.{readMarks}
+use Rattle.model.specs.Processors.{Processor, processorOf, processorUpTo, readProcessor}
 use Rattle.model.specs.Setting.{setting}
-use Rattle.model.specs.Sites.{readTables, readSite}
+use Rattle.model.specs.Sites.{readGiven, Tables, tablesOf, alterTables, readTables, siteOf, readSite}
 use Rattle.model.specs.Windows.{spare}
 use Rattle.model.proofs.Numbers.{true-or-false}
 use Rattle.model.proofs.Outcome.{andThen-answered, answer-injective}
 use Rattle.model.proofs.Points.{power-some, points-rise}
 use Rattle.model.proofs.LevelTables.{running-length, plain-begins, plain-table, idle-table, levels-read-back}
-use Rattle.model.proofs.Sites.{sites-are-valid}
+use Rattle.model.proofs.SiteParameters.{same-up-to}
+use Rattle.model.proofs.Sites.{sites-are-valid, as-given-processor}
 use Rattle.model.proofs.IdleDraw.{idling-is-a-point, draw-keeps-levels, energies-gain-the-draw, schedules-pay-the-draw, draw-moves-no-window}
 use Rattle.reading.proofs.Encodings.{encodings-are-bytes}
 use Rattle.demands.specs.IdlingIsNotFree.{TableOf, with-entry, without-entry, SameAnswers, IdlingIsNotFree}
@@ -53,14 +58,20 @@ table-of (first ∷ rest) valid fits = go (true-or-false (beginsIdle (first ∷ 
 
 -- and such bytes are read so
 module _ (bytes : List ℕ) (small : IsBytes bytes) (processor : Processor) where
-  read-table : readProcessor bytes ≡ answer processor → TableOf bytes processor
+  -- the processor of the entries as they are given
+  abbrev givenProcessor : Outcome Processor
+  givenProcessor =
+      andThen (readLevels bytes) λ entries.
+      answer (processorOf entries)
+
+  read-table : givenProcessor ≡ answer processor → TableOf bytes processor
   read-table e =
       let (entries, read, is) = andThen-answered (readLevels bytes) _ e in
       let (valid, fits, encoded) = levels-read-back bytes entries small .0 read in
       subst (TableOf bytes) (answer-injective is)
       (subst (λ (encoding : List ℕ). TableOf encoding (processorOf entries)) (sym encoded) (table-of entries valid fits))
 
-  table-read : TableOf bytes processor → readProcessor bytes ≡ answer processor
+  table-read : TableOf bytes processor → givenProcessor ≡ answer processor
   table-read (with-entry draw board drawn encoded) =
       let (valid, fits) = idle-table draw (processor .levels) (board .valid) (board .few) (board .draw-fits) (board .draw-low) in
       rw (levels-read-back bytes _ small .1 (valid, fits, encoded))
@@ -70,32 +81,76 @@ module _ (bytes : List ℕ) (small : IsBytes bytes) (processor : Processor) wher
       rw (levels-read-back bytes _ small .1 (table, fits, encoded), plain-begins (processor .levels) valid)
       (ap (λ (power : ℕ). answer (record { idlePower = power; levels = processor .levels })) (sym drawn))
 
--- levels that are read with all jobs as others are make the same sites
-same-sites : (one two : List ℕ) → ((jobs : List ℕ) → readTables one jobs ≡ readTables two jobs) → (jobs marks : List ℕ) → readSite one jobs marks ≡ readSite two jobs marks
-unfolding readSite
-same-sites one two tables jobs marks = rw (tables jobs)
+-- Two level tables whose altered levels make the same processor have the same answers.
+module _ (one two : List ℕ) (entries others : List Level) (read-one : readLevels one ≡ answer entries) (read-two : readLevels two ≡ answer others)
+    (same : (highest : ℕ) → processorUpTo highest entries ≡ processorUpTo highest others) where
+  processors : (highest : ℕ) → readProcessor one highest ≡ readProcessor two highest
+  processors highest = rw (read-one, read-two) (same highest)
 
-same-answers : (one two : List ℕ) → readProcessor one ≡ readProcessor two → ((jobs : List ℕ) → readTables one jobs ≡ readTables two jobs)
-    → SameAnswers one two
-unfolding setting spare
-same-answers one two same tables =
-    record {
-      processors = same;
-      tables = tables;
-      sites = sites;
-      settings = λ length load. rw same;
-      spares = λ jobs start end. rw (tables jobs);
-      fitting = λ jobs marks. fits-kept one jobs marks two jobs marks (sites jobs marks);
-      checks = λ jobs marks. checks-kept one jobs marks two jobs marks (sites jobs marks);
-      orders = λ jobs marks. orders-kept one jobs marks two jobs marks (sites jobs marks);
-      plans = λ jobs marks before after answered. (
-        contract-kept one jobs marks two jobs marks (sites jobs marks) before after answered,
-        contract-kept two jobs marks one jobs marks (sym (sites jobs marks)) before after answered,
-      );
-    }
-  where
-    sites : (jobs marks : List ℕ) → readSite one jobs marks ≡ readSite two jobs marks
-    sites = same-sites one two tables
+  altered : (parameters : Parameters) (jobs : List Job)
+      → alterTables parameters (record { levels = entries; jobs = jobs }) ≡ alterTables parameters (record { levels = others; jobs = jobs })
+  unfolding alterTables
+  altered parameters jobs =
+      after (alterLevels (parameters .highest) entries) ∙ ap next (same (parameters .highest)) ∙ sym (after (alterLevels (parameters .highest) others))
+    where
+      next : Outcome Processor → Outcome Tables
+      next outcome =
+          andThen outcome λ processor.
+          andThen (alterJobs (parameters .free) (parameters .margin) jobs) λ altered.
+          answer (record { processor = processor; jobs = altered })
+
+      after : (levels : Outcome (List Level))
+          → (andThen levels λ levels.
+          andThen (alterJobs (parameters .free) (parameters .margin) jobs) λ altered.
+          answer (tablesOf (record { levels = levels; jobs = altered })))
+          ≡ next (andThen levels λ levels. answer (processorOf levels))
+      after (refused number place) = refl
+      after (answer levels) = refl
+
+  tables : (jobs : List ℕ) (parameters : Parameters) → readTables one jobs parameters ≡ readTables two jobs parameters
+  unfolding readTables readGiven
+  tables jobs parameters = rw (read-one, read-two) (go (readJobs jobs))
+    where
+      go : (jobs-read : Outcome (List Job))
+          → andThen (andThen jobs-read (λ jobs. answer (record { levels = entries; jobs = jobs }))) (alterTables parameters)
+          ≡ andThen (andThen jobs-read (λ jobs. answer (record { levels = others; jobs = jobs }))) (alterTables parameters)
+      go (refused number place) = refl
+      go (answer jobs) = altered parameters jobs
+
+  sites : (jobs marks : List ℕ) (parameters : Parameters) → readSite one jobs marks parameters ≡ readSite two jobs marks parameters
+  unfolding readSite readGiven
+  sites jobs marks parameters = rw (read-one, read-two) (go (readJobs jobs) (readMarks marks))
+    where
+      go : (jobs-read : Outcome (List Job)) (marks-read : Outcome (List ℕ))
+          → (andThen (andThen jobs-read (λ jobs. answer (record { levels = entries; jobs = jobs }))) λ given.
+          andThen marks-read λ ticks.
+          andThen (alterTables parameters given) λ tables.
+          answer (siteOf tables ticks))
+          ≡ (andThen (andThen jobs-read (λ jobs. answer (record { levels = others; jobs = jobs }))) λ given.
+          andThen marks-read λ ticks.
+          andThen (alterTables parameters given) λ tables.
+          answer (siteOf tables ticks))
+      go (refused number place) marks-read = refl
+      go (answer jobs) (refused number place) = refl
+      go (answer jobs) (answer ticks) = rw (altered parameters jobs)
+
+  same-answers : SameAnswers one two
+  unfolding setting spare
+  same-answers =
+      record {
+        processors = processors;
+        tables = tables;
+        sites = sites;
+        settings = λ highest length load. rw (processors highest);
+        spares = λ jobs parameters start end. rw (tables jobs parameters);
+        fitting = λ jobs marks parameters. fits-kept one jobs marks parameters two jobs marks parameters (sites jobs marks parameters);
+        checks = λ jobs marks parameters. checks-kept one jobs marks parameters two jobs marks parameters (sites jobs marks parameters);
+        orders = λ jobs marks parameters. orders-kept one jobs marks parameters two jobs marks parameters (sites jobs marks parameters);
+        plans = λ jobs marks parameters before after answered. (
+          contract-kept one jobs marks parameters two jobs marks parameters (sites jobs marks parameters) before after answered,
+          contract-kept two jobs marks parameters one jobs marks parameters (sym (sites jobs marks parameters)) before after answered,
+        );
+      }
 
 -- a draw of 0 makes the processor of the running levels alone
 module _ (levels : List Level) (valid : ValidLevels levels) (few : length levels ≤ 7) where
@@ -110,27 +165,24 @@ module _ (levels : List Level) (valid : ValidLevels levels) (few : length levels
   same-processor : processorOf (idleEntry 0 ∷ levels) ≡ processorOf levels
   same-processor = rw (plain-begins levels valid)
 
-  same-tables : (jobs : List ℕ) → readTables (encodeLevels (idleEntry 0 ∷ levels)) jobs ≡ readTables (encodeLevels levels) jobs
-  unfolding readTables
-  same-tables jobs =
-      rw (with-nothing, without)
-      (ap (λ (processor : Processor). andThen (readJobs jobs) λ jobs. answer (record { processor = processor; jobs = jobs })) same-processor)
-
   nothing-drawn : SameAnswers (encodeLevels (idleEntry 0 ∷ levels)) (encodeLevels levels)
-  nothing-drawn = same-answers _ _ (rw (with-nothing, without) (ap answer same-processor)) same-tables
+  nothing-drawn = same-answers _ _ _ _ with-nothing without (same-up-to (idleEntry 0 ∷ levels) levels same-processor)
 
 pub idling-is-not-free : IdlingIsNotFree
 idling-is-not-free =
     record {
-      read = λ bytes small processor. (read-table bytes small processor, table-read bytes small processor);
+      read = λ bytes small processor. (
+        λ e. read-table bytes small processor (sym (as-given-processor bytes) ∙ e),
+        λ table. as-given-processor bytes ∙ table-read bytes small processor table,
+      );
       point = idling-is-a-point;
       gained = λ levelBytes jobBytes markBytes parameters site tables plan figure such.
           let valid = sites-are-valid levelBytes jobBytes markBytes parameters site tables in
           let gains = energies-gain-the-draw _ (site .processor .levels) (site .jobs) (site .bounds) (valid .bounds) _ in
           record { exact = gains .0; reported = such .energy-figure ∙ gains .1 };
       schedules-pay = λ site schedule. schedules-pay-the-draw _ _ _ schedule;
-      between-repeats = λ laid length multiple told levelBytes markBytes plan prices figure accepted site tables r.
-          let repeated = repeated-rounds .checked laid length multiple told levelBytes markBytes plan prices figure accepted site tables r in
+      between-repeats = λ laid length multiple told levelBytes markBytes parameters plan prices figure accepted site tables r.
+          let repeated = repeated-rounds .checked laid length multiple told levelBytes markBytes parameters plan prices figure accepted site tables r in
           record {
             apart = repeated .apart;
             plan-pays = repeated .repeated-plan .energy;

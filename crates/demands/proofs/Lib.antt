@@ -1,5 +1,6 @@
 -- The three demands hold, rounds repeat, idling is not free, a plan has one spelling, the window test keeps a running sum, what touches
--- a span is listed, handover marks cut intervals, one plan serves many boards, and the check has two halves.
+-- a span is listed, handover marks cut intervals, one plan serves many boards, the check has two halves, and
+-- parameters alter the tables.
 pub mod SiteParts
 pub mod SameSites
 pub mod ThreeDemands
@@ -12,3 +13,4 @@ pub mod TouchedSpans
 pub mod HandoverMarks
 pub mod ManyBoards
 pub mod TwoHalves
+pub mod SiteParameters

@@ -11,6 +11,7 @@ use Rattle.model.specs.declared.Job.{Job}
 use Rattle.model.specs.declared.Parameters.{Parameters}
 use Rattle.model.specs.Outcome.{Outcome, refused, answer}
 use Rattle.model.specs.Jobs.{readJobs}
+use Rattle.model.specs.SiteParameters.{alterJobs}
 use Rattle.model.specs.Marks.{readMarks, boundsWith}
 use Rattle.model.specs.Sites.{Site, readSite}
 use Rattle.model.specs.Checking.{check}
@@ -37,15 +38,18 @@ answered-of : (outcome : Outcome (List ℕ)) (size : ℕ) → Ordered size ≡ o
 answered-of (refused number place) size e = let z : _≡_ {A = ℕ} 0 1 = cc e in absurd (omega (arith, z))
 answered-of (answer ordered) size e = (ordered, refl)
 
--- a site has the jobs of its job table, and their bounds with the marks
+-- a site has the jobs that its parameters make of its job table, and their bounds with the marks
 jobs-of : (levelBytes jobBytes markBytes : List ℕ) (parameters : Parameters) (site : Site) → readSite levelBytes jobBytes markBytes parameters ≡ answer site
-    → (jobs : List Job) → readJobs jobBytes ≡ answer jobs → (marks : List ℕ) → readMarks markBytes ≡ answer marks
+    → (given : List Job) → readJobs jobBytes ≡ answer given → (marks : List ℕ) → readMarks markBytes ≡ answer marks
+    → (jobs : List Job) → alterJobs (parameters .free) (parameters .margin) given ≡ answer jobs
     → (site .jobs ≡ jobs) × (site .bounds ≡ boundsWith marks jobs)
-jobs-of levelBytes jobBytes markBytes parameters site read jobs is-jobs marks are-marks =
-    let (found, ticks, jobs-read, marks-read, same-jobs, same-bounds) = site-parts levelBytes jobBytes markBytes parameters site read in
-    let same : found ≡ jobs = answer-injective (sym jobs-read ∙ is-jobs) in
+jobs-of levelBytes jobBytes markBytes parameters site read given is-given marks are-marks jobs is-jobs =
+    let (found, ticks, jobs-read, marks-read, altered, same-bounds) = site-parts levelBytes jobBytes markBytes parameters site read in
+    let same-given : found ≡ given = answer-injective (sym jobs-read ∙ is-given) in
     let same-marks : ticks ≡ marks = answer-injective (sym marks-read ∙ are-marks) in
-    (same-jobs ∙ same, same-bounds ∙ ap₂ (λ (m : List ℕ) (j : List Job). boundsWith m j) same-marks same)
+    let same : site .jobs ≡ jobs =
+        answer-injective (sym altered ∙ ap (alterJobs (parameters .free) (parameters .margin)) same-given ∙ is-jobs) in
+    (same, same-bounds ∙ ap₂ (λ (m : List ℕ) (j : List Job). boundsWith m j) same-marks same)
 
 module _ (call : OrderingCall) where
   abbrev outcome : Outcome (List ℕ)
@@ -101,12 +105,13 @@ module _ (call : OrderingCall) (comes-out : ComesOut call) where
   plan-out : planOut call ≡ orderedPlan (call .plan)
   plan-out = out-is call figure-of accepts (only-accepted call (length (call .plan)) comes-out .2)
 
-  -- the plan is one for the jobs of the table
-  plan-of-jobs : (jobs : List Job) → readJobs (call .jobBytes) ≡ answer jobs → (marks : List ℕ) → readMarks (call .markBytes) ≡ answer marks
+  -- the plan is one for the altered jobs of the table
+  plan-of-jobs : (given : List Job) → readJobs (call .jobBytes) ≡ answer given → (marks : List ℕ) → readMarks (call .markBytes) ≡ answer marks
+      → (jobs : List Job) → alterJobs (call .parameters .free) (call .parameters .margin) given ≡ answer jobs
       → IsPlan jobs (boundsWith marks jobs) (call .plan)
-  plan-of-jobs jobs is-jobs marks are-marks =
+  plan-of-jobs given is-given marks are-marks jobs is-jobs =
       let (site, read, checked) = check-reads (call .levelBytes) (call .jobBytes) (call .markBytes) (call .parameters) (call .plan) (call .prices) figure-of accepts in
-      let (same-jobs, same-bounds) = jobs-of (call .levelBytes) (call .jobBytes) (call .markBytes) (call .parameters) site read jobs is-jobs marks are-marks in
+      let (same-jobs, same-bounds) = jobs-of (call .levelBytes) (call .jobBytes) (call .markBytes) (call .parameters) site read given is-given marks are-marks jobs is-jobs in
       rw (same-jobs, same-bounds) at (check-accepts site (call .plan) (call .prices) figure-of .0 checked .0 .is-plan)
 
   checked-again : check (call .levelBytes) (call .jobBytes) (call .markBytes) (call .parameters) (planOut call) (call .prices)
@@ -114,27 +119,29 @@ module _ (call : OrderingCall) (comes-out : ComesOut call) where
   checked-again =
       let (site, read, checked) = check-reads (call .levelBytes) (call .jobBytes) (call .markBytes) (call .parameters) (call .plan) (call .prices) figure-of accepts in
       let again = accepted-again site (sites-are-valid _ _ _ _ site read) (call .plan) (call .prices) figure-of checked in
-      rw plan-out (check-read _ _ _ (orderedPlan (call .plan)) _ site read ∙ again ∙ sym accepts)
+      rw plan-out (check-read _ _ _ _ (orderedPlan (call .plan)) _ site read ∙ again ∙ sym accepts)
 
   same-energy : (site : Site) → ValidTables (call .levelBytes) (call .jobBytes) (call .markBytes) (call .parameters) site → exactFor site (planOut call) ≡ exactFor site (call .plan)
   same-energy site read =
-      let checked = sym (check-read _ _ _ _ _ site read) ∙ accepts in
+      let checked = sym (check-read _ _ _ _ _ _ site read) ∙ accepts in
       rw plan-out (ordered-exact site (sites-are-valid _ _ _ _ site read) (call .plan) (call .prices) figure-of checked)
 
 equal-exactly-when : (one two : OrderingCall) → ComesOut one → ComesOut two → one .jobBytes ≡ two .jobBytes
-    → (jobs : List Job) → readJobs (one .jobBytes) ≡ answer jobs
+    → (given : List Job) → readJobs (one .jobBytes) ≡ answer given
     → one .markBytes ≡ two .markBytes → (marks : List ℕ) → readMarks (one .markBytes) ≡ answer marks
+    → one .parameters .free ≡ two .parameters .free → one .parameters .margin ≡ two .parameters .margin
+    → (jobs : List Job) → alterJobs (one .parameters .free) (one .parameters .margin) given ≡ answer jobs
     → (planOut one ≡ planOut two) ↔ SameCycles jobs marks (one .plan) (two .plan)
-equal-exactly-when one two first second same-table jobs is-jobs same-marks marks are-marks =
+equal-exactly-when one two first second same-table given is-given same-marks marks are-marks same-free same-margin jobs is-jobs =
     rw (plan-out one first, plan-out two second)
-    (same-for-jobs jobs (boundsWith marks jobs) (one .plan) (two .plan) (plan-of-jobs one first jobs is-jobs marks are-marks)
-    (plan-of-jobs two second jobs (rw same-table at is-jobs) marks (rw same-marks at are-marks)) (orderable-plan one first) (orderable-plan two second))
+    (same-for-jobs jobs (boundsWith marks jobs) (one .plan) (two .plan) (plan-of-jobs one first given is-given marks are-marks jobs is-jobs)
+    (plan-of-jobs two second given (rw same-table at is-given) marks (rw same-marks at are-marks) jobs (rw (same-free, same-margin) at is-jobs)) (orderable-plan one first) (orderable-plan two second))
 
 pub one-spelling : OneSpelling
 one-spelling =
     record {
-      as-the-check = λ call number place e. refused-call call number place (order-as-check _ _ _ _ _ _ number place e);
-      too-short = λ call figure accepted short. refused-call call 12 (length (call .plan)) (order-too-short _ _ _ _ _ _ figure accepted short);
+      as-the-check = λ call number place e. refused-call call number place (order-as-check _ _ _ _ _ _ _ number place e);
+      too-short = λ call figure accepted short. refused-call call 12 (length (call .plan)) (order-too-short _ _ _ _ _ _ _ figure accepted short);
       written = written-call;
       only-accepted = only-accepted;
       equal-exactly-when = equal-exactly-when;
@@ -149,6 +156,7 @@ one-spelling =
           levelBytes = levelBytes;
           jobBytes = jobBytes;
           markBytes = markBytes;
+          parameters = parameters;
           plan = plan;
           prices = prices;
           before = before;
@@ -156,6 +164,7 @@ one-spelling =
           answered = answered;
           contract = contract;
         },
+        refl,
         refl,
         refl,
         refl,

@@ -12,6 +12,7 @@ use Rattle.model.specs.declared.Job.{Job}
 use Rattle.model.specs.declared.Parameters.{Parameters}
 use Rattle.model.specs.Outcome.{Outcome, refused, answer}
 use Rattle.model.specs.Jobs.{readJobs, encodeJobs}
+use Rattle.model.specs.SiteParameters.{alterJobs}
 use Rattle.model.specs.Processors.{topOf}
 use Rattle.model.specs.Sites.{Site}
 use Rattle.model.specs.Windows.{cyclesInside, isOverfull}
@@ -20,7 +21,8 @@ use Rattle.model.specs.Demands.{ValidTables}
 use Rattle.model.proofs.Outcome.{answer-injective}
 use Rattle.model.proofs.Sites.{sites-are-valid, sound-site}
 use Rattle.model.proofs.Accepted.{check-accepts, check-read}
-use Rattle.model.proofs.Hypotheses.{every-valid-table}
+use Rattle.model.proofs.SiteParameters.{levels-altered, jobs-altered}
+use Rattle.model.proofs.Hypotheses.{every-valid-table, every-given-table}
 use Rattle.tasks.specs.Rounds.{Round, tableLength, rounds, bufferAfter}
 use Rattle.tasks.proofs.Rounds.{answered-round-is}
 use Rattle.rounds.specs.declared.operation.RoundsAnswer.the-variants.{LaidOut}
@@ -57,18 +59,19 @@ module _ (laid : LayOutCall) (length multiple : ℕ) (found : Answered laid leng
   jobs-read : readJobs (jobsWritten laid length) ≡ answer (found .round .jobs)
   jobs-read = rw written (answered-round-is (laid .taskBytes) (size (laid .before)) (found .round) (found .is) .reads-back)
 
-  same-jobs : (levelBytes markBytes : List ℕ) (parameters : Parameters) (site : Site) → ValidTables levelBytes (jobsWritten laid length) markBytes site → site .jobs ≡ found .round .jobs
-  same-jobs levelBytes markBytes site tables =
-      let (jobs, marks, read, marks-read, same-jobs, same-bounds) = site-parts levelBytes (jobsWritten laid length) markBytes site tables in
-      same-jobs ∙ answer-injective (sym read ∙ jobs-read)
+  -- the site's jobs are these, altered
+  altered : (levelBytes markBytes : List ℕ) (parameters : Parameters) (site : Site) → ValidTables levelBytes (jobsWritten laid length) markBytes parameters site
+      → alterJobs (parameters .free) (parameters .margin) (found .round .jobs) ≡ answer (site .jobs)
+  altered levelBytes markBytes parameters site tables =
+      let (given, marks, read, marks-read, is-altered, same-bounds) = site-parts levelBytes (jobsWritten laid length) markBytes parameters site tables in
+      ap (alterJobs (parameters .free) (parameters .margin)) (answer-injective (sym jobs-read ∙ read)) ∙ is-altered
 
-  repeats : (levelBytes markBytes : List ℕ) (parameters : Parameters) (site : Site) → ValidTables levelBytes (jobsWritten laid length) markBytes site
-      → (plan prices : List ℕ) → Accepted site plan prices → (r : ℕ) → Repeated laid multiple site plan prices r
-  repeats levelBytes markBytes site tables plan prices accepted r =
-      let same = same-jobs levelBytes markBytes site tables in
-      let round : Round = record { multiple = multiple; jobs = site .jobs } in
-      let e : found .round ≡ round = rw (found .same-multiple, same) in
-      rounds-that-repeat (laid .taskBytes) (size (laid .before)) round (found .is ∙ ap answer e) site (sites-are-valid _ _ _ _ site tables) refl plan prices accepted r
+  repeats : (levelBytes markBytes : List ℕ) (parameters : Parameters) (site : Site) → ValidTables levelBytes (jobsWritten laid length) markBytes parameters site
+      → (plan prices : List ℕ) → Accepted site plan prices → (r : ℕ) → Repeated laid multiple parameters site plan prices r
+  repeats levelBytes markBytes parameters site tables plan prices accepted r =
+      rw (found .same-multiple)
+      (rounds-that-repeat (laid .taskBytes) (size (laid .before)) (found .round) (found .is) (parameters .free) (parameters .margin) site
+      (sites-are-valid _ _ _ _ site tables) (altered levelBytes markBytes parameters site tables) plan prices accepted r)
 
 -- a window whose own jobs need more than the top frequency gives there is overfull
 needs-more : (top : ℕ) (jobs : List Job) (start end : ℕ) → (end - start) * top < cyclesInside jobs start end → isOverfull top jobs start end ≡ true
@@ -81,15 +84,20 @@ repeated-rounds =
       planned = λ laid length multiple told call same site tables intervals steps energy is r.
           repeats laid length multiple (answered-round laid length multiple told) (call .levelBytes) (call .markBytes) (call .parameters) site (rw same at tables) _ _
           (call .contract .best site tables intervals steps energy is .placed-and-priced) r;
-      checked = λ laid length multiple told levelBytes markBytes plan prices figure accepted site tables r.
-          repeats laid length multiple (answered-round laid length multiple told) levelBytes markBytes site tables plan prices
-          (check-accepts site plan prices figure .0 (sym (check-read levelBytes _ markBytes plan prices site tables) ∙ accepted) .0) r;
+      checked = λ laid length multiple told levelBytes markBytes parameters plan prices figure accepted site tables r.
+          repeats laid length multiple (answered-round laid length multiple told) levelBytes markBytes parameters site tables plan prices
+          (check-accepts site plan prices figure .0 (sym (check-read levelBytes _ markBytes parameters plan prices site tables) ∙ accepted) .0) r;
       overfull = λ laid length multiple told call same site tables start end spare is r some.
           overfull-repeats site (sound-site (sites-are-valid _ _ _ _ site tables)) start end
           (needs-more (topOf (site .processor)) (site .jobs) start end (call .contract .window site tables start end spare is .needs-more)) multiple r some;
-      every-round = λ laid length multiple told levelBytes markBytes levels marks read marks-read. (
+      every-round = λ laid length multiple told levelBytes markBytes parameters entries levels jobs altered marks read marks-read jobs-read levels-law jobs-law. (
         _,
-        every-valid-table levelBytes (jobsWritten laid length) markBytes levels _ marks read
+        every-valid-table levelBytes (jobsWritten laid length) markBytes parameters entries levels jobs altered marks read jobs-read marks-read
+            (levels-altered (parameters .highest) entries levels .1 levels-law) (jobs-altered (parameters .free) (parameters .margin) jobs altered .1 jobs-law),
+      );
+      every-laid-out = λ laid length multiple told levelBytes markBytes entries marks read marks-read. (
+        _,
+        every-given-table levelBytes (jobsWritten laid length) markBytes entries _ marks read
             (jobs-read laid length multiple (answered-round laid length multiple told)) marks-read,
       );
       every-call = λ taskBytes before after answered contract. (

@@ -4,6 +4,7 @@
 use mathlib.Core.Path.{_≡_, _∙_}
 use mathlib.Core.List.{List}
 use Prim.Native.Nat.{ℕ}
+use Rattle.model.specs.declared.Parameters.{Parameters}
 use Rattle.model.specs.Sites.{readSite}
 use Rattle.model.specs.Checking.{fits, check}
 use Rattle.model.specs.Planning.{planning}
@@ -12,9 +13,10 @@ use Rattle.planning.specs.MadePlans.{Buffers}
 use Rattle.planning.specs.PlanAnswers.{PlanContract}
 use Rattle.ordering.specs.Ordering.{order}
 
-module _ (levels jobs marks otherLevels otherJobs otherMarks : List ℕ) (same : readSite levels jobs marks ≡ readSite otherLevels otherJobs otherMarks) where
-  pub contract-kept : (before after : Buffers) (answered : PlanAnswer) → PlanContract levels jobs marks before after answered
-      → PlanContract otherLevels otherJobs otherMarks before after answered
+module _ (levels jobs marks : List ℕ) (parameters : Parameters) (otherLevels otherJobs otherMarks : List ℕ) (otherParameters : Parameters)
+    (same : readSite levels jobs marks parameters ≡ readSite otherLevels otherJobs otherMarks otherParameters) where
+  pub contract-kept : (before after : Buffers) (answered : PlanAnswer) → PlanContract levels jobs marks parameters before after answered
+      → PlanContract otherLevels otherJobs otherMarks otherParameters before after answered
   unfolding planning
   contract-kept before after answered contract =
       record {
@@ -27,14 +29,14 @@ module _ (levels jobs marks otherLevels otherJobs otherMarks : List ℕ) (same :
         exactly-when-served = λ site read. contract .exactly-when-served site (same ∙ read);
       }
 
-  pub fits-kept : (plan : List ℕ) → fits levels jobs marks plan ≡ fits otherLevels otherJobs otherMarks plan
+  pub fits-kept : (plan : List ℕ) → fits levels jobs marks parameters plan ≡ fits otherLevels otherJobs otherMarks otherParameters plan
   unfolding fits
   fits-kept plan = rw same
 
-  pub checks-kept : (plan prices : List ℕ) → check levels jobs marks plan prices ≡ check otherLevels otherJobs otherMarks plan prices
+  pub checks-kept : (plan prices : List ℕ) → check levels jobs marks parameters plan prices ≡ check otherLevels otherJobs otherMarks otherParameters plan prices
   unfolding check
   checks-kept plan prices = rw same
 
-  pub orders-kept : (plan prices : List ℕ) (room : ℕ) → order levels jobs marks plan prices room ≡ order otherLevels otherJobs otherMarks plan prices room
+  pub orders-kept : (plan prices : List ℕ) (room : ℕ) → order levels jobs marks parameters plan prices room ≡ order otherLevels otherJobs otherMarks otherParameters plan prices room
   unfolding order
   orders-kept plan prices room = rw (checks-kept plan prices)

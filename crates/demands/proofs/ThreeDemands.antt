@@ -6,8 +6,7 @@ use Prim.Native.Nat.{ℕ}
 use native.Mathlib.Omega.{arith}
 use lib.ListN.{length}
 use Rattle.model.specs.Outcome.{Outcome, refused, answer}
-use Rattle.model.specs.Processors.{processorOf}
-use Rattle.model.specs.Sites.{Site, siteOf, ValidSite}
+use Rattle.model.specs.Sites.{Site, tablesOf, siteOf, ValidSite}
 use Rattle.model.specs.Steps.{sharesOf}
 use Rattle.model.specs.Checking.{figureOf}
 use Rattle.model.specs.Accepted.{Accepted}
@@ -17,6 +16,7 @@ use Rattle.model.proofs.Sites.{sites-are-valid, sound-site}
 use Rattle.model.proofs.LeastEnergy.{plans-are-schedules}
 use Rattle.model.proofs.Accepted.{check-accepts, check-read, check-reads}
 use Rattle.model.proofs.Demands.{long-enough-decides}
+use Rattle.model.proofs.SiteParameters.{levels-altered, jobs-altered}
 use Rattle.model.proofs.Hypotheses.{every-valid-table}
 use Rattle.model.proofs.RefusalNumbers.{levels-by, jobs-by, marks-by, setting-by, spare-by, walk-by, fits-by, check-by, planning-by}
 use Rattle.planning.specs.declared.operation.PlanAnswer.{PlanAnswer}
@@ -77,17 +77,17 @@ demand-one =
       fitting = fits-by;
       checking = check-by;
       walking = walk-by;
-      planning = λ call number place e. planning-by _ _ _ _ _ _ number place (sym (call .contract .outcome) ∙ e);
+      planning = λ call number place e. planning-by _ _ _ _ _ _ _ number place (sym (call .contract .outcome) ∙ e);
       changes-nothing = λ call no-plan. call .contract .untouched no-plan;
       laying-out = rounds-refuse;
       lays-out-nothing = λ tasks before after answered contract number place is.
           refused-keeps before after (rounds tasks (length before)) number place (sym is ∙ contract .answer-is) (contract .buffer-is);
       ordering = order-refuses;
-      orders-nothing = λ levels jobs marks plan prices before after answered contract number place is.
-          unordered-keeps before after (order levels jobs marks plan prices (length before)) number place (sym is ∙ contract .answer-is) (contract .buffer-is);
+      orders-nothing = λ levels jobs marks parameters plan prices before after answered contract number place is.
+          unordered-keeps before after (order levels jobs marks parameters plan prices (length before)) number place (sym is ∙ contract .answer-is) (contract .buffer-is);
       touching = touching-refuses;
-      touches-nothing = λ jobs marks plan start end before after answered contract number place is.
-          unlisted-keeps before after (touching jobs marks plan start end before) number place (sym is ∙ contract .answer-is) (contract .lists-are);
+      touches-nothing = λ jobs marks free margin plan start end before after answered contract number place is.
+          unlisted-keeps before after (touching jobs marks free margin plan start end before) number place (sym is ∙ contract .answer-is) (contract .lists-are);
     }
 
 -- a plan that fits is such a plan
@@ -148,7 +148,7 @@ demand-three =
             placed = such-a-plan (sites-are-valid _ _ _ _ site tables) (plan-fits (best .placed-and-priced)) (best .figure);
             priced = prices-fit (best .placed-and-priced);
             smallest = best .smallest;
-            checked = check-read _ _ _ _ _ site tables ∙ call .contract .written site tables intervals steps energy is .planned .accepted;
+            checked = check-read _ _ _ _ _ _ site tables ∙ call .contract .written site tables intervals steps energy is .planned .accepted;
           };
       window-instead = λ call site tables long no-plan. instead call site tables long no-plan (call .answered) refl;
     }
@@ -170,7 +170,7 @@ demand-three =
         }
     instead call site tables long no-plan (Refused number place) is =
         absurd (long-enough-decides site _ _ _ long .no-refusal number place
-        (sym (planned-as _ _ _ site tables _ _ _) ∙ sym (call .contract .outcome) ∙ ap outcomeOf is))
+        (sym (planned-as _ _ _ _ site tables _ _ _) ∙ sym (call .contract .outcome) ∙ ap outcomeOf is))
 
 pub nothing-shut-out : NothingShutOut
 nothing-shut-out =
@@ -180,6 +180,7 @@ nothing-shut-out =
           levelBytes = levelBytes;
           jobBytes = jobBytes;
           markBytes = markBytes;
+          parameters = parameters;
           before = before;
           after = after;
           answered = answered;
@@ -191,10 +192,12 @@ nothing-shut-out =
         refl,
         refl,
         refl,
+        refl,
       );
-      every-table = λ levelBytes jobBytes markBytes parameters entries jobs marks levels-read jobs-read marks-read. (
-        siteOf (record { processor = processorOf entries; jobs = jobs }) marks,
-        every-valid-table levelBytes jobBytes markBytes parameters entries jobs marks levels-read jobs-read marks-read,
+      every-table = λ levelBytes jobBytes markBytes parameters entries levels jobs altered marks levels-read jobs-read marks-read levels-law jobs-law. (
+        siteOf (tablesOf (record { levels = levels; jobs = altered })) marks,
+        every-valid-table levelBytes jobBytes markBytes parameters entries levels jobs altered marks levels-read jobs-read marks-read
+            (levels-altered (parameters .highest) entries levels .1 levels-law) (jobs-altered (parameters .free) (parameters .margin) jobs altered .1 jobs-law),
         refl,
         refl,
         refl,

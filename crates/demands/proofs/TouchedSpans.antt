@@ -11,14 +11,14 @@ use Rattle.model.specs.declared.Level.{Level}
 use Rattle.model.specs.declared.Job.{Job}
 use Rattle.model.specs.Outcome.{Outcome, refused, answer, andThen, From, RefusesBy}
 use Rattle.model.specs.LevelTables.{readLevels}
-use Rattle.model.specs.Jobs.{readJobs}
-use Rattle.model.specs.Marks.{readMarks, boundsWith}
-use Rattle.model.specs.Processors.{processorOf}
-use Rattle.model.specs.Sites.{siteOf}
+use Rattle.model.specs.SiteParameters.{alterLevels}
+use Rattle.model.specs.Marks.{boundsWith}
+use Rattle.model.specs.Sites.{tablesOf, siteOf}
 use Rattle.model.specs.Checking.{stepping, check}
 use Rattle.model.proofs.Numbers.{lt-or-le}
 use Rattle.model.proofs.Outcome.{answered-within, andThen-answered}
 use Rattle.model.proofs.Jobs.{jobs-valid}
+use Rattle.model.proofs.SiteParameters.{altered-are-valid}
 use Rattle.model.proofs.MarkedBounds.{bounds-with}
 use Rattle.model.proofs.Accepted.{check-read}
 use Rattle.model.proofs.Hypotheses.{every-valid-table}
@@ -40,6 +40,7 @@ use Rattle.touching.proofs.TouchingOutcomes.{
   touching-answered,
   refused-answers,
   same-answers,
+  touching-parameters-refused,
 }
 use Rattle.touching.proofs.Rooms.{LengthsWanted, open-too-short as open-short, inside-too-short as inside-short, steps-too-short as steps-short, all-listed}
 use Rattle.demands.specs.TouchedSpans.{
@@ -55,6 +56,8 @@ use Rattle.demands.specs.TouchedSpans.{
   Fits,
   AllFit,
   TouchedSpans,
+  ReadAs,
+  withHighest,
 }
 use Rattle.demands.proofs.TouchedMembers.{listed-once, open-listed, inside-listed, steps-listed, nearest}
 
@@ -132,7 +135,7 @@ module _ (call : TouchingCall) where
   was-refused number place is = refused-of outcome number place (sym is ∙ call .contract .answer-is)
 
   wrong-span : WrongSpan call → outcome ≡ refused 33 0
-  wrong-span wrong = touching-wrong-span _ _ _ _ _ _ wrong
+  wrong-span wrong = touching-wrong-span _ _ _ _ _ _ _ _ wrong
 
   only-wrong : (place : ℕ) → call .answered ≡ Refused 33 place → WrongSpan call
   only-wrong place is = go (lt-or-le (call .start) (call .end)) (lt-or-le 1_000_000 (call .end))
@@ -146,27 +149,33 @@ module _ (call : TouchingCall) where
       go : (call .start < call .end) ⊎ (call .end ≤ call .start) → (1_000_000 < call .end) ⊎ (call .end ≤ 1_000_000) → WrongSpan call
       go (inr empty) high = inl empty
       go (inl some) (inl late) = inr late
-      go (inl some) (inr within) = never (touching-right-by _ _ _ _ _ _ some within 33 place (was-refused 33 place is))
+      go (inl some) (inr within) = never (touching-right-by _ _ _ _ _ _ _ _ some within 33 place (was-refused 33 place is))
 
   module _ (right : RightSpan call) where
-    module _ (jobs : List Job) (marks : List ℕ) (read : readJobs (call .jobBytes) ≡ answer jobs) (marks-read : readMarks (call .markBytes) ≡ answer marks) where
+    module _ (jobs : List Job) (marks : List ℕ) (read : ReadAs call jobs marks) where
       -- the steps decide, and then the room
       by-steps : outcome ≡ andThen (stepsAlone jobs (boundsWith marks jobs) (call .plan)) (λ _. whereRoom (call .before) (found jobs marks))
       unfolding touchingFor
-      by-steps = touching-both-read _ _ _ _ _ _ (right .0) (right .1) jobs marks read marks-read ∙ steps-then jobs (boundsWith marks jobs) (call .plan) _
+      by-steps =
+          touching-both-read _ _ _ _ _ _ _ _ (right .0) (right .1) (read .given) marks (read .jobs-read) (read .marks-read) jobs (read .altered)
+          ∙ steps-then jobs (boundsWith marks jobs) (call .plan) _
 
       steps-refused : (number place : ℕ) → stepsAlone jobs (boundsWith marks jobs) (call .plan) ≡ refused number place → outcome ≡ refused number place
       steps-refused number place e = by-steps ∙ rw e
 
-      as-the-check : (levelBytes prices : List ℕ) (entries : List Level) → readLevels levelBytes ≡ answer entries
+      as-the-check : (levelBytes prices : List ℕ) (highest : ℕ) (entries levels : List Level)
+          → readLevels levelBytes ≡ answer entries → alterLevels highest entries ≡ answer levels
           → (number place : ℕ) → From 15 18 number
-          → (call .answered ≡ Refused number place) ↔ (check levelBytes (call .jobBytes) (call .markBytes) (call .free) (call .margin) (call .plan) prices ≡ refused number place)
-      as-the-check levelBytes prices entries levels-read number place from =
+          → (call .answered ≡ Refused number place)
+          ↔ (check levelBytes (call .jobBytes) (call .markBytes) (withHighest call highest) (call .plan) prices ≡ refused number place)
+      as-the-check levelBytes prices highest entries levels levels-read levels-altered number place from =
           let bounds = boundsWith marks jobs in
-          let site = siteOf (record { processor = processorOf entries; jobs = jobs }) marks in
+          let site = siteOf (tablesOf (record { levels = levels; jobs = jobs })) marks in
           let (rest, is, past) = check-past-steps site (call .plan) prices in
           let checked =
-          check-read levelBytes (call .jobBytes) (call .markBytes) (call .free) (call .margin) (call .plan) prices site (every-valid-table _ _ _ entries jobs marks levels-read read marks-read) in
+          check-read levelBytes (call .jobBytes) (call .markBytes) (withHighest call highest) (call .plan) prices site
+          (every-valid-table levelBytes (call .jobBytes) (call .markBytes) (withHighest call highest) entries levels (read .given) jobs marks levels-read
+          (read .jobs-read) (read .marks-read) levels-altered (read .altered)) in
           let same =
           same-steps (stepsAlone jobs bounds (call .plan)) (whereRoom (call .before) (found jobs marks)) rest (room-by (call .before) (found jobs marks)) past
           number place from in (
@@ -177,12 +186,13 @@ module _ (call : TouchingCall) where
   -- nothing is wrong with what is read
   module _ (jobs : List Job) (marks : List ℕ) (sound : SoundCall call jobs marks) where
     comes-to : outcome ≡ whereRoom (call .before) (found jobs marks)
-    comes-to = by-steps (sound .right-span) jobs marks (sound .jobs-read) (sound .marks-read) ∙ rw (sound .steps-sound)
+    comes-to = by-steps (sound .right-span) jobs marks (sound .read) ∙ rw (sound .steps-sound)
 
     wanted-made : Wanted call jobs marks (made jobs marks)
     unfolding touched
     wanted-made =
-        let valid = jobs-valid (call .jobBytes) jobs (sound .jobs-read) in
+        let read = sound .read in
+        let valid = altered-are-valid .1 _ _ (read .given) jobs (jobs-valid (call .jobBytes) (read .given) (read .jobs-read)) (read .altered) in
         let some = sound .right-span .0 in
         record {
           open-jobs = open-listed jobs valid (call .start) (call .end) some;
@@ -224,10 +234,11 @@ module _ (call : TouchingCall) where
       → (jobs : List Job) × (marks : List ℕ) × (wanted : Lists) × SoundCall call jobs marks × Wanted call jobs marks wanted × AllFit wanted (call .before)
   only-then openJobs insideJobs steps deadline is =
       let (t, e) = answered-of outcome openJobs insideJobs steps deadline (sym is ∙ call .contract .answer-is) in
-      let (right, at) = touching-answered _ _ _ _ _ _ t e in
-      let (jobs, marks, read, marks-read, rest) = at in
-      let (done, steps-sound, room) = andThen-answered (stepsAlone jobs (boundsWith marks jobs) (call .plan)) _ (sym (by-steps right jobs marks read marks-read) ∙ e) in
-      let sound : SoundCall call jobs marks = record { right-span = right; jobs-read = read; marks-read = marks-read; steps-sound = steps-sound } in
+      let (right, at) = touching-answered _ _ _ _ _ _ _ _ t e in
+      let (given, jobs, marks, jobs-read, marks-read, altered, rest) = at in
+      let read : ReadAs call jobs marks = record { given = given; jobs-read = jobs-read; marks-read = marks-read; altered = altered } in
+      let (done, steps-sound, room) = andThen-answered (stepsAlone jobs (boundsWith marks jobs) (call .plan)) _ (sym (by-steps right jobs marks read) ∙ e) in
+      let sound : SoundCall call jobs marks = record { right-span = right; read = read; steps-sound = steps-sound } in
       let (open-fits, room) = answered-within (length (made jobs marks .openJobs)) 14 _ _ room in
       let (inside-fits, room) = answered-within (length (made jobs marks .insideJobs)) 14 _ _ room in
       let (steps-fit, room) = answered-within (length (made jobs marks .steps)) 14 _ _ room in
@@ -248,12 +259,14 @@ touched-spans =
       wrong-span = λ call wrong. refused-call call 33 0 (wrong-span call wrong);
       only-wrong-span = only-wrong;
       job-table = λ call number place right unread.
-          refused-call call number place (touching-jobs-refused _ _ _ _ _ _ (right .0) (right .1) number place unread);
+          refused-call call number place (touching-jobs-refused _ _ _ _ _ _ _ _ (right .0) (right .1) number place unread);
       mark-table = λ call jobs number place right read unread.
-          refused-call call number place (touching-marks-refused _ _ _ _ _ _ (right .0) (right .1) jobs number place read unread);
-      plan-steps = λ call jobs marks number place right read marks-read unsound.
-          refused-call call number place (steps-refused call right jobs marks read marks-read number place unsound);
-      as-the-check = λ call jobs marks right read marks-read. as-the-check call right jobs marks read marks-read;
+          refused-call call number place (touching-marks-refused _ _ _ _ _ _ _ _ (right .0) (right .1) jobs number place read unread);
+      free-and-margin = λ call given marks number place right read marks-read unaltered.
+          refused-call call number place (touching-parameters-refused _ _ _ _ _ _ _ _ (right .0) (right .1) given marks read marks-read number place unaltered);
+      plan-steps = λ call jobs marks number place right read unsound.
+          refused-call call number place (steps-refused call right jobs marks read number place unsound);
+      as-the-check = λ call jobs marks right read. as-the-check call right jobs marks read;
       wanted-exist = λ call jobs marks sound. (made call jobs marks, wanted-made call jobs marks sound);
       wanted-is-one = wanted-is-one;
       open-too-short = λ call jobs marks sound wanted is. rw (is-made call jobs marks sound wanted is) (open-too-short call jobs marks sound);
@@ -265,6 +278,8 @@ touched-spans =
         record {
           jobBytes = jobBytes;
           markBytes = markBytes;
+          free = free;
+          margin = margin;
           plan = plan;
           start = start;
           end = end;
@@ -273,6 +288,8 @@ touched-spans =
           answered = answered;
           contract = contract;
         },
+        refl,
+        refl,
         refl,
         refl,
         refl,

@@ -148,7 +148,7 @@ check-in-two-halves =
       same-figure = answers-same;
       planned = λ call intervals steps energy told.
           let (site, tables) = plan-read (call .contract) intervals steps energy told in
-          answers-same _ _ _ _ _ energy (demand-three .written call site tables intervals steps energy told .checked);
+          answers-same _ _ _ _ _ _ energy (demand-three .written call site tables intervals steps energy told .checked);
       second-is-least = is-least;
-      first-is-not = not-least _ _ _ halvesPlan earlyPlan 400 1_600 (omega arith) (two-plans-fit .1) (two-plans-fit .0);
+      first-is-not = not-least _ _ _ _ halvesPlan earlyPlan 400 1_600 (omega arith) (two-plans-fit .1) (two-plans-fit .0);
     }

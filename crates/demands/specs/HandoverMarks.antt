@@ -14,8 +14,9 @@ use Rattle.model.specs.Outcome.{refused, answer, andThen, refuseWhen}
 use Rattle.model.specs.Bytes.{IsBytes}
 use Rattle.model.specs.Jobs.{jobOf, readJobs}
 use Rattle.model.specs.Intervals.{boundsOf, intervalCount, boundAt, earliestRelease, latestDeadline}
+use Rattle.model.specs.SiteParameters.{alterJobs}
 use Rattle.model.specs.Marks.{readMarks, encodeMarks, noMarks}
-use Rattle.model.specs.Sites.{Tables, readTables, Site, readSite}
+use Rattle.model.specs.Sites.{Given, readGiven, readTables, Site, readSite}
 use Rattle.model.specs.Windows.{wrongSpan}
 use Rattle.model.specs.Checking.{fits, check}
 use Rattle.model.specs.Accepted.{exactFor, gapsOf}
@@ -47,27 +48,30 @@ abbrev pub Cuts : List Job → (marks : List ℕ) → (time : ℕ) → Type 0
 Cuts jobs marks time =
     (i : ℕ) × (i < length marks) × (getD marks i 0 ≡ time) × (earliestRelease jobs < time) × (time < latestDeadline jobs)
 
--- With one mark table every operation that takes marks answers and writes what it does with another.
-pub record SameWith (levelBytes jobBytes one two : List ℕ) : Type 0 where
-  pub sites : readSite levelBytes jobBytes one ≡ readSite levelBytes jobBytes two
-  pub fitting : (plan : List ℕ) → fits levelBytes jobBytes one plan ≡ fits levelBytes jobBytes two plan
-  pub checks : (plan prices : List ℕ) → check levelBytes jobBytes one plan prices ≡ check levelBytes jobBytes two plan prices
-  pub orders : (plan prices : List ℕ) (room : ℕ) → order levelBytes jobBytes one plan prices room ≡ order levelBytes jobBytes two plan prices room
-  pub touches : (plan : List ℕ) (start end : ℕ) (before : Lists) → touching jobBytes one plan start end before ≡ touching jobBytes two plan start end before
+-- With one mark table every operation that takes marks answers and writes what it does with another, whatever the parameters.
+pub record SameWith (levelBytes jobBytes one two : List ℕ) (parameters : Parameters) : Type 0 where
+  pub sites : readSite levelBytes jobBytes one parameters ≡ readSite levelBytes jobBytes two parameters
+  pub fitting : (plan : List ℕ) → fits levelBytes jobBytes one parameters plan ≡ fits levelBytes jobBytes two parameters plan
+  pub checks : (plan prices : List ℕ) → check levelBytes jobBytes one parameters plan prices ≡ check levelBytes jobBytes two parameters plan prices
+  pub orders : (plan prices : List ℕ) (room : ℕ)
+      → order levelBytes jobBytes one parameters plan prices room ≡ order levelBytes jobBytes two parameters plan prices room
+  pub touches : (plan : List ℕ) (start end : ℕ) (before : Lists)
+      → touching jobBytes one (parameters .free) (parameters .margin) plan start end before
+      ≡ touching jobBytes two (parameters .free) (parameters .margin) plan start end before
   pub plans : (before after : Buffers) (answered : PlanAnswer)
-      → PlanContract levelBytes jobBytes one before after answered ↔ PlanContract levelBytes jobBytes two before after answered
+      → PlanContract levelBytes jobBytes one parameters before after answered ↔ PlanContract levelBytes jobBytes two parameters before after answered
 
--- Every operation that reads levels and takes marks refuses by 34, whatever else it is lent.
-pub record RefusedBy34 (levelBytes jobBytes markBytes : List ℕ) (parameters : Parameters) : Type 0 where
-  pub fitting : (plan : List ℕ) → fits levelBytes jobBytes markBytes parameters plan ≡ refused 34 0
-  pub checks : (plan prices : List ℕ) → check levelBytes jobBytes markBytes parameters plan prices ≡ refused 34 0
-  pub orders : (plan prices : List ℕ) (room : ℕ) → order levelBytes jobBytes markBytes parameters plan prices room ≡ refused 34 0
+-- Every operation that reads levels and takes marks refuses so, whatever else it is lent, and leaves it as it was.
+pub record SiteRefused (levelBytes jobBytes markBytes : List ℕ) (parameters : Parameters) (number place : ℕ) : Type 0 where
+  pub fitting : (plan : List ℕ) → fits levelBytes jobBytes markBytes parameters plan ≡ refused number place
+  pub checks : (plan prices : List ℕ) → check levelBytes jobBytes markBytes parameters plan prices ≡ refused number place
+  pub orders : (plan prices : List ℕ) (room : ℕ) → order levelBytes jobBytes markBytes parameters plan prices room ≡ refused number place
   pub plans : (before after : Buffers) (answered : PlanAnswer) → PlanContract levelBytes jobBytes markBytes parameters before after answered
-      → (answered ≡ Refused 34 0) × (after ≡ before)
+      → (answered ≡ Refused number place) × (after ≡ before)
 
--- Two calls of planning with the same levels and jobs, and any marks.
+-- Two calls of planning with the same levels, jobs and parameters, and any marks.
 abbrev pub OtherMarks : (call other : Call) → Type 0
-OtherMarks call other = (call .levelBytes ≡ other .levelBytes) × (call .jobBytes ≡ other .jobBytes)
+OtherMarks call other = (call .levelBytes ≡ other .levelBytes) × (call .jobBytes ≡ other .jobBytes) × (call .parameters ≡ other .parameters)
 
 -- The buffers of a call are long enough for a site.
 abbrev pub Roomy : Call → Site → Type 0
@@ -79,10 +83,10 @@ pub record HandoverMarks : Type 0 where
   -- "34 more than 8 marks, not rising, or a wrong length (place 0 for all)"
   pub refused-by-34 : (bytes : List ℕ) (number place : ℕ) → readMarks bytes ≡ refused number place → (number ≡ 34) × (place ≡ 0)
   -- "after the job table's own": levels and jobs are refused as they are without marks, and only then are marks
-  pub tables-first : (levelBytes jobBytes markBytes : List ℕ) (parameters : Parameters) (number place : ℕ) → readTables levelBytes jobBytes ≡ refused number place
+  pub tables-first : (levelBytes jobBytes markBytes : List ℕ) (parameters : Parameters) (number place : ℕ) → readGiven levelBytes jobBytes ≡ refused number place
       → readSite levelBytes jobBytes markBytes parameters ≡ refused number place
-  pub then-marks : (levelBytes jobBytes markBytes : List ℕ) (parameters : Parameters) (tables : Tables) → readTables levelBytes jobBytes ≡ answer tables
-      → (number place : ℕ) → readMarks markBytes ≡ refused number place → RefusedBy34 levelBytes jobBytes markBytes parameters
+  pub then-marks : (levelBytes jobBytes markBytes : List ℕ) (parameters : Parameters) (given : Given) → readGiven levelBytes jobBytes ≡ answer given
+      → (number place : ℕ) → readMarks markBytes ≡ refused number place → SiteRefused levelBytes jobBytes markBytes parameters 34 0
   -- "each one strictly between earliest release and latest deadline is a bound too": beside the jobs' own times these, and nothing
   -- else, each once and rising
   pub bounds : (levelBytes jobBytes markBytes : List ℕ) (parameters : Parameters) (site : Site) → ValidTables levelBytes jobBytes markBytes parameters site
@@ -94,24 +98,27 @@ pub record HandoverMarks : Type 0 where
   pub few-intervals : (levelBytes jobBytes markBytes : List ℕ) (parameters : Parameters) (site : Site) → ValidTables levelBytes jobBytes markBytes parameters site
       → intervalCount (site .bounds) ≤ 135
   -- "others have no effect": where no mark cuts, all is as with none
-  pub no-effect : (levelBytes jobBytes markBytes : List ℕ) (parameters : Parameters) (jobs : List Job) (marks : List ℕ) → readJobs jobBytes ≡ answer jobs
-      → readMarks markBytes ≡ answer marks → ((time : ℕ) → Cuts jobs marks time → ⊥) → SameWith levelBytes jobBytes markBytes parameters noMarks
+  pub no-effect : (levelBytes jobBytes markBytes : List ℕ) (parameters : Parameters) (given jobs : List Job) (marks : List ℕ) → readJobs jobBytes ≡ answer given
+      → readMarks markBytes ≡ answer marks → alterJobs (parameters .free) (parameters .margin) given ≡ answer jobs
+      → ((time : ℕ) → Cuts jobs marks time → ⊥) → SameWith levelBytes jobBytes markBytes noMarks parameters
   -- With no marks a site is what it was before there were marks: its bounds are the jobs' releases and deadlines.
   pub none-read : readMarks noMarks ≡ answer []
-  pub no-marks : (levelBytes jobBytes : List ℕ) → readSite levelBytes jobBytes noMarks
-      ≡ (andThen (readTables levelBytes jobBytes) λ tables.
+  pub no-marks : (levelBytes jobBytes : List ℕ) (parameters : Parameters) → readSite levelBytes jobBytes noMarks parameters
+      ≡ (andThen (readTables levelBytes jobBytes parameters) λ tables.
       answer (record { processor = tables .processor; jobs = tables .jobs; bounds = boundsOf (tables .jobs) }))
   -- and what touches a span follows these bounds
-  pub no-marks-touched : (jobBytes plan : List ℕ) (start end : ℕ) (before : Lists) → touching jobBytes noMarks plan start end before
+  pub no-marks-touched : (jobBytes : List ℕ) (free margin : ℕ) (plan : List ℕ) (start end : ℕ) (before : Lists)
+      → touching jobBytes noMarks free margin plan start end before
       ≡ refuseWhen (wrongSpan start end) 33
-      (andThen (readJobs jobBytes) λ jobs.
+      (andThen (readJobs jobBytes) λ given.
+      andThen (alterJobs free margin given) λ jobs.
       touchingFor jobs (boundsOf jobs) plan start end before)
   -- "The least exact energy is what it was without marks": whatever marks two plans were accepted with, and none are marks too. Both are
   -- multiplied out by the same gaps.
-  pub same-least-energy : (levelBytes jobBytes one two : List ℕ) (site other : Site)
-      → ValidTables levelBytes jobBytes one site → ValidTables levelBytes jobBytes two other
-      → (plan prices : List ℕ) (figure : ℕ) → check levelBytes jobBytes one plan prices ≡ answer figure
-      → (otherPlan otherPrices : List ℕ) (otherFigure : ℕ) → check levelBytes jobBytes two otherPlan otherPrices ≡ answer otherFigure
+  pub same-least-energy : (levelBytes jobBytes one two : List ℕ) (parameters : Parameters) (site other : Site)
+      → ValidTables levelBytes jobBytes one parameters site → ValidTables levelBytes jobBytes two parameters other
+      → (plan prices : List ℕ) (figure : ℕ) → check levelBytes jobBytes one parameters plan prices ≡ answer figure
+      → (otherPlan otherPrices : List ℕ) (otherFigure : ℕ) → check levelBytes jobBytes two parameters otherPlan otherPrices ≡ answer otherFigure
       → (exactFor site plan ≡ exactFor other otherPlan) × (gapsOf site ≡ gapsOf other)
   pub same-energy-planned : (call other : Call) → OtherMarks call other
       → (site : Site) → ValidTables (call .levelBytes) (call .jobBytes) (call .markBytes) (call .parameters) site

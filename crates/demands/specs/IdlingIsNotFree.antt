@@ -13,6 +13,7 @@ use Rattle.model.specs.Bytes.{IsBytes}
 use Rattle.model.specs.Levels.{levelOf, ValidLevels}
 use Rattle.model.specs.Points.{powerOf}
 use Rattle.model.specs.LevelTables.{idleEntry, encodeLevels}
+use Rattle.model.specs.SiteParameters.{asGiven}
 use Rattle.model.specs.Processors.{Processor, workingOf, readProcessor}
 use Rattle.model.specs.Setting.{setting}
 use Rattle.model.specs.Intervals.{earliestRelease, latestDeadline}
@@ -78,21 +79,24 @@ pub record PaysBetweenRepeats (H r : ℕ) (site : Site) (plan : List ℕ) : Type
 -- whose working levels are then the same, and make the same sites; and every further operation answers the same. What the listing
 -- prints is a function of the site and of what planning answered.
 pub record SameAnswers (one two : List ℕ) : Type 0 where
-  pub processors : readProcessor one ≡ readProcessor two
-  pub tables : (jobs : List ℕ) → readTables one jobs ≡ readTables two jobs
-  pub sites : (jobs marks : List ℕ) → readSite one jobs marks ≡ readSite two jobs marks
-  pub settings : (length load : ℕ) → setting one length load ≡ setting two length load
-  pub spares : (jobs : List ℕ) (start end : ℕ) → spare one jobs start end ≡ spare two jobs start end
-  pub fitting : (jobs marks plan : List ℕ) → fits one jobs marks plan ≡ fits two jobs marks plan
-  pub checks : (jobs marks plan prices : List ℕ) → check one jobs marks plan prices ≡ check two jobs marks plan prices
-  pub orders : (jobs marks plan prices : List ℕ) (room : ℕ) → order one jobs marks plan prices room ≡ order two jobs marks plan prices room
-  pub plans : (jobs marks : List ℕ) (before after : Buffers) (answered : PlanAnswer)
-      → PlanContract one jobs marks before after answered ↔ PlanContract two jobs marks before after answered
+  pub processors : (highest : ℕ) → readProcessor one highest ≡ readProcessor two highest
+  pub tables : (jobs : List ℕ) (parameters : Parameters) → readTables one jobs parameters ≡ readTables two jobs parameters
+  pub sites : (jobs marks : List ℕ) (parameters : Parameters) → readSite one jobs marks parameters ≡ readSite two jobs marks parameters
+  pub settings : (highest length load : ℕ) → setting one highest length load ≡ setting two highest length load
+  pub spares : (jobs : List ℕ) (parameters : Parameters) (start end : ℕ) → spare one jobs parameters start end ≡ spare two jobs parameters start end
+  pub fitting : (jobs marks : List ℕ) (parameters : Parameters) (plan : List ℕ) → fits one jobs marks parameters plan ≡ fits two jobs marks parameters plan
+  pub checks : (jobs marks : List ℕ) (parameters : Parameters) (plan prices : List ℕ)
+      → check one jobs marks parameters plan prices ≡ check two jobs marks parameters plan prices
+  pub orders : (jobs marks : List ℕ) (parameters : Parameters) (plan prices : List ℕ) (room : ℕ)
+      → order one jobs marks parameters plan prices room ≡ order two jobs marks parameters plan prices room
+  pub plans : (jobs marks : List ℕ) (parameters : Parameters) (before after : Buffers) (answered : PlanAnswer)
+      → PlanContract one jobs marks parameters before after answered ↔ PlanContract two jobs marks parameters before after answered
 
 pub record IdlingIsNotFree : Type 0 where
   -- "A level table may begin with a frequency 0 entry whose voltage place holds the idle draw in thousands of power units; without
   -- it idling draws 0." Every such table is read so, and no other bytes are read.
-  pub read : (bytes : List ℕ) → IsBytes bytes → (processor : Processor) → (readProcessor bytes ≡ answer processor) ↔ TableOf bytes processor
+  -- With all running levels allowed the processor is that of the table.
+  pub read : (bytes : List ℕ) → IsBytes bytes → (processor : Processor) → (readProcessor bytes (asGiven bytes .highest) ≡ answer processor) ↔ TableOf bytes processor
   -- "Idling is then the point (0, draw) in the test for working levels and in all energies"
   pub point : IdlingIsAPoint
   -- both energies gain the draw, of every plan that planning writes, that fits or that the check accepts: demand 2 and Change 8 say
@@ -103,8 +107,8 @@ pub record IdlingIsNotFree : Type 0 where
   pub schedules-pay : (site : Site) (schedule : ScheduleFor site) → PaysForIdleSlots site schedule
   -- also between the repeats of a plan that was accepted for a round
   pub between-repeats : (laid : LayOutCall) (length multiple : ℕ) → laid .answered ≡ LaidOut length multiple
-      → (levelBytes markBytes : List ℕ) (parameters : Parameters) (plan prices : List ℕ) (figure : ℕ) → check levelBytes (jobsWritten laid length) markBytes plan prices ≡ answer figure
-      → (site : Site) → ValidTables levelBytes (jobsWritten laid length) markBytes site
+      → (levelBytes markBytes : List ℕ) (parameters : Parameters) (plan prices : List ℕ) (figure : ℕ) → check levelBytes (jobsWritten laid length) markBytes parameters plan prices ≡ answer figure
+      → (site : Site) → ValidTables levelBytes (jobsWritten laid length) markBytes parameters site
       → (r : ℕ) → PaysBetweenRepeats multiple r site plan
   -- a draw never drops a level that works without it; `DrawKeepsLevels` says it of any two draws
   pub keeps-levels : (draw : ℕ) (levels : List Level) → Board draw levels → (i : ℕ) → Works 0 levels i → Works (1_000 * draw) levels i

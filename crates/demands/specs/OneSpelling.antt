@@ -2,6 +2,7 @@
 -- is lent what the check is, gives its refusals and writes the plan's steps in cell order to a second buffer; one shorter than
 -- the plan gives 12, last. Two accepted plans for one job table come out equal exactly when every job has the same cycles in
 -- every interval, and a plan already in order is unchanged." Change 6: "the two plans that Change 3 compares have the same marks."
+-- Change 9: "the two plans that Change 3 compares share" the parameters.
 -- Proved in proofs/OneSpelling.antt.
 use Prim.Native.Nat.{ℕ, _<_, _≤_}
 use mathlib.Core.Path.{_≡_}
@@ -13,6 +14,7 @@ use Rattle.model.specs.declared.Parameters.{Parameters}
 use Rattle.model.specs.Outcome.{refused, answer}
 use Rattle.model.specs.Bytes.{IsBytes}
 use Rattle.model.specs.Jobs.{readJobs}
+use Rattle.model.specs.SiteParameters.{alterJobs}
 use Rattle.model.specs.Intervals.{intervalCount}
 use Rattle.model.specs.Marks.{readMarks, boundsWith}
 use Rattle.model.specs.Sites.{Site}
@@ -79,11 +81,14 @@ pub record OneSpelling : Type 0 where
   pub only-accepted : (call : OrderingCall) (size : ℕ) → call .answered ≡ Ordered size
       → (figure : ℕ) × (check (call .levelBytes) (call .jobBytes) (call .markBytes) (call .parameters) (call .plan) (call .prices) ≡ answer figure)
       × (length (call .plan) ≤ length (call .before))
-  -- "Two accepted plans for one job table come out equal exactly when every job has the same cycles in every interval". The level
-  -- tables and the price lists that they were accepted with may differ.
+  -- "Two accepted plans for one job table come out equal exactly when every job has the same cycles in every interval". The jobs are
+  -- those that free ticks and margin make of the table. The level tables, the highest levels allowed and the price lists that they were
+  -- accepted with may differ.
   pub equal-exactly-when : (one two : OrderingCall) → ComesOut one → ComesOut two
-      → one .jobBytes ≡ two .jobBytes → (jobs : List Job) → readJobs (one .jobBytes) ≡ answer jobs
+      → one .jobBytes ≡ two .jobBytes → (given : List Job) → readJobs (one .jobBytes) ≡ answer given
       → one .markBytes ≡ two .markBytes → (marks : List ℕ) → readMarks (one .markBytes) ≡ answer marks
+      → one .parameters .free ≡ two .parameters .free → one .parameters .margin ≡ two .parameters .margin
+      → (jobs : List Job) → alterJobs (one .parameters .free) (one .parameters .margin) given ≡ answer jobs
       → (planOut one ≡ planOut two) ↔ SameCycles jobs marks (one .plan) (two .plan)
   -- "and a plan already in order is unchanged". Each number that is lent is below 256, as every byte is.
   pub unchanged : (call : OrderingCall) → ComesOut call → IsBytes (call .plan) → InOrder (call .plan) → planOut call ≡ call .plan
@@ -100,5 +105,5 @@ pub record OneSpelling : Type 0 where
   pub every-call : (levelBytes jobBytes markBytes : List ℕ) (parameters : Parameters) (plan prices before after : List ℕ) (answered : OrderAnswer)
       → OrderContract levelBytes jobBytes markBytes parameters plan prices before after answered
       → (call : OrderingCall)
-      × (call .levelBytes ≡ levelBytes) × (call .jobBytes ≡ jobBytes) × (call .markBytes ≡ markBytes) × (call .plan ≡ plan) × (call .prices ≡ prices)
+      × (call .levelBytes ≡ levelBytes) × (call .jobBytes ≡ jobBytes) × (call .markBytes ≡ markBytes) × (call .parameters ≡ parameters) × (call .plan ≡ plan) × (call .prices ≡ prices)
       × (call .before ≡ before) × (call .after ≡ after) × (call .answered ≡ answered)

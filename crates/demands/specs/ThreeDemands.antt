@@ -6,22 +6,28 @@
 --     read_levels bytes                  levelTable (readLevels bytes)
 --     read_jobs bytes                    jobTable (readJobs bytes)
 --     read_marks bytes                   markTable (readMarks bytes)
---     setting levels length load         settingAnswer (setting levels length load)
---     spare levels jobs start end        spareAnswer (spare levels jobs start end)
---     fits levels jobs marks plan        fitsAnswer (fits levels jobs marks plan)
---     check levels jobs marks plan       checkAnswer (check levels jobs marks plan prices)
---       prices
+--     setting levels highest length      settingAnswer (setting levels highest length load)
+--       load
+--     spare levels jobs parameters       spareAnswer (spare levels jobs parameters start end)
+--       start end
+--     fits levels jobs marks             fitsAnswer (fits levels jobs marks parameters plan)
+--       parameters plan
+--     check levels jobs marks            checkAnswer (check levels jobs marks parameters plan prices)
+--       parameters plan prices
 --     start, next and step_at            stepAnswer (walk plan) at the number of the step
---     plan levels jobs marks and the     an answer that `PlanContract` holds of
---       buffers
+--     plan levels jobs marks             an answer that `PlanContract` holds of
+--       parameters and the buffers
 --     rounds tasks and the buffer        roundsAnswer (rounds tasks room), with the buffer that `RoundsContract` names
---     order levels jobs marks plan       orderAnswer (order levels jobs marks plan prices room), with the buffer that `OrderContract`
---       prices and the buffer            names
---     touching jobs marks plan start     touchingAnswer (touching jobs marks plan start end lists), with the lists that
---       end and the lists                `TouchingContract` names
+--     order levels jobs marks            orderAnswer (order levels jobs marks parameters plan prices room), with the buffer that
+--       parameters plan prices and the     `OrderContract` names
+--       buffer
+--     touching jobs marks free margin    touchingAnswer (touching jobs marks free margin plan start end lists), with the lists that
+--       plan start end and the lists       `TouchingContract` names
 --
 -- An answer's enum has a case for each case of the outcome, with the same numbers. So what is stated here of an outcome
--- on the right holds of what the caller gets.
+-- on the right holds of what the caller gets. The site of which demands 2 and 3 speak is the one that the parameters alter
+-- (`ValidTables`), and so are the schedules over its levels and for its jobs; that all running levels, 0 and 0 leave it as it is given
+-- is said in SiteParameters.
 use Prim.Native.Nat.{ℕ, _+_, _*_, _≤_}
 use mathlib.Core.Path.{_≡_}
 use mathlib.Core.Logic.{_↔_, _⊎_}
@@ -34,6 +40,7 @@ use Rattle.model.specs.declared.Parameters.{Parameters}
 use Rattle.model.specs.Outcome.{answer, From, RefusesBy}
 use Rattle.model.specs.LevelTables.{readLevels, LevelNumbers}
 use Rattle.model.specs.Jobs.{readJobs}
+use Rattle.model.specs.SiteParameters.{AlteredLevels, AlteredJobs}
 use Rattle.model.specs.Marks.{readMarks, boundsWith}
 use Rattle.model.specs.Processors.{workingOf, topOf, processorOf}
 use Rattle.model.specs.Setting.{setting}
@@ -91,15 +98,19 @@ pricesWritten call intervals = take (2 + 5 * intervals) (call .after .prices)
 -- Demand 1. "Whoever calls an operation, with bytes of any length and content, gets a result or a numbered refusal from
 -- document 01; nothing is required of the caller first, and a refused call changes nothing lent to it." Planning, laying out a
 -- round, ordering and listing what touches a span alone are lent anything that they may change. Document 02's numbers join those of
--- document 01: `LevelNumbers` are 1 to 5, 31 and 32, `TableNumbers` 1 to 10, 31 and 32, and `SiteNumbers` these and 34.
+-- document 01: `LevelNumbers` are 1 to 5, 31 and 32, `TableNumbers` 1 to 10, 31, 32, 35 and 36, and `SiteNumbers` these and 34.
 pub record DemandOne : Type 0 where
   pub reading-levels : (bytes : List ℕ) → RefusesBy LevelNumbers (readLevels bytes)
   pub reading-jobs : (bytes : List ℕ) → RefusesBy (From 6 10) (readJobs bytes)
   pub reading-marks : (bytes : List ℕ) → RefusesBy (From 34 34) (readMarks bytes)
-  pub setting-one : (levels : List ℕ) (length load : ℕ) → RefusesBy (λ n. LevelNumbers n ⊎ From 25 26 n) (setting levels length load)
-  pub spare-of-window : (levels jobs : List ℕ) (start end : ℕ) → RefusesBy (λ n. TableNumbers n ⊎ From 27 27 n) (spare levels jobs start end)
-  pub fitting : (levels jobs marks plan : List ℕ) → RefusesBy (λ n. SiteNumbers n ⊎ From 15 20 n) (fits levels jobs marks plan)
-  pub checking : (levels jobs marks plan prices : List ℕ) → RefusesBy (λ n. SiteNumbers n ⊎ From 15 24 n) (check levels jobs marks plan prices)
+  pub setting-one : (levels : List ℕ) (highest length load : ℕ)
+      → RefusesBy (λ n. (LevelNumbers n ⊎ From 35 35 n) ⊎ From 25 26 n) (setting levels highest length load)
+  pub spare-of-window : (levels jobs : List ℕ) (parameters : Parameters) (start end : ℕ)
+      → RefusesBy (λ n. TableNumbers n ⊎ From 27 27 n) (spare levels jobs parameters start end)
+  pub fitting : (levels jobs marks : List ℕ) (parameters : Parameters) (plan : List ℕ)
+      → RefusesBy (λ n. SiteNumbers n ⊎ From 15 20 n) (fits levels jobs marks parameters plan)
+  pub checking : (levels jobs marks : List ℕ) (parameters : Parameters) (plan prices : List ℕ)
+      → RefusesBy (λ n. SiteNumbers n ⊎ From 15 24 n) (check levels jobs marks parameters plan prices)
   pub walking : (plan : List ℕ) → RefusesBy (From 15 15) (walk plan)
   -- 11 is the case Overfull, with its window and spare
   pub planning : (call : Call) (number place : ℕ) → outcomeOf (call .answered) ≡ refusal number place → SiteNumbers number ⊎ From 12 14 number
@@ -107,15 +118,15 @@ pub record DemandOne : Type 0 where
   pub laying-out : (tasks : List ℕ) (room : ℕ) → RefusesBy (λ n. From 12 12 n ⊎ From 28 30 n) (rounds tasks room)
   pub lays-out-nothing : (tasks before after : List ℕ) (answered : RoundsAnswer) → RoundsContract tasks before after answered
       → (number place : ℕ) → answered ≡ Refused number place → after ≡ before
-  pub ordering : (levels jobs marks plan prices : List ℕ) (room : ℕ)
-      → RefusesBy (λ n. (SiteNumbers n ⊎ From 15 24 n) ⊎ From 12 12 n) (order levels jobs marks plan prices room)
-  pub orders-nothing : (levels jobs marks plan prices before after : List ℕ) (answered : OrderAnswer)
-      → OrderContract levels jobs marks plan prices before after answered
+  pub ordering : (levels jobs marks : List ℕ) (parameters : Parameters) (plan prices : List ℕ) (room : ℕ)
+      → RefusesBy (λ n. (SiteNumbers n ⊎ From 15 24 n) ⊎ From 12 12 n) (order levels jobs marks parameters plan prices room)
+  pub orders-nothing : (levels jobs marks : List ℕ) (parameters : Parameters) (plan prices before after : List ℕ) (answered : OrderAnswer)
+      → OrderContract levels jobs marks parameters plan prices before after answered
       → (number place : ℕ) → answered ≡ NotOrdered number place → after ≡ before
-  pub touching : (jobs marks plan : List ℕ) (start end : ℕ) (before : Lists)
-      → RefusesBy (λ n. (From 33 33 n ⊎ (From 6 10 n ⊎ From 34 34 n)) ⊎ (From 15 18 n ⊎ From 14 14 n)) (touching jobs marks plan start end before)
-  pub touches-nothing : (jobs marks plan : List ℕ) (start end : ℕ) (before after : Lists) (answered : TouchingAnswer)
-      → TouchingContract jobs marks plan start end before after answered
+  pub touching : (jobs marks : List ℕ) (free margin : ℕ) (plan : List ℕ) (start end : ℕ) (before : Lists)
+      → RefusesBy (λ n. (From 33 33 n ⊎ (From 6 10 n ⊎ From 34 36 n)) ⊎ (From 15 18 n ⊎ From 14 14 n)) (touching jobs marks free margin plan start end before)
+  pub touches-nothing : (jobs marks : List ℕ) (free margin : ℕ) (plan : List ℕ) (start end : ℕ) (before after : Lists) (answered : TouchingAnswer)
+      → TouchingContract jobs marks free margin plan start end before after answered
       → (number place : ℕ) → answered ≡ NotListed number place → after ≡ before
 
 -- Demand 2. "A plan gives each job exactly its cycles between release and deadline, one job at a time, by the workload and
@@ -159,7 +170,7 @@ pub record PlanComesWith (call : Call) (site : Site) (intervals steps energy : �
   pub priced : PricesFit site (planWritten call steps) (pricesWritten call intervals)
   pub smallest : SmallestPrices site (planWritten call steps) (pricesWritten call intervals)
   -- "and the check, lent the same tables and exactly the bytes written, accepts them and answers the same energy figure"; "in demand
-  -- 3 the check is lent the same marks too"
+  -- 3 the check is lent the same marks too", and "is given the same three"
   pub checked : check (call .levelBytes) (call .jobBytes) (call .markBytes) (call .parameters) (planWritten call steps) (pricesWritten call intervals) ≡ answer energy
 
 -- "Where no plan comes out, a window does, whose own jobs need more cycles than the top frequency gives there, and then no
@@ -188,14 +199,17 @@ pub record DemandThree : Type 0 where
       → (PlanComesOut call → ⊥) → NoPlan call site
 
 -- The demands' hypotheses shut nothing out. Every call is a `Call`, whatever bytes, buffers and answer planning's contract
--- holds of; and tables are valid where all three are read. What the theory asks of sites, bounds, schedules and buffers is built in
+-- holds of; and tables are valid where all three are read and none of 35 and 36 holds: `AlteredLevels` and `AlteredJobs` say of the
+-- parameters what they do to levels and jobs, and that these are as they may be. What the theory asks of sites, bounds, schedules and buffers is built in
 -- Hypotheses of the crate model.
 pub record NothingShutOut : Type 0 where
   pub every-call : (levelBytes jobBytes markBytes : List ℕ) (parameters : Parameters) (before after : Buffers) (answered : PlanAnswer)
       → PlanContract levelBytes jobBytes markBytes parameters before after answered
       → (call : Call) × (call .levelBytes ≡ levelBytes) × (call .jobBytes ≡ jobBytes) × (call .markBytes ≡ markBytes)
-      × (call .before ≡ before) × (call .after ≡ after) × (call .answered ≡ answered)
-  pub every-table : (levelBytes jobBytes markBytes : List ℕ) (parameters : Parameters) (entries : List Level) (jobs : List Job) (marks : List ℕ)
+      × (call .parameters ≡ parameters) × (call .before ≡ before) × (call .after ≡ after) × (call .answered ≡ answered)
+  pub every-table : (levelBytes jobBytes markBytes : List ℕ) (parameters : Parameters)
+      → (entries levels : List Level) (jobs altered : List Job) (marks : List ℕ)
       → readLevels levelBytes ≡ answer entries → readJobs jobBytes ≡ answer jobs → readMarks markBytes ≡ answer marks
+      → AlteredLevels (parameters .highest) entries levels → AlteredJobs (parameters .free) (parameters .margin) jobs altered
       → (site : Site) × ValidTables levelBytes jobBytes markBytes parameters site
-      × (site .processor ≡ processorOf entries) × (site .jobs ≡ jobs) × (site .bounds ≡ boundsWith marks jobs)
+      × (site .processor ≡ processorOf levels) × (site .jobs ≡ altered) × (site .bounds ≡ boundsWith marks altered)

@@ -4,7 +4,8 @@
 -- cells, rising, each member listed and nothing else; answered are their three lengths and that deadline; a lent list too short
 -- (the first such, in this order) gives 14, last. Errors: 33 start not before end, or end above 1,000,000, before the job table
 -- and then the plan are read." Change 6: "Every operation that cuts intervals takes the marks and follows the new bounds .. Errors: 34
--- .. after the job table's own." Proved in proofs/TouchedSpans.antt.
+-- .. after the job table's own." Change 9: the jobs are those with their ticks kept free and their margin; 35 and 36 come "right after
+-- those of .. jobs and marks". Proved in proofs/TouchedSpans.antt.
 use Prim.Native.Nat.{ℕ, suc, _<_, _≤_}
 use mathlib.Core.Path.{_≡_}
 use mathlib.Core.Logic.{_↔_, _⊎_}
@@ -12,9 +13,11 @@ use mathlib.Core.List.{List}
 use lib.ListN.{length, getD, take, drop}
 use Rattle.model.specs.declared.Level.{Level}
 use Rattle.model.specs.declared.Job.{Job}
+use Rattle.model.specs.declared.Parameters.{Parameters}
 use Rattle.model.specs.Outcome.{Outcome, refused, answer, From}
 use Rattle.model.specs.LevelTables.{readLevels}
 use Rattle.model.specs.Jobs.{jobOf, readJobs}
+use Rattle.model.specs.SiteParameters.{alterLevels, alterJobs}
 use Rattle.model.specs.Intervals.{boundAt}
 use Rattle.model.specs.Marks.{readMarks, boundsWith}
 use Rattle.model.specs.Steps.{stepCount, cellAt, stepAt}
@@ -40,6 +43,10 @@ pub record TouchingCall : Type 0 where
   pub answered : TouchingAnswer
   pub contract : TouchingContract jobBytes markBytes free margin plan start end before after answered
 
+-- Its free ticks and margin, with a highest running level beside them.
+abbrev pub withHighest : TouchingCall → (highest : ℕ) → Parameters
+withHighest call highest = record { highest = highest; free = call .free; margin = call .margin }
+
 -- The call is refused so, and all three lists are as they were.
 pub record RefusedCall (call : TouchingCall) (number place : ℕ) : Type 0 where
   pub refusal : call .answered ≡ Refused number place
@@ -56,11 +63,17 @@ RightSpan call = (call .start < call .end) × (call .end ≤ 1_000_000)
 abbrev pub stepsAlone : List Job → (bounds plan : List ℕ) → Outcome (Unit {0})
 stepsAlone jobs bounds plan = stepping jobs bounds plan (answer tt)
 
--- Nothing is wrong with what a call reads: its span, its job table, its marks, and the steps of its plan.
+-- A call's tables are read as these marks, and as these jobs with the call's ticks kept free and its margin.
+pub record ReadAs (call : TouchingCall) (jobs : List Job) (marks : List ℕ) : Type 0 where
+  pub given : List Job
+  pub jobs-read : readJobs (call .jobBytes) ≡ answer given
+  pub marks-read : readMarks (call .markBytes) ≡ answer marks
+  pub altered : alterJobs (call .free) (call .margin) given ≡ answer jobs
+
+-- Nothing is wrong with what a call reads: its span, its job table, its marks, its parameters, and the steps of its plan.
 pub record SoundCall (call : TouchingCall) (jobs : List Job) (marks : List ℕ) : Type 0 where
   pub right-span : RightSpan call
-  pub jobs-read : readJobs (call .jobBytes) ≡ answer jobs
-  pub marks-read : readMarks (call .markBytes) ≡ answer marks
+  pub read : ReadAs call jobs marks
   pub steps-sound : stepsAlone jobs (boundsWith marks jobs) (call .plan) ≡ answer tt
 
 -- A tick lies in a span, which goes from its start up to, not including, its end; in the time in which a job may run; in an interval.
@@ -142,16 +155,21 @@ pub record TouchedSpans : Type 0 where
       → RefusedCall call number place
   pub mark-table : (call : TouchingCall) (jobs : List Job) (number place : ℕ) → RightSpan call → readJobs (call .jobBytes) ≡ answer jobs
       → readMarks (call .markBytes) ≡ refused number place → RefusedCall call number place
+  -- 35 and 36, as altering the jobs gives them
+  pub free-and-margin : (call : TouchingCall) (given : List Job) (marks : List ℕ) (number place : ℕ) → RightSpan call
+      → readJobs (call .jobBytes) ≡ answer given → readMarks (call .markBytes) ≡ answer marks
+      → alterJobs (call .free) (call .margin) given ≡ refused number place → RefusedCall call number place
   -- "15 to 18 apply"
-  pub plan-steps : (call : TouchingCall) (jobs : List Job) (marks : List ℕ) (number place : ℕ) → RightSpan call
-      → readJobs (call .jobBytes) ≡ answer jobs → readMarks (call .markBytes) ≡ answer marks
+  pub plan-steps : (call : TouchingCall) (jobs : List Job) (marks : List ℕ) (number place : ℕ) → RightSpan call → ReadAs call jobs marks
       → stepsAlone jobs (boundsWith marks jobs) (call .plan) ≡ refused number place → RefusedCall call number place
-  -- as in the check with the same marks, number and place, whatever level table that can be read, and whatever prices, the check is lent
-  pub as-the-check : (call : TouchingCall) (jobs : List Job) (marks : List ℕ) → RightSpan call
-      → readJobs (call .jobBytes) ≡ answer jobs → readMarks (call .markBytes) ≡ answer marks
-      → (levelBytes prices : List ℕ) (entries : List Level) → readLevels levelBytes ≡ answer entries
+  -- as in the check with the same marks, free ticks and margin, number and place, whatever level table that can be read and has so many
+  -- running levels, and whatever prices, the check is lent
+  pub as-the-check : (call : TouchingCall) (jobs : List Job) (marks : List ℕ) → RightSpan call → ReadAs call jobs marks
+      → (levelBytes prices : List ℕ) (highest : ℕ) (entries levels : List Level)
+      → readLevels levelBytes ≡ answer entries → alterLevels highest entries ≡ answer levels
       → (number place : ℕ) → From 15 18 number
-      → (call .answered ≡ Refused number place) ↔ (check levelBytes (call .jobBytes) (call .markBytes) (call .free) (call .margin) (call .plan) prices ≡ refused number place)
+      → (call .answered ≡ Refused number place)
+      ↔ (check levelBytes (call .jobBytes) (call .markBytes) (withHighest call highest) (call .plan) prices ≡ refused number place)
   -- what is to be listed is there, and is one thing only
   pub wanted-exist : (call : TouchingCall) (jobs : List Job) (marks : List ℕ) → SoundCall call jobs marks → (wanted : Lists) × Wanted call jobs marks wanted
   pub wanted-is-one : (call : TouchingCall) (jobs : List Job) (marks : List ℕ) (wanted other : Lists)
@@ -179,5 +197,5 @@ pub record TouchedSpans : Type 0 where
   pub every-call : (jobBytes markBytes : List ℕ) (free margin : ℕ) (plan : List ℕ) (start end : ℕ) (before after : Lists) (answered : TouchingAnswer)
       → TouchingContract jobBytes markBytes free margin plan start end before after answered
       → (call : TouchingCall)
-      × (call .jobBytes ≡ jobBytes) × (call .markBytes ≡ markBytes) × (call .plan ≡ plan) × (call .start ≡ start) × (call .end ≡ end)
+      × (call .jobBytes ≡ jobBytes) × (call .markBytes ≡ markBytes) × (call .free ≡ free) × (call .margin ≡ margin) × (call .plan ≡ plan) × (call .start ≡ start) × (call .end ≡ end)
       × (call .before ≡ before) × (call .after ≡ after) × (call .answered ≡ answered)

@@ -21,7 +21,7 @@ use Rattle.model.specs.Steps.{sharesOf}
 use Rattle.model.specs.Checking.{pricing, fits, check}
 use Rattle.model.specs.Accepted.{ScheduleFor, powersFor, exactFor, gapsOf, LeastPlan}
 use Rattle.model.specs.Demands.{ValidTables}
-use Rattle.model.specs.SiteLines.{job, T}
+use Rattle.model.specs.SiteLines.{job, T, full}
 use Rattle.model.specs.ChangeLines.{earlyPlan}
 use Rattle.planning.specs.declared.operation.PlanAnswer.the-variants.{Plan}
 use Rattle.demands.specs.ThreeDemands.{Call, planWritten, SuchAPlan}
@@ -80,4 +80,4 @@ pub record CheckInTwoHalves : Type 0 where
       → check levelBytes jobBytes markBytes parameters plan prices ≡ answer figure
       → (site : Site) → ValidTables levelBytes jobBytes markBytes parameters site → LeastPlan site plan figure
   -- and the first cannot: T, one job 0 2 of 4 cycles, a mark at 1, all cycles before it
-  pub first-is-not : FitsAndIsNotLeast (encodeLevels T) (encodeJobs (job 0 2 4 ∷ [])) (encodeMarks (1 ∷ [])) earlyPlan 1_600
+  pub first-is-not : FitsAndIsNotLeast (encodeLevels T) (encodeJobs (job 0 2 4 ∷ [])) (encodeMarks (1 ∷ [])) (full T) earlyPlan 1_600

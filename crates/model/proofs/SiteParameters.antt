@@ -1,10 +1,10 @@
 -- Laws of altered tables: when parameters alter a table and what then comes out, that it is a valid table, and that the full count of
 -- running levels with 0 and 0 alters nothing.
 -- Assumes nothing.
-use mathlib.Core.Path.{_≡_, refl, sym, _∙_, ap}
-use mathlib.Core.Bool.{false, cond, _||_}
-use mathlib.Core.Logic.{_↔_}
-use mathlib.Core.List.{List, map}
+use mathlib.Core.Path.{_≡_, refl, sym, _∙_, ap, ap₂}
+use mathlib.Core.Bool.{true, false, not, cond, _||_, _&&_}
+use mathlib.Core.Logic.{_↔_, _⊎_, inl, inr}
+use mathlib.Core.List.{List, [], _∷_, map}
 use Prim.Native.Nat.{ℕ, suc, _+_, _-_, _*_, _<_, _≤_}
 use native.Mathlib.Nat.{div-mul-le-self, lt-div-mul-add}
 use native.Mathlib.Omega.{arith}
@@ -15,12 +15,14 @@ use borrow.Author.Tests.{ltb-false, leb-false, le-ltb, le-leb, lt-leb}
 use Rattle.model.specs.declared.Level.{Level}
 use Rattle.model.specs.declared.Job.{Job}
 use Rattle.model.specs.Limits.{maxCycles, maxFree, maxMargin}
-use Rattle.model.specs.Outcome.{answer, byEntry}
+use Rattle.model.specs.Outcome.{Outcome, answer, andThen, refuseWhen, byEntry}
 use Rattle.model.specs.Levels.{idling, levelOf, ValidLevels}
 use Rattle.model.specs.LevelTables.{idleEntries, idlePowerOf, runningLevels, ValidLevelTable}
 use Rattle.model.specs.Jobs.{noJob, jobOf, ValidJobs}
 use Rattle.model.specs.SiteParameters.{wrongHighest, levelsUpTo, alterLevels, wrongFree, wrongMargin, marginOn, alteredJob, isEmptied, hasTooManyCycles, alteredFault, alterJobs}
 use Rattle.model.specs.SiteParameters.{AlteredLevels, LevelsAltered, AlteredJob, AlteredJobs, JobsAltered, AlteredAreValid, FullCountAltersNothing}
+use Rattle.model.specs.Processors.{Processor, processorOf, processorUpTo}
+use Rattle.model.proofs.Numbers.{true-or-false}
 use Rattle.model.proofs.Outcome.{answer-injective, answered-past, byEntry-answered, byEntry-passes}
 use Rattle.model.proofs.Tests.{neither, in-range, fault-when}
 use Rattle.model.proofs.Joined.{getD-map}
@@ -105,6 +107,25 @@ levels-altered highest entries levels = (forth, back)
         rw (le-leb 1 highest (h .highest-low), le-leb highest (length (runningLevels entries)) (h .highest-high))
         (ap answer (sym (h .entries-are)))
 
+-- Of a level table only its processor bears on what a limit makes of it.
+abbrev limited : (highest : ℕ) → Processor → Outcome Processor
+limited highest processor =
+    refuseWhen (not (leb 1 highest && leb highest (length (processor .levels)))) 35
+    (answer (record { idlePower = processor .idlePower; levels = take highest (processor .levels) }))
+
+up-to-limited : (highest : ℕ) (entries : List Level) → processorUpTo highest entries ≡ limited highest (processorOf entries)
+unfolding alterLevels
+up-to-limited highest entries = go (true-or-false (wrongHighest entries highest))
+  where
+    go : (wrongHighest entries highest ≡ true) ⊎ (wrongHighest entries highest ≡ false) → processorUpTo highest entries ≡ limited highest (processorOf entries)
+    go (inl wrong) = rw wrong
+    go (inr ranged) =
+        let (low, high) = in-range highest (length (runningLevels entries)) ranged in
+        rw (ranged, draw-kept highest entries low high, running-kept highest entries low high)
+
+pub same-up-to : (one two : List Level) → processorOf one ≡ processorOf two → (highest : ℕ) → processorUpTo highest one ≡ processorUpTo highest two
+same-up-to one two same highest = up-to-limited highest one ∙ ap (limited highest) same ∙ sym (up-to-limited highest two)
+
 -- The margin on cycles is the least whole number that is not below it.
 pub margin-rounded : (margin cycles : ℕ)
     → (margin * cycles ≤ 100 * marginOn margin cycles) × (100 * marginOn margin cycles < margin * cycles + 100)
@@ -141,15 +162,31 @@ module _ (free margin : ℕ) where
         cycles-high = cycles;
       }
 
+  -- the fields of an altered job, without the limits that it keeps
+  record SameFields (given altered : Job) : Type 0 where
+    same-release : altered .release ≡ given .release
+    deadline-earlier : given .deadline - free ≡ altered .deadline
+    margin-whole : 100 * given .cycles + margin * given .cycles ≤ 100 * altered .cycles
+    margin-least : 100 * altered .cycles < 100 * given .cycles + margin * given .cycles + 100
+
   -- no other job is what is asked of an altered one
-  altered-only : {given altered : Job} → AlteredJob free margin given altered → alteredJob free margin given ≡ altered
+  altered-fields : {given altered : Job} → SameFields given altered → alteredJob free margin given ≡ altered
   unfolding alteredJob
-  altered-only {given} {altered} h =
+  altered-fields {given} {altered} h =
       let (whole, least) = margin-rounded margin (given .cycles) in
-      let deadline : given .deadline - free ≡ altered .deadline = omega (arith, h .deadline-earlier) in
       let cycles : given .cycles + marginOn margin (given .cycles) ≡ altered .cycles =
           omega (arith, whole, least, h .margin-whole, h .margin-least) in
-      rw (← h .same-release, deadline, cycles)
+      rw (← h .same-release, h .deadline-earlier, cycles)
+
+  altered-only : {given altered : Job} → AlteredJob free margin given altered → alteredJob free margin given ≡ altered
+  altered-only h =
+      altered-fields
+      (record {
+        same-release = h .same-release;
+        deadline-earlier = omega (arith, h .deadline-earlier);
+        margin-whole = h .margin-whole;
+        margin-least = h .margin-least;
+      })
 
   module _ (jobs : List Job) where
     pub altered-at : (j : ℕ) → j < length jobs → jobOf (map (alteredJob free margin) jobs) j ≡ alteredJob free margin (jobOf jobs j)
@@ -169,8 +206,8 @@ module _ (free margin : ℕ) where
           each = λ j below. rw (altered-at j below) (one-altered (jobOf jobs j) (rw (altered-at j below) at (sound j below)));
         })
 
-    altered-is : {altered : List Job} → AlteredJobs free margin jobs altered → map (alteredJob free margin) jobs ≡ altered
-    altered-is {altered} h =
+    pub altered-map : {altered : List Job} → AlteredJobs free margin jobs altered → map (alteredJob free margin) jobs ≡ altered
+    altered-map {altered} h =
         ext-getD noJob (map (alteredJob free margin) jobs) altered (length-map jobs (alteredJob free margin) ∙ sym (h .as-many)) λ j below.
         let given : j < length jobs = rw (length-map jobs (alteredJob free margin)) at below in
         altered-at j given ∙ altered-only (h .each j given)
@@ -178,7 +215,7 @@ module _ (free margin : ℕ) where
     altered-back : (altered : List Job) → AlteredJobs free margin jobs altered → alterJobs free margin jobs ≡ answer altered
     unfolding alterJobs
     altered-back altered h =
-        rw (le-ltb maxFree free (h .free-high), le-ltb maxMargin margin (h .margin-high), altered-is h)
+        rw (le-ltb maxFree free (h .free-high), le-ltb maxMargin margin (h .margin-high), altered-map h)
         (byEntry-passes (λ j. alteredFault (jobOf altered j)) (answer altered) (length jobs)
         (λ j below. altered-sound (jobOf altered j) .1 (h .each j below .window-left, h .each j below .cycles-high)))
 
@@ -204,6 +241,16 @@ altered-are-valid = (of-levels, of-jobs)
           cycles-low = λ j below. omega (arith, h .each j (given j below) .margin-whole, valid .cycles-low j (given j below));
           cycles-high = λ j below. h .each j (given j below) .cycles-high;
         }
+
+-- no ticks kept free and no margin leave every job as it is
+kept-job : (job : Job) → alteredJob 0 0 job ≡ job
+kept-job job =
+    altered-fields 0 0
+    (record { same-release = refl; deadline-earlier = omega arith; margin-whole = omega arith; margin-least = omega arith })
+
+pub altered-by-nothing : (jobs : List Job) → map (alteredJob 0 0) jobs ≡ jobs
+altered-by-nothing [] = refl
+altered-by-nothing (job ∷ jobs) = ap₂ (λ (j : Job) (l : List Job). j ∷ l) (kept-job job) (altered-by-nothing jobs)
 
 pub full-count-alters-nothing : FullCountAltersNothing
 unfolding alterLevels

@@ -10,8 +10,8 @@ use Rattle.model.specs.declared.Parameters.{Parameters}
 use Rattle.model.specs.Outcome.{Outcome, refused, answer, andThen}
 use Rattle.model.specs.LevelTables.{readLevels, ValidLevelTable}
 use Rattle.model.specs.Jobs.{ValidJobs, readJobs}
-use Rattle.model.specs.SiteParameters.{alterLevels, alterJobs, asGiven}
-use Rattle.model.specs.Processors.{Processor, ValidProcessor, processorOf, readProcessor}
+use Rattle.model.specs.SiteParameters.{alterLevels, alterJobs, runningCount, asGiven}
+use Rattle.model.specs.Processors.{Processor, ValidProcessor, processorOf, processorUpTo, readProcessor}
 use Rattle.model.specs.Marks.{readMarks, ValidMarks}
 use Rattle.model.specs.Sites.{Given, readGiven, Tables, tablesOf, alterTables, readTables, Site, siteOf, readSite, ValidSite}
 use Rattle.model.specs.Sites.{SitesAreValid, AsGivenAltersNothing}
@@ -108,6 +108,16 @@ given-kept levelBytes jobBytes given e =
     let (entries, levels-read, e) = andThen-answered (readLevels levelBytes) _ e in
     let (jobs, jobs-read, e) = andThen-answered (readJobs jobBytes) _ e in
     rw (sym (answer-injective e)) (read-kept levelBytes jobBytes (record { levels = entries; jobs = jobs }) levels-read jobs-read)
+
+pub as-given-processor : (levelBytes : List ℕ)
+    → readProcessor levelBytes (asGiven levelBytes .highest) ≡ (andThen (readLevels levelBytes) λ entries. answer (processorOf entries))
+unfolding asGiven
+as-given-processor levelBytes = go (readLevels levelBytes) (levels-valid levelBytes)
+  where
+    go : (outcome : Outcome (List Level)) → ((entries : List Level) → outcome ≡ answer entries → ValidLevelTable entries)
+        → andThen outcome (processorUpTo (runningCount outcome)) ≡ (andThen outcome λ entries. answer (processorOf entries))
+    go (refused number place) valid = refl
+    go (answer entries) valid = rw (full-count-alters-nothing .0 entries (valid entries refl))
 
 pub as-given-tables : (levelBytes jobBytes : List ℕ)
     → readTables levelBytes jobBytes (asGiven levelBytes) ≡ (andThen (readGiven levelBytes jobBytes) λ given. answer (tablesOf given))

@@ -30,12 +30,17 @@ module _ (processor : Processor) where
 abbrev pub processorOf : (entries : List Level) → Processor
 processorOf entries = record { idlePower = idlePowerOf entries; levels = runningLevels entries }
 
--- The processor of a level table in bytes up to the highest running level allowed: refusals 1 to 5, 31 and 32, then 35.
+-- The processor of a level table up to the highest running level allowed: 35.
+abbrev pub processorUpTo : (highest : ℕ) → (entries : List Level) → Outcome Processor
+processorUpTo highest entries =
+    andThen (alterLevels highest entries) λ levels.
+    answer (processorOf levels)
+
+-- And of one in bytes: refusals 1 to 5, 31 and 32 first.
 abbrev pub readProcessor : (levelBytes : List ℕ) → (highest : ℕ) → Outcome Processor
 readProcessor levelBytes highest =
     andThen (readLevels levelBytes) λ entries.
-    andThen (alterLevels highest entries) λ levels.
-    answer (processorOf levels)
+    processorUpTo highest entries
 
 -- What holds of every processor that is read, proved in proofs/Sites.antt: its levels keep document 01's limits, and
 -- frequencies and powers rise from idling on.
