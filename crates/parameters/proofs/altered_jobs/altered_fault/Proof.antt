@@ -8,7 +8,9 @@ use Rattle.parameters.proofs.altered_jobs.altered_fault.Tie as tie
 
 returns : tie.Need-returns
 unfolding alteredFault
-returns c = rw (le-leb _ _ (c .if1 .taken))
+returns c =
+    let a = c .before .args in
+    rw (le-leb (a .deadline) (a .release) (omega arith))
 
 returns-2 : tie.Need-returns-2
 unfolding alteredFault

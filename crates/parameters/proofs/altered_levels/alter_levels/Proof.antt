@@ -19,7 +19,7 @@ add-kept : tie.Need-add-kept
 add-kept c = search needs
 
 returns-2 : tie.Need-returns-2
-returns-2 c = λ voltages. too-high _ _ voltages (c .before .before .before .before .pre .0) _ (omega arith) _ (c .before .idle-entries .ensures .0) (c .if2 .taken)
+returns-2 c = λ voltages. too-high _ _ voltages (c .before .before .before .before .pre .0) _ (omega arith) _ (c .before .idle-entries .ensures .0) (omega arith)
 
 returns-3 : tie.Need-returns-3
 returns-3 c = λ voltages. allowed _ _ voltages (c .before .before .before .before .pre .0) _ (omega arith) _ (c .before .idle-entries .ensures .0) (omega arith)
