@@ -5,6 +5,7 @@ use crate::print;
 use crate::print::Refusal;
 use levels::read_working_levels;
 use model::MAX_POINTS;
+use parameters::as_given;
 use test_support::encode::encode;
 
 // Whether a board's table is read, its working frequencies with that of idling first and zeros past the last, the check's
@@ -33,9 +34,10 @@ pub(crate) fn check_board(
     print::names(line, name);
     let levels = encode(level_bytes, 2, line, table);
     let length = levels.length;
-    let working = read_working_levels(&level_bytes[..length]);
+    let given = as_given(&level_bytes[..length]);
+    let working = read_working_levels(&level_bytes[..length], given.highest);
     print::working(working);
-    let answer = audit::check(&level_bytes[..length], jobs, marks, plan, prices);
+    let answer = audit::check(&level_bytes[..length], jobs, marks, given, plan, prices);
     let frequencies = working.frequencies;
     Board {
         read: working.count > 0,

@@ -2,6 +2,7 @@
 ghost use Prim.Native.Nat.{_≤_};
 ghost use lib.ListN.{length};
 use audit::CheckAnswer;
+use parameters::as_given;
 use test_support::encode::ROOM;
 use test_support::encode::encode_tables;
 use test_support::show;
@@ -47,10 +48,12 @@ fn case_in(
     let marks = tables.marks;
     let plan = tables.plan;
     let prices = tables.prices;
+    let given = as_given(&level_bytes[..levels]);
     print(audit::check(
         &level_bytes[..levels],
         &job_bytes[..jobs],
         &mark_bytes[..marks],
+        given,
         &plan_bytes[..plan],
         &price_bytes[..prices],
     ));

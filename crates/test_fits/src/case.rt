@@ -1,6 +1,7 @@
 // A case: whether the plan of a line fits, and what the check answers for it with the price list of the line.
 use audit::CheckAnswer;
 use audit::FitsAnswer;
+use parameters::as_given;
 use test_support::encode::ROOM;
 use test_support::encode::encode_tables;
 use test_support::show;
@@ -53,9 +54,10 @@ fn case_in(
 
 // The first half, which is lent no price list, and the whole check.
 fn halves(levels: &[u8], jobs: &[u8], marks: &[u8], plan: &[u8], prices: &[u8]) {
-    print_fits(audit::fits(levels, jobs, marks, plan));
+    let given = as_given(levels);
+    print_fits(audit::fits(levels, jobs, marks, given, plan));
     show::words(b" check");
-    print_check(audit::check(levels, jobs, marks, plan, prices));
+    print_check(audit::check(levels, jobs, marks, given, plan, prices));
 }
 
 fn print_fits(answer: FitsAnswer) {

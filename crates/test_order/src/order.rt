@@ -3,6 +3,7 @@ ghost use Prim.Native.Nat.{_≤_};
 ghost use lib.ListN.{length};
 use crate::print;
 use check::same;
+use parameters::as_given;
 use test_support::buffers::UNWRITTEN;
 use test_support::buffers::kept;
 use test_support::encode::ROOM;
@@ -85,7 +86,7 @@ fn order_plan(
     let length = order_into(levels, jobs, marks, plan, prices, &mut ordered[..lent]);
     let written = io::count(length as isize, ordered);
     show::words(b" given");
-    print::checked(audit::check(levels, jobs, marks, plan, prices));
+    checked(levels, jobs, marks, plan, prices);
     show::rest(kept(ordered, written));
     if written > 0 {
         print_written(
@@ -109,7 +110,7 @@ fn print_written(
     again: &mut [u8],
 ) {
     show::words(b" written");
-    print::checked(audit::check(levels, jobs, marks, plan, prices));
+    checked(levels, jobs, marks, plan, prices);
     show::words(b" again");
     order_into(levels, jobs, marks, plan, prices, again);
     print::plan(plan);
@@ -124,10 +125,16 @@ fn order_into(
     prices: &[u8],
     ordered: &mut [u8],
 ) -> u32 {
-    let length = print::answer(ordering::order(levels, jobs, marks, plan, prices, ordered));
+    let given = as_given(levels);
+    let length = print::answer(ordering::order(levels, jobs, marks, given, plan, prices, ordered));
     let written = io::count(length as isize, ordered);
     if written > 0 {
         print::unchanged(same(plan, &ordered[..written]));
     }
     length
+}
+
+fn checked(levels: &[u8], jobs: &[u8], marks: &[u8], plan: &[u8], prices: &[u8]) {
+    let given = as_given(levels);
+    print::checked(audit::check(levels, jobs, marks, given, plan, prices));
 }

@@ -7,6 +7,7 @@ use crate::buffers::SHARE_ROOM;
 use crate::buffers::within_bytes;
 use crate::print;
 use crate::written;
+use parameters::as_given;
 use planning::PlanAnswer;
 use test_support::buffers::PLAN_ROOM;
 use test_support::buffers::UNWRITTEN;
@@ -86,6 +87,7 @@ fn site(
         levels,
         jobs,
         marks,
+        as_given(levels),
         &mut plan[..plan_length],
         &mut prices[..price_length],
         &mut shares[..share_length],

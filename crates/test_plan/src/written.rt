@@ -4,6 +4,7 @@ use crate::buffers::within_bytes;
 use crate::print;
 use model::MAX_INTERVALS;
 use model::MAX_JOBS;
+use parameters::as_given;
 use test_support::buffers::within_numbers;
 use walking::Step;
 use walking::StepAnswer;
@@ -31,13 +32,13 @@ pub(crate) fn print(
         prices: price_length,
         shares: share_length,
     };
-    print::checked(audit::check(
+    check(
         levels,
         jobs,
         marks,
         &plan[..plan_length],
         &prices[..price_length],
-    ));
+    );
     print::rest(plan, prices, shares, written);
     print::shares(agree(
         &plan[..plan_length],
@@ -51,6 +52,11 @@ pub(crate) fn print(
     if word != b'f' {
         print::prices(&prices[..price_length], 2 + 4 * intervals as usize);
     }
+}
+
+fn check(levels: &[u8], jobs: &[u8], marks: &[u8], plan: &[u8], prices: &[u8]) {
+    let given = as_given(levels);
+    print::checked(audit::check(levels, jobs, marks, given, plan, prices));
 }
 
 // Whether the plan has as many steps as shares are not 0, and each has the cycles of its share.

@@ -1,13 +1,15 @@
 // A line for each case: what was asked, and what was answered.
 use levels::SettingAnswer;
 use libc::STDOUT_FILENO;
+use parameters::as_given;
 
 // The name, the length and the load; then the band, the extra and the gap, or the refusal's number and place.
 pub(crate) fn setting(name: &[u8], table: &[u8], length: u32, load: u64) {
     start(b"setting ", name);
     number(length as u64);
     number(load);
-    match levels::setting(table, length, load) {
+    let given = as_given(table);
+    match levels::setting(table, given.highest, length, load) {
         SettingAnswer::Set { band, extra, gap } => {
             io::write_all(STDOUT_FILENO, b" set");
             number(band as u64);
@@ -29,7 +31,8 @@ pub(crate) fn setting(name: &[u8], table: &[u8], length: u32, load: u64) {
 // The name and the frequencies of the working levels, upward.
 pub(crate) fn working(name: &[u8], table: &[u8]) {
     start(b"working ", name);
-    let points = levels::read_working_levels(table);
+    let given = as_given(table);
+    let points = levels::read_working_levels(table, given.highest);
     let count = points.count;
     let mut k = 1;
     while k < count {

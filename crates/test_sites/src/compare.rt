@@ -1,5 +1,6 @@
 // Planning and the check against the search.
 use audit::CheckAnswer;
+use parameters::as_given;
 use planning::PlanAnswer;
 use std::num::wrapping_add_u64;
 use test_search::cuts::in_interval;
@@ -79,7 +80,8 @@ fn compare_plan(
     energies: &[u32; ENERGIES],
     least: u64,
 ) -> Outcome {
-    let answer = planning::plan(levels, jobs, marks, plan, prices, shares);
+    let given = as_given(levels);
+    let answer = planning::plan(levels, jobs, marks, given, plan, prices, shares);
     match answer {
         PlanAnswer::Plan {
             intervals,
@@ -151,7 +153,8 @@ fn accepts(
     prices: &[u8],
     figure: u64,
 ) -> bool {
-    match audit::check(levels, jobs, marks, plan, prices) {
+    let given = as_given(levels);
+    match audit::check(levels, jobs, marks, given, plan, prices) {
         CheckAnswer::Accepted { energy } => energy == figure,
         CheckAnswer::Refused {
             number: _,

@@ -1,6 +1,7 @@
 // Sites whose answers document 01 gives, and sites where idling draws power.
 use libc::STDOUT_FILENO;
 use model::Level;
+use parameters::as_given;
 use planning::PlanAnswer;
 use test_search::mixes::Fraction;
 use test_search::mixes::least_mix;
@@ -114,7 +115,8 @@ fn working(name: &[u8], levels: LevelColumns) {
 
 fn working_in(bytes: &mut [u8], levels: LevelColumns) {
     let length = put_levels(bytes, levels);
-    let points = levels::read_working_levels(&bytes[..length]);
+    let given = as_given(&bytes[..length]);
+    let points = levels::read_working_levels(&bytes[..length], given.highest);
     let count = points.count;
     if count > 0 {
         show::number(count as u64 - 1);
@@ -177,10 +179,12 @@ fn plan(levels: LevelColumns, jobs: JobColumns) {
 fn plan_in(level_bytes: &mut [u8], job_bytes: &mut [u8], levels: LevelColumns, jobs: JobColumns) {
     let level_length = put_levels(level_bytes, levels);
     let job_length = put_jobs(job_bytes, jobs);
+    let given = as_given(&level_bytes[..level_length]);
     print(planning::plan(
         &level_bytes[..level_length],
         &job_bytes[..job_length],
         &NO_MARKS,
+        given,
         &mut [0; ROOM],
         &mut [0; ROOM],
         &mut [0u32; ROOM],

@@ -1,4 +1,5 @@
 // A case: the tables of its line in bytes, and what the spare of its window is with them.
+use parameters::as_given;
 use test_support::encode::ROOM;
 use test_support::encode::encode;
 use test_support::show;
@@ -17,9 +18,11 @@ fn case_in(level_bytes: &mut [u8], job_bytes: &mut [u8], line: &[u8]) {
     let jobs = encode(job_bytes, 4, line, levels.end);
     let level_length = levels.length;
     let job_length = jobs.length;
+    let given = as_given(&level_bytes[..level_length]);
     let answer = windows::spare(
         &level_bytes[..level_length],
         &job_bytes[..job_length],
+        given,
         number(line, start),
         number(line, end),
     );

@@ -11,6 +11,15 @@ names-requires c κs = search needs
 encode-requires : tie.Need-encode-requires
 encode-requires c κs = search needs
 
+slice-reshare-prefix-as-given : tie.Need-slice-reshare-prefix-as-given
+slice-reshare-prefix-as-given c = search needs
+
+slice-aggregate-as-given : tie.Need-slice-aggregate-as-given
+slice-aggregate-as-given c = search needs
+
+as-given-requires : tie.Need-as-given-requires
+as-given-requires c κs = search needs
+
 slice-reshare-prefix-read-working-levels : tie.Need-slice-reshare-prefix-read-working-levels
 slice-reshare-prefix-read-working-levels c = search needs
 
@@ -21,7 +30,7 @@ read-working-levels-requires : tie.Need-read-working-levels-requires
 read-working-levels-requires c κs = search needs
 
 working-requires : tie.Need-working-requires
-working-requires c κs = rw (c .read-working-levels .ensures) (read-few _)
+working-requires c κs = rw (c .read-working-levels .ensures) (read-few _ _)
 
 slice-reshare-prefix-check : tie.Need-slice-reshare-prefix-check
 slice-reshare-prefix-check c = search needs
@@ -47,6 +56,9 @@ check-board-spec =
     (tie.spec
     names-requires
     encode-requires
+    slice-reshare-prefix-as-given
+    slice-aggregate-as-given
+    as-given-requires
     slice-reshare-prefix-read-working-levels
     slice-aggregate-read-working-levels
     read-working-levels-requires

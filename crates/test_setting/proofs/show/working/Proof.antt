@@ -18,11 +18,14 @@ slice-aggregate-start c = search needs
 start-requires : tie.Need-start-requires Inv-loop μ-loop
 start-requires c κs = search needs
 
+as-given-requires : tie.Need-as-given-requires Inv-loop μ-loop
+as-given-requires c κs = search needs
+
 read-working-levels-requires : tie.Need-read-working-levels-requires Inv-loop μ-loop
 read-working-levels-requires c κs = search needs
 
 loop-holds : tie.Need-loop-holds Inv-loop μ-loop
-loop-holds c = rw (c .read-working-levels .ensures) (read-few _)
+loop-holds c = rw (c .read-working-levels .ensures) (read-few _ _)
 
 mul-number : tie.Need-mul-number Inv-loop μ-loop
 mul-number c = omega arith
@@ -56,6 +59,7 @@ working-spec =
     μ-loop
     slice-aggregate-start
     start-requires
+    as-given-requires
     read-working-levels-requires
     loop-holds
     mul-number
