@@ -66,9 +66,12 @@ fn call_with(
     let open_room = within_numbers(lent.open_jobs, open_list);
     let inside_room = within_numbers(lent.inside_jobs, inside_list);
     let step_room = within_numbers(lent.steps, step_list);
+    // without free ticks and without a margin the jobs are those of the table
     let answer = touching(
         jobs,
         marks,
+        0,
+        0,
         plan,
         start,
         end,
