@@ -7,6 +7,7 @@ use levels::read_working_levels;
 use model::MAX_POINTS;
 use parameters::as_given;
 use test_support::encode::encode;
+use test_support::written;
 
 // Whether a board's table is read, its working frequencies with that of idling first and zeros past the last, the check's
 // refusal, and where the board ends in the line.
@@ -36,9 +37,9 @@ pub(crate) fn check_board(
     let length = levels.length;
     let given = as_given(&level_bytes[..length]);
     let working = read_working_levels(&level_bytes[..length], given.highest);
-    print::working(working);
-    let answer = audit::check(&level_bytes[..length], jobs, marks, given, plan, prices);
     let frequencies = working.frequencies;
+    written::working(&frequencies, working.count);
+    let answer = audit::check(&level_bytes[..length], jobs, marks, given, plan, prices);
     Board {
         read: working.count > 0,
         frequencies,

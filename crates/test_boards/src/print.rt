@@ -1,10 +1,8 @@
 // Printing the line of a board, and the line of what the boards have in common.
 ghost use Prim.Native.Nat.{_≤_};
 ghost use lib.ListN.{length};
-ghost use Rattle.model.specs.Limits.{maxPoints};
 use crate::common::Common;
 use audit::CheckAnswer;
-use levels::PointTable;
 use test_support::show;
 
 // The number and place of a refusal, zeros where the plan is accepted.
@@ -20,23 +18,6 @@ pub(crate) fn names(line: &[u8], place: usize)
     show::words_to(line, 0);
     show::words(b" ");
     show::words_to(&line[place..], 0);
-}
-
-// The frequencies of the working levels, upward. Only a table that is refused has no points.
-pub(crate) fn working(points: PointTable)
-    requires { ⌜ points .count ≤ maxPoints ⌝ }
-{
-    let count = points.count;
-    if count == 0 {
-        show::words(b" not read");
-        return;
-    }
-    show::words(b" working");
-    let mut k = 1;
-    while k < count {
-        show::number(points.frequencies[k]);
-        k += 1;
-    }
 }
 
 // Prints the check's answer, which ends the line of a board, and answers the refusal in it.

@@ -11,6 +11,7 @@ use test_support::encode::encode_tables;
 use test_support::show;
 use test_support::text::next;
 use test_support::text::number;
+use test_support::written;
 
 // Room for the longest plan that a line can have, and for bytes after it.
 pub(crate) const ORDERED_ROOM: usize = 1040;
@@ -113,7 +114,7 @@ fn print_written(
     checked(levels, jobs, marks, plan, prices);
     show::words(b" again");
     order_into(levels, jobs, marks, plan, prices, again);
-    print::plan(plan);
+    written::plan(plan);
 }
 
 // Prints what ordering answers, and whether the plan comes out as it was. Answers how many bytes are written.

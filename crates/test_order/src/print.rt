@@ -1,4 +1,4 @@
-// Printing what ordering and the check answer, and the numbers of a plan.
+// Printing what ordering and the check answer.
 use audit::CheckAnswer;
 use ordering::OrderAnswer;
 use test_support::show;
@@ -39,18 +39,4 @@ pub(crate) fn equal(same: bool) {
     } else {
         show::words(b" different");
     }
-}
-
-// The numbers of a plan, as those of a plan in a case's line.
-pub(crate) fn plan(bytes: &[u8]) {
-    show::words(b" plan");
-    let mut i = 0;
-    while i < bytes.len() / 2 {
-        half(bytes[2 * i], bytes[2 * i + 1]);
-        i += 1;
-    }
-}
-
-fn half(low: u8, high: u8) {
-    show::number(low as u64 + 256 * high as u64);
 }

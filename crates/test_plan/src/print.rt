@@ -42,20 +42,6 @@ pub(crate) fn shares(agree: bool) {
     }
 }
 
-// The prices stand at the end of a price list.
-pub(crate) fn prices(list: &[u8], start: usize) {
-    show::words(b" prices");
-    let mut i = start;
-    while i < list.len() {
-        price(list[i]);
-        i += 1;
-    }
-}
-
-fn price(number: u8) {
-    show::number(number as u64);
-}
-
 // The shares that are not 0, in cell order: each is a step.
 pub(crate) fn steps(shares: &[u32], jobs: usize, count: u32) {
     show::words(b" steps");

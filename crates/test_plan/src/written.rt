@@ -50,7 +50,7 @@ pub(crate) fn print(
         print::steps(&shares[..share_length], count, steps);
     }
     if word != b'f' {
-        print::prices(&prices[..price_length], 2 + 4 * intervals as usize);
+        test_support::written::prices(&prices[..price_length], 2 + 4 * intervals as usize);
     }
 }
 

@@ -3,3 +3,4 @@ pub mod buffers;
 pub mod encode;
 pub mod show;
 pub mod text;
+pub mod written;

@@ -8,6 +8,7 @@ use test_support::buffers::within_numbers;
 use test_support::show;
 use test_support::text::next;
 use test_support::text::number;
+use test_support::written;
 use touching::TouchingAnswer;
 use touching::touching;
 
@@ -86,9 +87,9 @@ fn call_with(
             steps,
             deadline,
         } => {
-            print::list(b" open", open_list, open_jobs);
-            print::list(b" inside", inside_list, inside_jobs);
-            print::list(b" steps", step_list, steps);
+            written::list(b" open", open_list, open_jobs);
+            written::list(b" inside", inside_list, inside_jobs);
+            written::list(b" steps", step_list, steps);
             print::deadline(deadline);
             print::rest(
                 open_list,

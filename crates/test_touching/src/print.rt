@@ -1,8 +1,7 @@
-// Printing what a call answers and what is in the lists.
+// Printing what a call answers, and whether the lists are kept.
 ghost use Prim.Native.Nat.{_≤_};
 ghost use lib.ListN.{length};
 use test_support::buffers::numbers_kept;
-use test_support::buffers::within_numbers;
 use test_support::show;
 use touching::NearestDeadline;
 
@@ -20,26 +19,6 @@ pub(crate) fn names(line: &[u8], place: usize)
     show::words_to(line, 0);
     show::words(b" ");
     show::words_to(&line[place..], 0);
-}
-
-// The length of a list that was written, and its members.
-pub(crate) fn list(word: &[u8], numbers: &[u32], length: u32) {
-    show::words(word);
-    show::number(length as u64);
-    let written = within_numbers(length as usize, numbers);
-    members(&numbers[..written]);
-}
-
-fn members(numbers: &[u32]) {
-    let mut i = 0;
-    while i < numbers.len() {
-        member(numbers[i]);
-        i += 1;
-    }
-}
-
-fn member(number: u32) {
-    show::number(number as u64);
 }
 
 pub(crate) fn deadline(nearest: NearestDeadline) {

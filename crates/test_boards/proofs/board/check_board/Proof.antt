@@ -1,7 +1,6 @@
--- `board::check_board` meets its contract: the board ends where `encode` answered, and a table has at most nine working points.
+-- `board::check_board` meets its contract: the board ends where `encode` answered.
 -- Assumes nothing.
 use borrow.Author.Needs.{needs}
-use Rattle.levels.proofs.SmallPoints.{read-few}
 use Rattle.test_boards.proofs.board.check_board.Statement.{statement}
 use Rattle.test_boards.proofs.board.check_board.Tie as tie
 
@@ -29,8 +28,11 @@ slice-aggregate-read-working-levels c = search needs
 read-working-levels-requires : tie.Need-read-working-levels-requires
 read-working-levels-requires c κs = search needs
 
+slice-aggregate-working : tie.Need-slice-aggregate-working
+slice-aggregate-working c = search needs
+
 working-requires : tie.Need-working-requires
-working-requires c κs = rw (c .read-working-levels .ensures) (read-few _ _)
+working-requires c κs = search needs
 
 slice-reshare-prefix-check : tie.Need-slice-reshare-prefix-check
 slice-reshare-prefix-check c = search needs
@@ -62,6 +64,7 @@ check-board-spec =
     slice-reshare-prefix-read-working-levels
     slice-aggregate-read-working-levels
     read-working-levels-requires
+    slice-aggregate-working
     working-requires
     slice-reshare-prefix-check
     slice-aggregate-check

@@ -1,9 +1,9 @@
--- `print::members` meets its contract: each turn goes on in the numbers. Assumes nothing.
+-- `written::members` meets its contract: each turn goes on in the numbers. Assumes nothing.
 use Prim.Native.Nat.{_-_}
 use lib.ListN.{length}
 use borrow.Author.Needs.{needs}
-use Rattle.test_touching.proofs.print.members.Statement.{statement}
-use Rattle.test_touching.proofs.print.members.Tie as tie
+use Rattle.test_support.proofs.written.members.Statement.{statement}
+use Rattle.test_support.proofs.written.members.Tie as tie
 
 abbrev Inv-loop : tie.InvT-loop
 Inv-loop numbers i₀ i = Unit

@@ -1,14 +1,15 @@
--- `print::working` is safe. The loop's invariant: there are at most nine points, idling and eight levels. Assumes nothing.
-use Prim.Native.Nat.{_-_, _≤_}
+-- `written::working` meets its contract: each turn goes on in the frequencies. Assumes nothing.
+use Prim.Native.Nat.{_-_}
+use lib.ListN.{length}
 use borrow.Author.Needs.{needs}
-use Rattle.test_boards.proofs.print.working.Statement.{statement}
-use Rattle.test_boards.proofs.print.working.Tie as tie
+use Rattle.test_support.proofs.written.working.Statement.{statement}
+use Rattle.test_support.proofs.written.working.Tie as tie
 
 abbrev Inv-loop : tie.InvT-loop
-Inv-loop points count k₀ k = count ≤ 9
+Inv-loop frequencies count k₀ k = Unit
 
 abbrev μ-loop : tie.MeasureT-loop
-μ-loop points count k₀ k = count - k
+μ-loop frequencies count k₀ k = length frequencies - k
 
 slice-aggregate-words : tie.Need-slice-aggregate-words Inv-loop μ-loop
 slice-aggregate-words c = search needs
@@ -31,8 +32,8 @@ loop-holds c = search needs
 mul-number : tie.Need-mul-number Inv-loop μ-loop
 mul-number c = search needs
 
-element-copy-out-number : tie.Need-element-copy-out-number Inv-loop μ-loop
-element-copy-out-number c = search needs
+shared-slice-read-number : tie.Need-shared-slice-read-number Inv-loop μ-loop
+shared-slice-read-number c = search needs
 
 number-requires : tie.Need-number-requires Inv-loop μ-loop
 number-requires c κs = search needs
@@ -62,7 +63,7 @@ working-spec =
     words-requires-2
     loop-holds
     mul-number
-    element-copy-out-number
+    shared-slice-read-number
     number-requires
     add-k
     loop-less

@@ -1,9 +1,9 @@
--- `print::plan` meets its contract: both places of a half lie in the bytes. Assumes nothing.
+-- `written::plan` meets its contract: both places of a half lie in the bytes. Assumes nothing.
 use Prim.Native.Nat.{_-_}
 use lib.ListN.{length}
 use borrow.Author.Needs.{needs}
-use Rattle.test_order.proofs.print.plan.Statement.{statement}
-use Rattle.test_order.proofs.print.plan.Tie as tie
+use Rattle.test_support.proofs.written.plan.Statement.{statement}
+use Rattle.test_support.proofs.written.plan.Tie as tie
 
 abbrev Inv-loop : tie.InvT-loop
 Inv-loop bytes i₀ i = Unit

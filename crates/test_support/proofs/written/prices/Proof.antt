@@ -1,9 +1,9 @@
--- `print::prices` meets its contract: each turn goes on in the list. Assumes nothing.
+-- `written::prices` meets its contract: each turn goes on in the list. Assumes nothing.
 use Prim.Native.Nat.{_-_}
 use lib.ListN.{length}
 use borrow.Author.Needs.{needs}
-use Rattle.test_plan.proofs.print.prices.Statement.{statement}
-use Rattle.test_plan.proofs.print.prices.Tie as tie
+use Rattle.test_support.proofs.written.prices.Statement.{statement}
+use Rattle.test_support.proofs.written.prices.Tie as tie
 
 abbrev Inv-loop : tie.InvT-loop
 Inv-loop list start i₀ i = Unit
