@@ -45,6 +45,36 @@ pub fn number(line: &[u8], place: usize) -> u32 {
     value as u32
 }
 
+// The most numbers that a line has before its tables.
+pub const MAX_NUMBERS: usize = 9;
+
+// Numbers with zeros past the last, and where they end in the text.
+pub struct Numbers {
+    pub values: [u32; MAX_NUMBERS],
+    pub end: usize,
+}
+
+// The numbers from a place on, up to the next word.
+pub fn read_numbers(line: &[u8], place: usize) -> Numbers
+    requires { ⌜ place ≤ length (now line) ⌝ }
+    ensures { λ r. ⌜ r .end ≤ length (now (line .entry)) ⌝ }
+{
+    let mut values = [0; MAX_NUMBERS];
+    let mut count = 0;
+    let mut at = place;
+    while at < line.len() {
+        if digit(line[at]) > 9 {
+            break;
+        }
+        if count < MAX_NUMBERS {
+            values[count] = number(line, at);
+            count += 1;
+        }
+        at = next(line, at);
+    }
+    Numbers { values, end: at }
+}
+
 // The value of a digit, or 10 for another byte.
 pub(crate) fn digit(byte: u8) -> u64 {
     if byte < b'0' {
