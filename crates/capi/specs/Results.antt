@@ -103,5 +103,6 @@ pub record TouchingCall (jobBytes markBytes : List ℕ) (free margin : ℕ) (pla
 -- In an answer a deadline of 0 says that there is none. Proved in proofs/NoDeadline.antt.
 abbrev pub ZeroIsNone : Type 0
 ZeroIsNone =
-    (jobBytes markBytes : List ℕ) (free margin : ℕ) (plan : List ℕ) (start end : ℕ) (before : Lists) (t : Touched) → touching jobBytes markBytes free margin plan start end before ≡ answer t
+    (jobBytes markBytes : List ℕ) (free margin : ℕ) (plan : List ℕ) (start end : ℕ) (before : Lists) (t : Touched)
+    → touching jobBytes markBytes free margin plan start end before ≡ answer t
     → deadlineNumber (nearestAnswer (t .deadline)) ≡ 0 → t .deadline ≡ none

@@ -1,7 +1,7 @@
 -- The three parameters of a site alter its tables, over the tables in bytes and the calls themselves.
 -- Assumes nothing.
 use mathlib.Core.Path.{_≡_, refl, sym, _∙_, ap}
-use mathlib.Core.Bool.{true, false, or-true, _||_}
+use mathlib.Core.Bool.{true, false, or-true}
 use mathlib.Core.Logic.{_⊎_, inl, inr}
 use mathlib.Core.List.{List, map}
 use Prim.Native.Nat.{ℕ, _<_, _≤_}
@@ -14,13 +14,13 @@ use Rattle.model.specs.declared.Parameters.{Parameters}
 use Rattle.model.specs.Limits.{maxFree, maxMargin, maxCycles}
 use Rattle.model.specs.Outcome.{Outcome, refused, answer, andThen, refuseWhen}
 use Rattle.model.specs.Bytes.{IsBytes}
-use Rattle.model.specs.LevelTables.{runningLevels, readLevels, encodeLevels, ValidLevelTable, DrawFits}
+use Rattle.model.specs.LevelTables.{runningLevels, readLevels, encodeLevels}
 use Rattle.model.specs.Jobs.{jobOf, readJobs, encodeJobs, ValidJobs}
 use Rattle.model.specs.Marks.{readMarks, boundsWith}
-use Rattle.model.specs.SiteParameters.{wrongHighest, alterLevels, wrongFree, wrongMargin, alteredJob, isEmptied, hasTooManyCycles, alteredFault, alterJobs, asGiven}
-use Rattle.model.specs.Processors.{Processor, processorOf, readProcessor}
-use Rattle.model.specs.Setting.{Setting, settingFor, setting}
-use Rattle.model.specs.Sites.{Given, readGiven, Tables, tablesOf, alterTables, readTables, Site, siteOf, readSite, readGivenSite}
+use Rattle.model.specs.SiteParameters.{wrongHighest, alterLevels, wrongFree, alteredJob, alteredFault, alterJobs, asGiven}
+use Rattle.model.specs.Processors.{processorOf}
+use Rattle.model.specs.Setting.{settingFor, setting}
+use Rattle.model.specs.Sites.{Given, readGiven, tablesOf, alterTables, readTables, Site, siteOf, readSite, readGivenSite}
 use Rattle.model.specs.Intervals.{intervalCount}
 use Rattle.model.specs.Sum.{sum}
 use Rattle.model.specs.Steps.{sharesOf}
@@ -30,7 +30,7 @@ use Rattle.model.specs.Planning.{planning}
 use Rattle.model.specs.Demands.{ValidTables}
 use Rattle.model.proofs.Numbers.{true-or-false, lt-or-le}
 use Rattle.model.proofs.Outcome.{answer-injective, byEntry-stops}
-use Rattle.model.proofs.Tests.{neither, in-range}
+use Rattle.model.proofs.Tests.{in-range}
 use Rattle.model.proofs.LevelTables.{levels-valid, levels-read-back}
 use Rattle.model.proofs.Jobs.{jobs-valid, jobs-read-back}
 use Rattle.model.proofs.SiteParameters.{levels-altered, jobs-altered, altered-sound, altered-at, altered-are-valid, full-count-alters-nothing}
@@ -38,7 +38,6 @@ use Rattle.model.proofs.Sites.{as-given-processor, as-given-tables, as-given-al
 use Rattle.model.proofs.Accepted.{check-accepts, check-read}
 use Rattle.reading.proofs.Encodings.{encodings-are-bytes}
 use Rattle.touching.specs.Touching.{Lists, touchingFor, touching}
-use Rattle.spans.specs.Spans.{Touched}
 use Rattle.demands.specs.HandoverMarks.{SiteRefused}
 use Rattle.demands.specs.SiteParameters.{AlteredTo, WorksOnAltered, AsBefore, OutOfRange, CannotBeAltered, FirstOf, SiteParameters}
 use Rattle.demands.proofs.SiteParts.{site-parts}

@@ -107,7 +107,8 @@ pub record IdlingIsNotFree : Type 0 where
   pub schedules-pay : (site : Site) (schedule : ScheduleFor site) → PaysForIdleSlots site schedule
   -- also between the repeats of a plan that was accepted for a round
   pub between-repeats : (laid : LayOutCall) (length multiple : ℕ) → laid .answered ≡ LaidOut length multiple
-      → (levelBytes markBytes : List ℕ) (parameters : Parameters) (plan prices : List ℕ) (figure : ℕ) → check levelBytes (jobsWritten laid length) markBytes parameters plan prices ≡ answer figure
+      → (levelBytes markBytes : List ℕ) (parameters : Parameters) (plan prices : List ℕ) (figure : ℕ)
+      → check levelBytes (jobsWritten laid length) markBytes parameters plan prices ≡ answer figure
       → (site : Site) → ValidTables levelBytes (jobsWritten laid length) markBytes parameters site
       → (r : ℕ) → PaysBetweenRepeats multiple r site plan
   -- a draw never drops a level that works without it; `DrawKeepsLevels` says it of any two draws

@@ -60,7 +60,8 @@ pub record SameOnBoth (one two : LimitedBoard) : Type 0 where
       → (fits (one .bytes) jobs marks (onSite one free margin) plan ≡ refused number place) ↔ (fits (two .bytes) jobs marks (onSite two free margin) plan ≡ refused number place)
   -- the reader's clock, for every interval; the spare of every window; a plan's bytes in cell order
   pub settings : (length load : ℕ) → setting (one .bytes) (one .highest) length load ≡ setting (two .bytes) (two .highest) length load
-  pub spares : (jobs : List ℕ) (free margin : ℕ) (start end : ℕ) → spare (one .bytes) jobs (onSite one free margin) start end ≡ spare (two .bytes) jobs (onSite two free margin) start end
+  pub spares : (jobs : List ℕ) (free margin : ℕ) (start end : ℕ) → spare (one .bytes) jobs (onSite one free margin) start end
+      ≡ spare (two .bytes) jobs (onSite two free margin) start end
   pub orders : (jobs marks : List ℕ) (free margin : ℕ) (plan prices : List ℕ) (room : ℕ)
       → order (one .bytes) jobs marks (onSite one free margin) plan prices room ≡ order (two .bytes) jobs marks (onSite two free margin) plan prices room
   -- whether a plan comes out, and otherwise the refusal, or the window of 11 with its spare

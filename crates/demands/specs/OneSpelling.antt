@@ -94,7 +94,8 @@ pub record OneSpelling : Type 0 where
   pub unchanged : (call : OrderingCall) → ComesOut call → IsBytes (call .plan) → InOrder (call .plan) → planOut call ≡ call .plan
   -- what comes out is accepted by the check with the same prices and the same figure
   pub accepted-again : (call : OrderingCall) → ComesOut call
-      → check (call .levelBytes) (call .jobBytes) (call .markBytes) (call .parameters) (planOut call) (call .prices) ≡ check (call .levelBytes) (call .jobBytes) (call .markBytes) (call .parameters) (call .plan) (call .prices)
+      → check (call .levelBytes) (call .jobBytes) (call .markBytes) (call .parameters) (planOut call) (call .prices)
+      ≡ check (call .levelBytes) (call .jobBytes) (call .markBytes) (call .parameters) (call .plan) (call .prices)
   -- and has the same exact energy
   pub same-energy : (call : OrderingCall) → ComesOut call → (site : Site) → ValidTables (call .levelBytes) (call .jobBytes) (call .markBytes) (call .parameters) site
       → exactFor site (planOut call) ≡ exactFor site (call .plan)
@@ -105,5 +106,6 @@ pub record OneSpelling : Type 0 where
   pub every-call : (levelBytes jobBytes markBytes : List ℕ) (parameters : Parameters) (plan prices before after : List ℕ) (answered : OrderAnswer)
       → OrderContract levelBytes jobBytes markBytes parameters plan prices before after answered
       → (call : OrderingCall)
-      × (call .levelBytes ≡ levelBytes) × (call .jobBytes ≡ jobBytes) × (call .markBytes ≡ markBytes) × (call .parameters ≡ parameters) × (call .plan ≡ plan) × (call .prices ≡ prices)
+      × (call .levelBytes ≡ levelBytes) × (call .jobBytes ≡ jobBytes) × (call .markBytes ≡ markBytes) × (call .parameters ≡ parameters)
+      × (call .plan ≡ plan) × (call .prices ≡ prices)
       × (call .before ≡ before) × (call .after ≡ after) × (call .answered ≡ answered)

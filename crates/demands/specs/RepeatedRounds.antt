@@ -57,7 +57,8 @@ pub record RepeatedRounds : Type 0 where
       → (r : ℕ) → Repeated laid multiple (call .parameters) site (planWritten call steps) (pricesWritten call intervals) r
   -- And so is any plan that the check accepts with its prices for that job table, whoever made it.
   pub checked : (laid : LayOutCall) (length multiple : ℕ) → laid .answered ≡ LaidOut length multiple
-      → (levelBytes markBytes : List ℕ) (parameters : Parameters) (plan prices : List ℕ) (figure : ℕ) → check levelBytes (jobsWritten laid length) markBytes parameters plan prices ≡ answer figure
+      → (levelBytes markBytes : List ℕ) (parameters : Parameters) (plan prices : List ℕ) (figure : ℕ)
+      → check levelBytes (jobsWritten laid length) markBytes parameters plan prices ≡ answer figure
       → (site : Site) → ValidTables levelBytes (jobsWritten laid length) markBytes parameters site
       → (r : ℕ) → Repeated laid multiple parameters site plan prices r
   -- Where planning answers an overfull window, repeating does not help: no schedule meets all deadlines of one or more repeats.

@@ -197,5 +197,6 @@ pub record TouchedSpans : Type 0 where
   pub every-call : (jobBytes markBytes : List ℕ) (free margin : ℕ) (plan : List ℕ) (start end : ℕ) (before after : Lists) (answered : TouchingAnswer)
       → TouchingContract jobBytes markBytes free margin plan start end before after answered
       → (call : TouchingCall)
-      × (call .jobBytes ≡ jobBytes) × (call .markBytes ≡ markBytes) × (call .free ≡ free) × (call .margin ≡ margin) × (call .plan ≡ plan) × (call .start ≡ start) × (call .end ≡ end)
+      × (call .jobBytes ≡ jobBytes) × (call .markBytes ≡ markBytes) × (call .free ≡ free) × (call .margin ≡ margin) × (call .plan ≡ plan)
+      × (call .start ≡ start) × (call .end ≡ end)
       × (call .before ≡ before) × (call .after ≡ after) × (call .answered ≡ answered)

@@ -53,7 +53,8 @@ pub record FitsAndIsNotLeast (levelBytes jobBytes markBytes : List ℕ) (paramet
 
 pub record CheckInTwoHalves : Type 0 where
   -- "one half gives levels, jobs, marks and 15 to 20"
-  pub first-refuses : (levelBytes jobBytes markBytes : List ℕ) (parameters : Parameters) (plan : List ℕ) → RefusesBy (λ n. SiteNumbers n ⊎ From 15 20 n) (fits levelBytes jobBytes markBytes parameters plan)
+  pub first-refuses : (levelBytes jobBytes markBytes : List ℕ) (parameters : Parameters) (plan : List ℕ)
+      → RefusesBy (λ n. SiteNumbers n ⊎ From 15 20 n) (fits levelBytes jobBytes markBytes parameters plan)
   -- "and answers the energy figure": exactly for the plans that fit
   pub first-answers : (levelBytes jobBytes markBytes : List ℕ) (parameters : Parameters) (plan : List ℕ) (figure : ℕ)
       → (fits levelBytes jobBytes markBytes parameters plan ≡ answer figure) ↔ FittingPlan levelBytes jobBytes markBytes parameters plan figure
@@ -65,9 +66,11 @@ pub record CheckInTwoHalves : Type 0 where
       pricing site plan prices (answer figure))
   -- so what the first half refuses the check refuses, whatever the prices; what fits it refuses by 21 to 24 alone; and what it
   -- accepts fits, with the same figure
-  pub same-refusal : (levelBytes jobBytes markBytes : List ℕ) (parameters : Parameters) (plan : List ℕ) (number place : ℕ) → fits levelBytes jobBytes markBytes parameters plan ≡ refused number place
+  pub same-refusal : (levelBytes jobBytes markBytes : List ℕ) (parameters : Parameters) (plan : List ℕ) (number place : ℕ)
+      → fits levelBytes jobBytes markBytes parameters plan ≡ refused number place
       → (prices : List ℕ) → check levelBytes jobBytes markBytes parameters plan prices ≡ refused number place
-  pub later-refusals : (levelBytes jobBytes markBytes : List ℕ) (parameters : Parameters) (plan : List ℕ) (figure : ℕ) → fits levelBytes jobBytes markBytes parameters plan ≡ answer figure
+  pub later-refusals : (levelBytes jobBytes markBytes : List ℕ) (parameters : Parameters) (plan : List ℕ) (figure : ℕ)
+      → fits levelBytes jobBytes markBytes parameters plan ≡ answer figure
       → (prices : List ℕ) → RefusesBy (From 21 24) (check levelBytes jobBytes markBytes parameters plan prices)
   pub same-figure : (levelBytes jobBytes markBytes : List ℕ) (parameters : Parameters) (plan prices : List ℕ) (figure : ℕ)
       → check levelBytes jobBytes markBytes parameters plan prices ≡ answer figure → fits levelBytes jobBytes markBytes parameters plan ≡ answer figure

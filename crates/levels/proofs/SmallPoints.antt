@@ -8,7 +8,6 @@ use Prim.Native.Nat.{ℕ, zero, suc, _<_, _≤_}
 use native.Mathlib.Omega.{arith}
 use lib.ListN.{length}
 use Rattle.model.specs.Limits.{maxPoints}
-use Rattle.model.specs.declared.Level.{Level}
 use Rattle.model.specs.Outcome.{Outcome, refused, answer}
 use Rattle.model.specs.Points.{Point, pointAt, dropped, working, RisingPoints}
 use Rattle.model.specs.Processors.{Processor, allPoints, workingOf, readProcessor, ValidProcessor}

@@ -8,14 +8,14 @@ use mathlib.Core.List.{List, [], _∷_, map}
 use Prim.Native.Nat.{ℕ, suc, _+_, _-_, _*_, _<_, _≤_}
 use native.Mathlib.Nat.{div-mul-le-self, lt-div-mul-add}
 use native.Mathlib.Omega.{arith}
-use lib.ListN.{length, getD, take, drop, length-map}
-use lib.Dec.{ltb, leb, eqb}
+use lib.ListN.{length, take, drop, length-map}
+use lib.Dec.{leb, eqb}
 use lib.Seq.{length-take-le, take-all, getD-take, take-add, drop-at, ext-getD}
 use borrow.Author.Tests.{ltb-false, leb-false, le-ltb, le-leb, lt-leb}
 use Rattle.model.specs.declared.Level.{Level}
 use Rattle.model.specs.declared.Job.{Job}
 use Rattle.model.specs.Limits.{maxCycles, maxFree, maxMargin}
-use Rattle.model.specs.Outcome.{Outcome, answer, andThen, refuseWhen, byEntry}
+use Rattle.model.specs.Outcome.{Outcome, answer, refuseWhen}
 use Rattle.model.specs.Levels.{idling, levelOf, ValidLevels}
 use Rattle.model.specs.LevelTables.{idleEntries, idlePowerOf, runningLevels, ValidLevelTable}
 use Rattle.model.specs.Jobs.{noJob, jobOf, ValidJobs}

@@ -1,7 +1,7 @@
 -- Laws of jobs in arrays while they are altered one after another: the arrays between two jobs, one law for each way out, and what a
 -- caller that matched on the answer's case knows.
 -- Assumes nothing.
-use mathlib.Core.Path.{_≡_, refl, sym, _∙_, ap}
+use mathlib.Core.Path.{_≡_, sym, _∙_, ap}
 use mathlib.Core.Bool.{cond}
 use mathlib.Core.Logic.{_⊎_, inl, inr}
 use mathlib.Core.List.{List, map}

@@ -1,6 +1,5 @@
 -- `altered_levels::running_count` meets its contract: the first frequency tells whether there is an idle entry (proofs/KeptLevels.antt).
 -- Assumes nothing.
-use native.Mathlib.Omega.{arith}
 use borrow.Author.Needs.{needs}
 use Rattle.parameters.proofs.KeptLevels.{counted}
 use Rattle.parameters.proofs.altered_levels.running_count.Statement.{statement}
