@@ -12,7 +12,7 @@ use Rattle.model.specs.declared.Level.{Level}
 use Rattle.model.specs.declared.Job.{Job}
 use Rattle.model.specs.declared.Parameters.{Parameters}
 use Rattle.model.specs.Limits.{maxFree, maxMargin, maxCycles}
-use Rattle.model.specs.Outcome.{Outcome, refused, answer, andThen, refuseWhen}
+use Rattle.model.specs.Outcome.{Outcome, refused, answer, andThen, refuseWhen, refuseUnder}
 use Rattle.model.specs.Bytes.{IsBytes}
 use Rattle.model.specs.LevelTables.{runningLevels, readLevels, encodeLevels}
 use Rattle.model.specs.Jobs.{jobOf, readJobs, encodeJobs, ValidJobs}
@@ -25,7 +25,7 @@ use Rattle.model.specs.Intervals.{intervalCount}
 use Rattle.model.specs.Sum.{sum}
 use Rattle.model.specs.Steps.{sharesOf}
 use Rattle.model.specs.Windows.{wrongSpan, spareFor, spare}
-use Rattle.model.specs.Checking.{fits, check}
+use Rattle.model.specs.Checking.{fits, checkFor, check}
 use Rattle.model.specs.Planning.{planning}
 use Rattle.model.specs.Demands.{ValidTables}
 use Rattle.model.proofs.Numbers.{true-or-false, lt-or-le}
@@ -37,6 +37,8 @@ use Rattle.model.proofs.SiteParameters.{levels-altered, jobs-altered, altered-s
 use Rattle.model.proofs.Sites.{as-given-processor, as-given-tables, as-given-alters-nothing}
 use Rattle.model.proofs.Accepted.{check-accepts, check-read}
 use Rattle.reading.proofs.Encodings.{encodings-are-bytes}
+use Rattle.ordering.specs.OrderedPlan.{orderedPlan}
+use Rattle.ordering.specs.Ordering.{order}
 use Rattle.touching.specs.Touching.{Lists, touchingFor, touching}
 use Rattle.demands.specs.HandoverMarks.{SiteRefused}
 use Rattle.demands.specs.SiteParameters.{AlteredTo, WorksOnAltered, AsBefore, OutOfRange, CannotBeAltered, FirstOf, SiteParameters}
@@ -152,6 +154,22 @@ module _ (levels jobs marks : List ℕ) where
       go (answer given) valid (refused number place) = refl
       go (answer given) valid (answer ticks) = rw (full-count-alters-nothing .1 given (valid given refl))
 
+  orders-before : (plan prices : List ℕ) (room : ℕ) → order levels jobs marks (asGiven levels) plan prices room
+      ≡ (andThen (readGivenSite levels jobs marks) λ site.
+      andThen (checkFor site plan prices) λ figure.
+      refuseUnder (length plan) 12 room
+      (answer (orderedPlan plan)))
+  unfolding order check
+  orders-before plan prices room = rw (as-given-alters-nothing levels jobs marks) (go (readGivenSite levels jobs marks))
+    where
+      ordered : ℕ → Outcome (List ℕ)
+      ordered figure = refuseUnder (length plan) 12 room (answer (orderedPlan plan))
+
+      go : (read : Outcome Site)
+          → andThen (andThen read (λ site. checkFor site plan prices)) ordered ≡ andThen read (λ site. andThen (checkFor site plan prices) ordered)
+      go (refused number place) = refl
+      go (answer site) = refl
+
   as-before : AsBefore levels jobs marks
   unfolding fits check planning
   as-before =
@@ -162,6 +180,7 @@ module _ (levels jobs marks : List ℕ) where
         spares = spares-before;
         fitting = λ plan. rw same;
         checks = λ plan prices. rw same;
+        orders = orders-before;
         touches = touched-before;
         plans = λ planRoom priceRoom shareRoom. rw same;
       }

@@ -15,7 +15,7 @@ use lib.ListN.{length}
 use Rattle.model.specs.declared.Level.{Level}
 use Rattle.model.specs.declared.Job.{Job}
 use Rattle.model.specs.declared.Parameters.{Parameters}
-use Rattle.model.specs.Outcome.{refused, answer, andThen, refuseWhen}
+use Rattle.model.specs.Outcome.{refused, answer, andThen, refuseWhen, refuseUnder}
 use Rattle.model.specs.Bytes.{IsBytes}
 use Rattle.model.specs.LevelTables.{runningLevels, readLevels, encodeLevels}
 use Rattle.model.specs.Jobs.{jobOf, readJobs, encodeJobs}
@@ -31,6 +31,7 @@ use Rattle.model.specs.Demands.{ValidTables}
 use Rattle.planning.specs.declared.operation.PlanAnswer.{PlanAnswer}
 use Rattle.planning.specs.MadePlans.{Buffers}
 use Rattle.planning.specs.PlanAnswers.{PlanContract}
+use Rattle.ordering.specs.OrderedPlan.{orderedPlan}
 use Rattle.ordering.specs.Ordering.{order}
 use Rattle.touching.specs.Touching.{Lists, touchingFor, touching}
 use Rattle.demands.specs.HandoverMarks.{SiteRefused}
@@ -82,6 +83,11 @@ pub record AsBefore (levels jobs marks : List ℕ) : Type 0 where
   pub checks : (plan prices : List ℕ) → check levels jobs marks (asGiven levels) plan prices
       ≡ (andThen (readGivenSite levels jobs marks) λ site.
       checkFor site plan prices)
+  pub orders : (plan prices : List ℕ) (room : ℕ) → order levels jobs marks (asGiven levels) plan prices room
+      ≡ (andThen (readGivenSite levels jobs marks) λ site.
+      andThen (checkFor site plan prices) λ figure.
+      refuseUnder (length plan) 12 room
+      (answer (orderedPlan plan)))
   pub touches : (plan : List ℕ) (start end : ℕ) (before : Lists) → touching jobs marks 0 0 plan start end before
       ≡ refuseWhen (wrongSpan start end) 33
       (andThen (readJobs jobs) λ given.
