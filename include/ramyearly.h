@@ -34,7 +34,7 @@
  * schedule that a plan is compared with is said of the altered tables. A plan and its price list go with the parameters that they were
  * made for, as they do with the marks.
  *
- * No function uses a heap or writable static data. The deepest stack that was measured, on x86-64, is 13 kB for ordering, 12 kB
+ * No function uses a heap or writable static data. The deepest stack that was measured, on x86-64, is 14 kB for ordering, 12 kB
  * for checking, 11 kB for planning and for whether a plan fits, 6 kB for touching, 3 kB for the spare, and 2 kB for the setting and
  * for rounds (docs/BENCHMARK.md). */
 #ifndef RAMYEARLY_H
