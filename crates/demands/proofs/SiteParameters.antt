@@ -18,7 +18,7 @@ use Rattle.model.specs.LevelTables.{runningLevels, readLevels, encodeLevels}
 use Rattle.model.specs.Jobs.{jobOf, readJobs, encodeJobs, ValidJobs}
 use Rattle.model.specs.Marks.{readMarks, boundsWith}
 use Rattle.model.specs.SiteParameters.{wrongHighest, alterLevels, wrongFree, alteredJob, alteredFault, alterJobs, asGiven}
-use Rattle.model.specs.Processors.{processorOf}
+use Rattle.model.specs.Processors.{processorOf, readProcessor}
 use Rattle.model.specs.Setting.{settingFor, setting}
 use Rattle.model.specs.Sites.{Given, readGiven, tablesOf, alterTables, readTables, Site, siteOf, readSite, readGivenSite}
 use Rattle.model.specs.Intervals.{intervalCount}
@@ -80,9 +80,12 @@ module _ (levelBytes jobBytes : List ℕ) (small : IsBytes levelBytes) (paramete
       go (refused number place) = rw (levels-back, jobs-back)
       go (answer ticks) = rw (levels-back, jobs-back, to .levels-altered, to .jobs-altered)
 
+  same-processors : readProcessor levelBytes (parameters .highest) ≡ readProcessor levelsAfter (asGiven levelsAfter .highest)
+  same-processors = rw (as-given-processor levelsAfter, to .levels-read, to .levels-altered, levels-back)
+
   same-settings : (length load : ℕ) → setting levelBytes (parameters .highest) length load ≡ setting levelsAfter (asGiven levelsAfter .highest) length load
   unfolding setting
-  same-settings length load = rw (as-given-processor levelsAfter, to .levels-read, to .levels-altered, levels-back)
+  same-settings length load = rw same-processors
 
   same-spares : (start end : ℕ) → spare levelBytes jobBytes parameters start end ≡ spare levelsAfter jobsAfter (asGiven levelsAfter) start end
   unfolding spare readTables readGiven alterTables
@@ -99,6 +102,7 @@ module _ (levelBytes jobBytes : List ℕ) (small : IsBytes levelBytes) (paramete
   works-on-altered =
       record {
         sites = same-sites;
+        processors = same-processors;
         settings = same-settings;
         spares = same-spares;
         fitting = λ marks. fits-kept _ _ _ _ _ _ _ _ (same-sites marks);
@@ -176,6 +180,7 @@ module _ (levels jobs marks : List ℕ) where
       let same = as-given-alters-nothing levels jobs marks in
       record {
         sites = same;
+        processors = as-given-processor levels;
         settings = settings-before;
         spares = spares-before;
         fitting = λ plan. rw same;

@@ -21,7 +21,7 @@ use Rattle.model.specs.LevelTables.{runningLevels, readLevels, encodeLevels}
 use Rattle.model.specs.Jobs.{jobOf, readJobs, encodeJobs}
 use Rattle.model.specs.Marks.{readMarks, boundsWith}
 use Rattle.model.specs.SiteParameters.{alterLevels, alteredJob, alterJobs, asGiven, LevelsAltered, JobsAltered, AlteredAreValid}
-use Rattle.model.specs.Processors.{processorOf}
+use Rattle.model.specs.Processors.{processorOf, readProcessor}
 use Rattle.model.specs.Setting.{settingFor, setting}
 use Rattle.model.specs.Sites.{readGiven, tablesOf, Site, readSite, readGivenSite}
 use Rattle.model.specs.Windows.{wrongSpan, spareFor, spare}
@@ -50,6 +50,8 @@ pub record AlteredTo (levelBytes jobBytes : List ℕ) (parameters : Parameters) 
 pub record WorksOnAltered (levelBytes jobBytes : List ℕ) (parameters : Parameters) (levels : List Level) (jobs : List Job) : Type 0 where
   pub sites : (marks : List ℕ)
       → readSite levelBytes jobBytes marks parameters ≡ readSite (encodeLevels levels) (encodeJobs jobs) marks (asGiven (encodeLevels levels))
+  -- with it the working levels
+  pub processors : readProcessor levelBytes (parameters .highest) ≡ readProcessor (encodeLevels levels) (asGiven (encodeLevels levels) .highest)
   pub settings : (length load : ℕ)
       → setting levelBytes (parameters .highest) length load ≡ setting (encodeLevels levels) (asGiven (encodeLevels levels) .highest) length load
   pub spares : (start end : ℕ)
@@ -71,6 +73,9 @@ pub record WorksOnAltered (levelBytes jobBytes : List ℕ) (parameters : Paramet
 -- the site of the tables as they are given.
 pub record AsBefore (levels jobs marks : List ℕ) : Type 0 where
   pub sites : readSite levels jobs marks (asGiven levels) ≡ readGivenSite levels jobs marks
+  pub processors : readProcessor levels (asGiven levels .highest)
+      ≡ (andThen (readLevels levels) λ entries.
+      answer (processorOf entries))
   pub settings : (length load : ℕ) → setting levels (asGiven levels .highest) length load
       ≡ (andThen (readLevels levels) λ entries.
       settingFor (processorOf entries) length load)
