@@ -24,8 +24,8 @@ use Rattle.model.proofs.Sites.{processors-are-valid}
 use Rattle.levels.specs.declared.interval.SettingAnswer.the-variants.{Set, Refused}
 use Rattle.levels.specs.Settings.{settingAnswer}
 use Rattle.levels.proofs.SmallPoints.{working-small, working-held}
-use Rattle.windows.specs.declared.window.SpareAnswer.the-variants.{Spare, Refused as SpareRefused}
-use Rattle.windows.specs.Answers.{spareAnswer}
+use Rattle.spare.specs.declared.window.SpareAnswer.the-variants.{Spare, Refused as SpareRefused}
+use Rattle.spare.specs.Answers.{spareAnswer}
 use Rattle.audit.specs.declared.first_half.FitsAnswer.the-variants.{Fits, Refused as FitsRefused}
 use Rattle.audit.specs.declared.checking.CheckAnswer.the-variants.{Accepted, Refused as CheckRefused}
 use Rattle.audit.specs.Answers.{fitsAnswer, checkAnswer}

@@ -12,9 +12,9 @@ use model::Parameters;
 use ordering::OrderAnswer;
 use planning::PlanAnswer;
 use rounds::RoundsAnswer;
+use spare::SpareAnswer;
 use touching::NearestDeadline;
 use touching::TouchingAnswer;
-use windows::SpareAnswer;
 
 // The first half of the check. Number 0: the plan fits; otherwise the refusal's number and place, and 0.
 #[repr(C)]
@@ -204,7 +204,7 @@ pub extern "C" fn ramyearly_spare(
         free: free_ticks,
         margin,
     };
-    let answer = windows::spare(levels, jobs, parameters, start, end);
+    let answer = spare::spare(levels, jobs, parameters, start, end);
     match answer {
         SpareAnswer::Spare(spare) => SpareResult {
             number: 0,

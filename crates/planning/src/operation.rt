@@ -16,9 +16,9 @@ use model::Parameters;
 use site::SiteReading;
 use site::SiteTable;
 use site::read_site;
+use spare::window_spare;
 use windows::Overfull;
 use windows::earliest_overfull;
-use windows::window_spare;
 
 // Intervals, steps and energy figure of the plan written; the earliest overfull window and its spare, which is refusal 11;
 // or another refusal's number and place.

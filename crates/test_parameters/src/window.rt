@@ -1,8 +1,8 @@
 // The spare of a window.
 use model::Parameters;
+use spare::SpareAnswer;
 use test_support::show;
 use test_support::text::MAX_NUMBERS;
-use windows::SpareAnswer;
 
 // The numbers are the parameters, and the start and the end of the window.
 pub(crate) fn spare(levels: &[u8], jobs: &[u8], values: [u32; MAX_NUMBERS]) {
@@ -11,7 +11,7 @@ pub(crate) fn spare(levels: &[u8], jobs: &[u8], values: [u32; MAX_NUMBERS]) {
         free: values[1],
         margin: values[2],
     };
-    match windows::spare(levels, jobs, parameters, values[3], values[4]) {
+    match spare::spare(levels, jobs, parameters, values[3], values[4]) {
         SpareAnswer::Spare(spare) => {
             show::words(b" spare");
             show::signed(spare);

@@ -1,11 +1,11 @@
 // A case: the tables of its line in bytes, and what the spare of its window is with them.
 use parameters::as_given;
+use spare::SpareAnswer;
 use test_support::encode::ROOM;
 use test_support::encode::encode;
 use test_support::show;
 use test_support::text::next;
 use test_support::text::number;
-use windows::SpareAnswer;
 
 pub(crate) fn case(line: &[u8]) {
     case_in(&mut [0; ROOM], &mut [0; ROOM], line);
@@ -19,7 +19,7 @@ fn case_in(level_bytes: &mut [u8], job_bytes: &mut [u8], line: &[u8]) {
     let level_length = levels.length;
     let job_length = jobs.length;
     let given = as_given(&level_bytes[..level_length]);
-    let answer = windows::spare(
+    let answer = spare::spare(
         &level_bytes[..level_length],
         &job_bytes[..job_length],
         given,

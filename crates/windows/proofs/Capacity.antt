@@ -1,35 +1,9 @@
--- Laws of a window's length × top frequency: it is small, and its difference with another number below 2 ^ 63 is the
--- integer difference, as the machine computes it with signed numbers.
+-- A law of a window's length × top frequency: it is small.
 -- Assumes nothing.
-use mathlib.Core.Path.{_≡_, _∙_}
-use mathlib.Core.Logic.{_⊎_, inl, inr}
-use Prim.Native.Nat.{ℕ, zero, suc, _-_, _*_, _^_, _<_, _≤_}
+use Prim.Native.Nat.{ℕ, _-_, _*_, _≤_}
 use native.Mathlib.Nat.{mul-le-mul}
 use native.Mathlib.Omega.{arith}
-use lib.IntN.{pos, _-ℤ_}
-use borrow.Author.Tests.{lt-ltb, le-ltb}
-use mir.Syntax.{w64}
-use mir.Val.{SFits, toZ, ofZ}
-use mir.Facts.{toZ-pos, toZ-ofZ}
 use Rattle.model.specs.Limits.{maxDeadline, maxFrequency}
-use Rattle.model.proofs.Numbers.{lt-or-le}
 
 pub capacity-small : (start end top : ℕ) → end ≤ maxDeadline → top ≤ maxFrequency → (end - start) * top ≤ maxDeadline * maxFrequency
 capacity-small start end top early slow = let short : end - start ≤ maxDeadline = omega arith in mul-le-mul short slow
-
-integer-small : (a b : ℕ) → a < 2 ^ 63 → b < 2 ^ 63 → SFits w64 (pos a -ℤ pos b)
-integer-small a zero first second = record { sfits = omega arith }
-integer-small a (suc b) first second = go (lt-or-le a (suc b))
-  where
-    go : (a < suc b) ⊎ (suc b ≤ a) → SFits w64 (pos a -ℤ pos (suc b))
-    go (inl below) = rw (lt-ltb a (suc b) below) (record { sfits = omega arith })
-    go (inr above) = rw (le-ltb a (suc b) above) (record { sfits = omega arith })
-
-module _ (a b : ℕ) (first : a < 2 ^ 63) (second : b < 2 ^ 63) where
-  -- the difference fits 64 bits with a sign
-  pub difference-fits : SFits w64 (toZ w64 a -ℤ toZ w64 b)
-  difference-fits = rw (toZ-pos w64 first, toZ-pos w64 second) (integer-small a b first second)
-
-  -- and is read back from its bits
-  pub difference : toZ w64 (ofZ w64 (toZ w64 a -ℤ toZ w64 b)) ≡ pos a -ℤ pos b
-  difference = toZ-ofZ difference-fits ∙ rw (toZ-pos w64 first, toZ-pos w64 second)

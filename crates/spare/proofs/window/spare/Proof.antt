@@ -6,8 +6,8 @@ use Rattle.model.specs.Windows.{spare as spareOfBytes}
 use Rattle.model.proofs.Sites.{tables-are-valid}
 use Rattle.site.proofs.ReadSites.{refused-tables, held-tables}
 use Rattle.site.proofs.HeldSites.{pair-jobs, pair-top}
-use Rattle.windows.proofs.window.spare.Statement.{statement}
-use Rattle.windows.proofs.window.spare.Tie as tie
+use Rattle.spare.proofs.window.spare.Statement.{statement}
+use Rattle.spare.proofs.window.spare.Tie as tie
 
 read-tables-requires : tie.Need-read-tables-requires
 read-tables-requires c κs = search needs

@@ -1,8 +1,8 @@
 -- `window::cycles_if_inside` meets its contract. Each way out rests on the tests that led there. Assumes nothing.
 use native.Mathlib.Omega.{arith}
 use borrow.Author.Tests.{lt-leb, le-leb}
-use Rattle.windows.proofs.window.cycles_if_inside.Statement.{statement}
-use Rattle.windows.proofs.window.cycles_if_inside.Tie as tie
+use Rattle.spare.proofs.window.cycles_if_inside.Statement.{statement}
+use Rattle.spare.proofs.window.cycles_if_inside.Tie as tie
 
 returns : tie.Need-returns
 returns c = (rw (lt-leb _ _ (c .if1 .taken)), omega arith)

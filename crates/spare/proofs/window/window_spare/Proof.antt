@@ -10,9 +10,10 @@ use lib.IntN.{pos, _-ℤ_}
 use borrow.Author.Needs.{needs}
 use Rattle.model.specs.declared.Job.{Job}
 use Rattle.model.specs.Windows.{cyclesInside, spareOf}
-use Rattle.windows.proofs.Capacity.{capacity-small, difference-fits, difference}
-use Rattle.windows.proofs.window.window_spare.Statement.{statement}
-use Rattle.windows.proofs.window.window_spare.Tie as tie
+use Rattle.windows.proofs.Capacity.{capacity-small}
+use Rattle.spare.proofs.Differences.{difference-fits, difference}
+use Rattle.spare.proofs.window.window_spare.Statement.{statement}
+use Rattle.spare.proofs.window.window_spare.Tie as tie
 
 is-spare : (top : ℕ) (jobs : List Job) (start end need : ℕ) → need ≡ cyclesInside jobs start end
     → pos ((end - start) * top) -ℤ pos need ≡ spareOf top jobs start end

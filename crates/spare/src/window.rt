@@ -8,7 +8,7 @@ ghost use Rattle.model.specs.Processors.{topOf};
 ghost use Rattle.model.specs.Sites.{Tables};
 ghost use Rattle.model.specs.Windows.{isInside, cyclesInside, spareOf, spareFor, spare as spareOfBytes};
 ghost use Rattle.job_tables.specs.Tables.{jobsIn};
-ghost use Rattle.windows.specs.Answers.{spareAnswer};
+ghost use Rattle.spare.specs.Answers.{spareAnswer};
 use model::MAX_DEADLINE;
 use model::MAX_JOBS;
 use model::Parameters;

@@ -15,10 +15,10 @@ use Rattle.model.specs.Limits.{maxDeadline}
 use Rattle.model.specs.Processors.{topOf}
 use Rattle.model.specs.Sites.{Tables}
 use Rattle.model.specs.Windows.{spareOf, spareFor}
-use Rattle.windows.specs.declared.window.SpareAnswer.the-variants.{Spare, Refused}
-use Rattle.windows.specs.Answers.{spareAnswer}
-use Rattle.windows.proofs.window.spare_of_tables.Statement.{statement}
-use Rattle.windows.proofs.window.spare_of_tables.Tie as tie
+use Rattle.spare.specs.declared.window.SpareAnswer.the-variants.{Spare, Refused}
+use Rattle.spare.specs.Answers.{spareAnswer}
+use Rattle.spare.proofs.window.spare_of_tables.Statement.{statement}
+use Rattle.spare.proofs.window.spare_of_tables.Tie as tie
 
 module _ (tables : Tables) (start end : ℕ) where
   empty : end ≤ start → Refused 27 0 ≡ spareAnswer (spareFor tables start end)

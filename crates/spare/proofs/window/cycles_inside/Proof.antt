@@ -14,8 +14,8 @@ use Rattle.model.specs.Windows.{isInside, cyclesInside}
 use Rattle.job_tables.specs.Tables.{jobsIn}
 use Rattle.job_tables.proofs.Read.{length-jobsIn, job-in, jobs-count, sound-in}
 use Rattle.model.proofs.Sum.{sum-none, sum-more, sum-whole}
-use Rattle.windows.proofs.window.cycles_inside.Statement.{statement}
-use Rattle.windows.proofs.window.cycles_inside.Tie as tie
+use Rattle.spare.proofs.window.cycles_inside.Statement.{statement}
+use Rattle.spare.proofs.window.cycles_inside.Tie as tie
 
 -- a job's cycles where it is inside the window, otherwise 0
 abbrev counted : (start end : ℕ) → Job → ℕ
