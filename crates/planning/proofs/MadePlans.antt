@@ -19,9 +19,9 @@ use Rattle.levels.specs.PointTables.{pointsOf}
 use Rattle.site.specs.declared.SiteTable.{SiteTable}
 use Rattle.energy.specs.Figures.{figureOfLoads}
 use Rattle.writing.specs.StepList.{stepsOf}
-use Rattle.writing.specs.PriceListBytes.{encodePrices}
+use Rattle.price_writing.specs.PriceListBytes.{encodePrices}
 use Rattle.writing.proofs.WrittenPlan.{planOf, few-steps}
-use Rattle.writing.proofs.WrittenPrices.{length-price-list}
+use Rattle.price_writing.proofs.WrittenPrices.{length-price-list}
 use Rattle.writing.proofs.EncodedPlan.{length-plan}
 use Rattle.workloads.specs.Workloads.{Workload}
 use Rattle.workloads.specs.Arrays.{numbersIn, problemIn, KeptPast}

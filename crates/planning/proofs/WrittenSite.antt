@@ -25,9 +25,9 @@ use Rattle.model.proofs.Accepted.{check-accepts}
 use Rattle.energy.specs.Figures.{figureOfLoads}
 use Rattle.energy.proofs.Figures.{figure-of-plan}
 use Rattle.writing.specs.StepList.{stepsOf}
-use Rattle.writing.specs.PriceListBytes.{encodePrices}
+use Rattle.price_writing.specs.PriceListBytes.{encodePrices}
 use Rattle.writing.proofs.WrittenPlan.{planOf, written-plan, written-shares, written-count, written-length}
-use Rattle.writing.proofs.WrittenPrices.{length-price-list, written-prices, written-price-list}
+use Rattle.price_writing.proofs.WrittenPrices.{length-price-list, written-prices, written-price-list}
 
 module _ (site : Site) (valid : ValidSite site) where
   abbrev jobs : List Job

@@ -13,10 +13,10 @@ use model::MAX_BOUNDS;
 use model::MAX_INTERVALS;
 use model::MAX_JOBS;
 use planner::place;
+use price_writing::write_prices;
 use prices::smallest_prices;
 use site::SiteTable;
 use writing::write_plan;
-use writing::write_prices;
 
 // Intervals, steps and energy figure of a plan.
 pub struct Figures {

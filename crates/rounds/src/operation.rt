@@ -5,10 +5,10 @@ ghost use Rattle.rounds.specs.RoundAnswers.{RoundsContract};
 use crate::laying::lay_out;
 use crate::multiple::multiple_of;
 use crate::task_table::read_tasks;
+use job_writing::write_jobs;
 use model::MAX_JOBS;
 use reading::Reading;
 use tasks::MAX_MULTIPLE;
-use writing::write_jobs;
 
 // The length of the job table that was written, in bytes, and the multiple after which the round repeats; or the
 // refusal's number and place.

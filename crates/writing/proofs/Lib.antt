@@ -7,7 +7,4 @@ pub mod PlanStores
 pub mod HeldShares
 pub mod MemberSteps
 pub mod WrittenPlan
-pub mod WrittenPrices
 pub mod NumberStores
-pub mod PriceStores
-pub mod JobStores

@@ -2,5 +2,3 @@
 pub mod StepList
 pub mod HeldShares
 pub mod PlanBytes
-pub mod PriceListBytes
-pub mod JobBytes

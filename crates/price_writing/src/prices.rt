@@ -5,11 +5,11 @@ ghost use Prim.Native.Nat.{ℕ, suc, _+_, _*_, _<_, _≤_};
 ghost use lib.ListN.{length, getD, drop};
 ghost use lib.Seq.{sets};
 ghost use Rattle.model.specs.Limits.{maxIntervals};
-ghost use Rattle.writing.specs.PriceListBytes.{endBytes, priceBytes, encodePrices};
-use crate::numbers::put16;
-use crate::numbers::put32;
+ghost use Rattle.price_writing.specs.PriceListBytes.{endBytes, priceBytes, encodePrices};
 use model::MAX_BOUNDS;
 use model::MAX_INTERVALS;
+use writing::put16;
+use writing::put32;
 
 // Writes the price list at the start of the buffer. Interval i goes from time i to time i + 1. The prices that are lent
 // count from 0, those of a price list from 1.

@@ -8,11 +8,11 @@ use lib.Seq.{sets}
 use denote.Ref.{now}
 use Rattle.model.specs.Bytes.{bytes32}
 use Rattle.model.proofs.Bytes.{length-bytesOf}
-use Rattle.writing.specs.JobBytes.{jobCycleBytes}
+use Rattle.job_writing.specs.JobBytes.{jobCycleBytes}
 use Rattle.writing.proofs.NumberStores.{numbers-none, length-numbers, numbers-next, numbers-whole}
 use native.Mathlib.Omega.{arith}
-use Rattle.writing.proofs.jobs.write_cycles.Statement.{statement}
-use Rattle.writing.proofs.jobs.write_cycles.Tie as tie
+use Rattle.job_writing.proofs.jobs.write_cycles.Statement.{statement}
+use Rattle.job_writing.proofs.jobs.write_cycles.Tie as tie
 
 abbrev Inv-loop : tie.InvT-loop
 Inv-loop cycles count out₀ j₀ out j = (j ≤ count) × (out ≡ sets out₀ (2 + 8 * count) (jobCycleBytes j cycles))

@@ -15,9 +15,9 @@ use Rattle.model.proofs.Entries.{length-listOf, length-encodeEach}
 use Rattle.model.proofs.Jobs.{length-encodeJobs}
 use Rattle.job_tables.specs.Tables.{jobsIn}
 use Rattle.job_tables.proofs.Read.{length-jobsIn}
-use Rattle.writing.specs.JobBytes.{windowBytes, jobCycleBytes}
+use Rattle.job_writing.specs.JobBytes.{windowBytes, jobCycleBytes}
 use Rattle.writing.proofs.Stores.{sets-after, sets-front}
 use Rattle.writing.proofs.NumberStores.{numbers-none, length-numbers, numbers-next, numbers-whole}
 
 -- a window in bytes, and its size
 abbrev window : (releases deadlines : List ℕ) → ℕ → List ℕ

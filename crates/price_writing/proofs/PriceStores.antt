@@ -9,9 +9,9 @@ use lib.Seq.{sets}
 use Rattle.model.specs.Bytes.{bytes16}
 use Rattle.model.specs.Prices.{PriceList}
 use Rattle.model.proofs.Bytes.{length-bytesOf}
-use Rattle.writing.specs.PriceListBytes.{endBytes, priceBytes, encodePrices}
+use Rattle.price_writing.specs.PriceListBytes.{endBytes, priceBytes, encodePrices}
 use Rattle.writing.proofs.Stores.{sets-after, sets-front}
-use Rattle.writing.proofs.WrittenPrices.{length-ends, length-price-list}
+use Rattle.price_writing.proofs.WrittenPrices.{length-ends, length-price-list}
 
 -- the count, the ends and the prices one after another
 pub whole-price-list : (intervals : ℕ) (ends : ℕ → ℕ) (prices : PriceList) (before first second after : List ℕ) → 2 + 5 * intervals ≤ length before

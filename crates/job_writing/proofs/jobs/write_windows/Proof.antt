@@ -4,10 +4,10 @@ use mathlib.Core.Path.{_≡_}
 use Prim.Native.Nat.{_-_, _≤_}
 use lib.ListN.{length}
 use denote.Ref.{now}
-use Rattle.writing.proofs.JobStores.{WindowsPut, windows-none, windows-long, windows-next, windows-whole}
+use Rattle.job_writing.proofs.JobStores.{WindowsPut, windows-none, windows-long, windows-next, windows-whole}
 use native.Mathlib.Omega.{arith}
-use Rattle.writing.proofs.jobs.write_windows.Statement.{statement}
-use Rattle.writing.proofs.jobs.write_windows.Tie as tie
+use Rattle.job_writing.proofs.jobs.write_windows.Statement.{statement}
+use Rattle.job_writing.proofs.jobs.write_windows.Tie as tie
 
 abbrev Inv-loop : tie.InvT-loop
 Inv-loop releases deadlines count out₀ j₀ out j = (j ≤ count) × WindowsPut releases deadlines out₀ j out

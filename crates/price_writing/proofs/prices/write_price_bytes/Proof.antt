@@ -9,10 +9,10 @@ use lib.Seq.{sets}
 use denote.Ref.{now}
 use Rattle.model.specs.Bytes.{bytesOf}
 use Rattle.model.proofs.Bytes.{length-bytesOf}
-use Rattle.writing.specs.PriceListBytes.{priceBytes}
+use Rattle.price_writing.specs.PriceListBytes.{priceBytes}
 use Rattle.writing.proofs.NumberStores.{numbers-none, length-numbers, numbers-next, numbers-whole}
-use Rattle.writing.proofs.prices.write_price_bytes.Statement.{statement}
-use Rattle.writing.proofs.prices.write_price_bytes.Tie as tie
+use Rattle.price_writing.proofs.prices.write_price_bytes.Statement.{statement}
+use Rattle.price_writing.proofs.prices.write_price_bytes.Tie as tie
 
 abbrev Inv-loop : tie.InvT-loop
 Inv-loop prices intervals out₀ i₀ out i = (i ≤ intervals) × (out ≡ sets out₀ (2 + 4 * intervals) (priceBytes i (λ k. suc (getD prices k 0))))

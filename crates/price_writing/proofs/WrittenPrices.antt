@@ -16,7 +16,7 @@ use Rattle.model.specs.PriceBytes.{priceIntervals, endAt, pricesOf}
 use Rattle.model.specs.Accepted.{IsPriceList}
 use Rattle.model.proofs.Bytes.{length-bytesOf, numberAt-found}
 use Rattle.model.proofs.Entries.{length-listOf, getD-listOf, length-encodeEach, drop-encodeEach}
-use Rattle.writing.specs.PriceListBytes.{endBytes, priceBytes, encodePrices}
+use Rattle.price_writing.specs.PriceListBytes.{endBytes, priceBytes, encodePrices}
 
 pub length-ends : (count : ℕ) (ends : ℕ → ℕ) → length (endBytes count ends) ≡ 4 * count
 length-ends count ends = rw (length-encodeEach bytes32 4 (length-bytesOf 4), length-listOf)

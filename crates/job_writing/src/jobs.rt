@@ -7,10 +7,10 @@ ghost use lib.Seq.{sets};
 ghost use Rattle.model.specs.Limits.{maxJobs};
 ghost use Rattle.model.specs.Jobs.{encodeJobs};
 ghost use Rattle.job_tables.specs.Tables.{jobsIn};
-ghost use Rattle.writing.specs.JobBytes.{windowBytes, jobCycleBytes};
-use crate::numbers::put16;
-use crate::numbers::put32;
+ghost use Rattle.job_writing.specs.JobBytes.{windowBytes, jobCycleBytes};
 use model::MAX_JOBS;
+use writing::put16;
+use writing::put32;
 
 // Writes the table of the first `count` jobs that stand in the arrays at the start of the buffer.
 pub fn write_jobs(

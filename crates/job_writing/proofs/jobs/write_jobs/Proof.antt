@@ -1,9 +1,9 @@
 -- `jobs::write_jobs` meets its contract. Its three parts make the whole table (proofs/JobStores.antt).
 -- Assumes nothing.
-use Rattle.writing.proofs.JobStores.{whole-job-table}
+use Rattle.job_writing.proofs.JobStores.{whole-job-table}
 use borrow.Author.Needs.{needs}
-use Rattle.writing.proofs.jobs.write_jobs.Statement.{statement}
-use Rattle.writing.proofs.jobs.write_jobs.Tie as tie
+use Rattle.job_writing.proofs.jobs.write_jobs.Statement.{statement}
+use Rattle.job_writing.proofs.jobs.write_jobs.Tie as tie
 
 put16-requires : tie.Need-put16-requires
 put16-requires c κs = search needs

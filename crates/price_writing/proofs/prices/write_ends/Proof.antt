@@ -10,10 +10,10 @@ use lib.Seq.{sets}
 use denote.Ref.{now}
 use Rattle.model.specs.Bytes.{bytes32}
 use Rattle.model.proofs.Bytes.{length-bytesOf}
-use Rattle.writing.specs.PriceListBytes.{endBytes}
+use Rattle.price_writing.specs.PriceListBytes.{endBytes}
 use Rattle.writing.proofs.NumberStores.{numbers-none, length-numbers, numbers-next, numbers-whole}
-use Rattle.writing.proofs.prices.write_ends.Statement.{statement}
-use Rattle.writing.proofs.prices.write_ends.Tie as tie
+use Rattle.price_writing.proofs.prices.write_ends.Statement.{statement}
+use Rattle.price_writing.proofs.prices.write_ends.Tie as tie
 
 abbrev Inv-loop : tie.InvT-loop
 Inv-loop times intervals out₀ i₀ out i = (i ≤ intervals) × (out ≡ sets out₀ 2 (endBytes i (λ k. getD times (suc k) 0)))

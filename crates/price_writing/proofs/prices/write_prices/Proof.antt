@@ -1,9 +1,9 @@
 -- `prices::write_prices` meets its contract. Its three parts make the whole list (proofs/PriceStores.antt).
 -- Assumes nothing.
 use borrow.Author.Needs.{needs}
-use Rattle.writing.proofs.PriceStores.{whole-price-list}
-use Rattle.writing.proofs.prices.write_prices.Statement.{statement}
-use Rattle.writing.proofs.prices.write_prices.Tie as tie
+use Rattle.price_writing.proofs.PriceStores.{whole-price-list}
+use Rattle.price_writing.proofs.prices.write_prices.Statement.{statement}
+use Rattle.price_writing.proofs.prices.write_prices.Tie as tie
 
 put16-requires : tie.Need-put16-requires
 put16-requires c κs = search needs

@@ -1,0 +1,2 @@
+-- Laws of what is written, for the proofs of the functions.
+pub mod JobStores

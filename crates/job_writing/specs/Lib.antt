@@ -1,0 +1,2 @@
+-- What the operation of this crate writes, as a list of bytes.
+pub mod JobBytes

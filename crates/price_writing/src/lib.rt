@@ -1,0 +1,4 @@
+// Writing price lists in bytes.
+mod prices;
+
+pub use prices::write_prices;
