@@ -21,8 +21,8 @@ use Rattle.model.specs.Checking.{fits, check}
 use Rattle.model.proofs.Numbers.{lt-or-le}
 use Rattle.model.proofs.Outcome.{answered-past, answer-injective, andThen-answered}
 use Rattle.model.proofs.Sites.{processors-are-valid}
-use Rattle.levels.specs.declared.interval.SettingAnswer.the-variants.{Set, Refused}
-use Rattle.levels.specs.Settings.{settingAnswer}
+use Rattle.settings.specs.declared.interval.SettingAnswer.the-variants.{Set, Refused}
+use Rattle.settings.specs.Settings.{settingAnswer}
 use Rattle.levels.proofs.SmallPoints.{working-small, working-held}
 use Rattle.spare.specs.declared.window.SpareAnswer.the-variants.{Spare, Refused as SpareRefused}
 use Rattle.spare.specs.Answers.{spareAnswer}

@@ -7,11 +7,11 @@ ghost use Rattle.model.specs.Windows.{spare};
 ghost use Rattle.capi.specs.Results.{fitsResult, checkResult, settingResult, spareResult, PlanCall, RoundsCall, OrderCall, deadlineNumber, TouchingCall};
 use audit::CheckAnswer;
 use audit::FitsAnswer;
-use levels::SettingAnswer;
 use model::Parameters;
 use ordering::OrderAnswer;
 use planning::PlanAnswer;
 use rounds::RoundsAnswer;
+use settings::SettingAnswer;
 use spare::SpareAnswer;
 use touching::NearestDeadline;
 use touching::TouchingAnswer;
@@ -168,7 +168,7 @@ pub extern "C" fn ramyearly_setting(
 ) -> SettingResult
     ensures { λ r. ⌜ r ≡ settingResult (setting (now (levels .entry)) highest length load) ⌝ }
 {
-    let answer = levels::setting(levels, highest, length, load);
+    let answer = settings::setting(levels, highest, length, load);
     match answer {
         SettingAnswer::Set { band, extra, gap } => SettingResult {
             number: 0,

@@ -15,7 +15,7 @@ use Rattle.model.proofs.Sum.{sum-next}
 use Rattle.levels.specs.declared.points.PointTable.{PointTable}
 use Rattle.levels.specs.PointTables.{pointsOf, SmallPoints}
 use Rattle.levels.proofs.PointTables.{length-pointsOf, point-in}
-use Rattle.levels.proofs.Loads.{frequency-in, band-count, table-some, frequency-high}
+use Rattle.levels.proofs.Frequencies.{frequency-in, band-count, table-some, frequency-high}
 use Rattle.intervals.specs.Times.{SmallBounds}
 use Rattle.energy.specs.Figures.{bandTotalOf, idleOf, bandEnergyOf, figureOfLoads}
 use Rattle.energy.proofs.HeldBounds.{total-few, idle-few}

@@ -4,5 +4,4 @@ pub mod SmallPoints
 pub mod Filling
 pub mod Dropping
 pub mod Keeping
-pub mod Loads
-pub mod Answers
+pub mod Frequencies

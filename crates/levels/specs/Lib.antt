@@ -1,3 +1,2 @@
 -- What the functions of this crate answer, as equations with the definitions of the crate model.
 pub mod PointTables
-pub mod Settings

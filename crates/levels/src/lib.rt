@@ -1,11 +1,7 @@
-// Working levels of a level table, and the setting of one interval.
-mod interval;
+// Working levels of a level table.
 mod points;
 mod working;
 
-pub use interval::SettingAnswer;
-pub use interval::setting;
-pub use interval::setting_of;
 pub use points::PointTable;
 pub use working::read_working_levels;
 pub use working::working_levels;

@@ -9,9 +9,9 @@ use Rattle.model.specs.Points.{Point}
 use Rattle.model.specs.Setting.{Setting, settingOf}
 use Rattle.model.specs.Plans.{Shares}
 use Rattle.model.specs.Steps.{Step}
-use Rattle.levels.specs.declared.interval.SettingAnswer.{SettingAnswer}
-use Rattle.levels.specs.declared.interval.SettingAnswer.the-variants.{Set, Refused}
-use Rattle.levels.specs.Settings.{answered}
+use Rattle.settings.specs.declared.interval.SettingAnswer.{SettingAnswer}
+use Rattle.settings.specs.declared.interval.SettingAnswer.the-variants.{Set, Refused}
+use Rattle.settings.specs.Settings.{answered}
 use Rattle.writing.specs.StepList.{stepOf, stepsIn, stepsOf}
 use Rattle.writing.proofs.CellOrder.{stepOf-none, stepOf-some}
 use Rattle.writing.proofs.Encoded.{encodeEach-append}

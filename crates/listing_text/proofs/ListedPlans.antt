@@ -23,7 +23,7 @@ use Rattle.model.proofs.Outcome.{answer-injective}
 use Rattle.model.proofs.Sites.{sites-are-valid}
 use Rattle.model.proofs.Accepted.{check-accepts}
 use Rattle.levels.specs.PointTables.{pointsOf}
-use Rattle.levels.specs.Settings.{Fits}
+use Rattle.settings.specs.Settings.{Fits}
 use Rattle.site.specs.declared.SiteTable.{SiteTable}
 use Rattle.site.specs.SiteTables.{HoldsSite}
 use Rattle.site.proofs.HeldSites.{held-jobs-counted, held-points, held-small, held-curve, held-top-point, held-bounds, held-bounds-small}

@@ -11,7 +11,7 @@ use Rattle.model.specs.Points.{Point}
 use Rattle.model.specs.Plans.{sharesIn}
 use Rattle.levels.specs.declared.points.PointTable.{PointTable}
 use Rattle.levels.specs.PointTables.{pointsOf}
-use Rattle.levels.specs.Settings.{Fits}
+use Rattle.settings.specs.Settings.{Fits}
 use Rattle.listing_text.specs.PlanText.{spanLine}
 use Rattle.listing_text.specs.ShownPlans.{boundsIn, ShownPlan}
 

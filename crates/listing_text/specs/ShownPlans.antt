@@ -14,7 +14,7 @@ use Rattle.model.specs.Prices.{PriceList}
 use Rattle.model.specs.Planning.{Planned}
 use Rattle.levels.specs.declared.points.PointTable.{PointTable}
 use Rattle.levels.specs.PointTables.{pointsOf, SmallPoints}
-use Rattle.levels.specs.Settings.{Fits}
+use Rattle.settings.specs.Settings.{Fits}
 
 -- Bounds in an array.
 abbrev pub boundsIn : List ℕ → ℕ → ℕ

@@ -5,7 +5,7 @@ ghost use Rattle.model.specs.Limits.{maxDeadline};
 ghost use Rattle.model.specs.Entries.{encodeEach};
 ghost use Rattle.model.specs.Bands.{Curve};
 ghost use Rattle.levels.specs.PointTables.{pointsOf, SmallPoints};
-ghost use Rattle.levels.specs.Settings.{Fits};
+ghost use Rattle.settings.specs.Settings.{Fits};
 ghost use Rattle.writing.specs.StepList.{stepOf};
 ghost use Rattle.listing_text.specs.TextLines.{line, sizesWord, energyWord, overfullLine, refusedLine};
 ghost use Rattle.listing_text.specs.PlanText.{spanLine, stepLine};
@@ -16,8 +16,8 @@ use crate::writer::put_line;
 use crate::writer::put_numbers;
 use crate::writer::put_signed;
 use levels::PointTable;
-use levels::SettingAnswer;
-use levels::setting_of;
+use settings::SettingAnswer;
+use settings::setting_of;
 
 const SIZES: [u8; 5] = *b"sizes";
 

@@ -21,7 +21,7 @@ use Rattle.model.proofs.Search.{firstBelow-none}
 use Rattle.model.proofs.Fitting.{Between, fits-between, between-fits}
 use Rattle.levels.specs.declared.points.PointTable.{PointTable}
 use Rattle.levels.specs.PointTables.{pointsOf}
-use Rattle.levels.proofs.Loads.{frequency-in, band-count}
+use Rattle.levels.proofs.Frequencies.{frequency-in, band-count}
 
 -- a price that names a band fits exactly the loads between its ends, whatever the load
 module _ {ws : List Point} (curve : Curve ws) (length load k : ℕ) (band : k < bandCount ws) where

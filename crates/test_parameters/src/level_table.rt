@@ -1,5 +1,5 @@
 // What is asked of a level table and the highest running level alone: the setting of one interval, and the working levels.
-use levels::SettingAnswer;
+use settings::SettingAnswer;
 use test_support::show;
 use test_support::text::MAX_NUMBERS;
 use test_support::written;
@@ -10,7 +10,7 @@ pub(crate) fn setting(levels: &[u8], values: [u32; MAX_NUMBERS]) {
 }
 
 fn print(levels: &[u8], highest: u32, length: u32, load: u32) {
-    match levels::setting(levels, highest, length, load as u64) {
+    match settings::setting(levels, highest, length, load as u64) {
         SettingAnswer::Set { band, extra, gap } => {
             show::words(b" set");
             show::number(band as u64);

@@ -1,7 +1,7 @@
 // A line for each case: what was asked, and what was answered.
-use levels::SettingAnswer;
 use libc::STDOUT_FILENO;
 use parameters::as_given;
+use settings::SettingAnswer;
 
 // The name, the length and the load; then the band, the extra and the gap, or the refusal's number and place.
 pub(crate) fn setting(name: &[u8], table: &[u8], length: u32, load: u64) {
@@ -9,7 +9,7 @@ pub(crate) fn setting(name: &[u8], table: &[u8], length: u32, load: u64) {
     number(length as u64);
     number(load);
     let given = as_given(table);
-    match levels::setting(table, given.highest, length, load) {
+    match settings::setting(table, given.highest, length, load) {
         SettingAnswer::Set { band, extra, gap } => {
             io::write_all(STDOUT_FILENO, b" set");
             number(band as u64);

@@ -4,7 +4,7 @@ use Prim.Native.Nat.{_+_, _-_, _<_, _≤_}
 use native.Mathlib.Omega.{arith}
 use lib.ListN.{take}
 use Rattle.levels.specs.PointTables.{pointsOf}
-use Rattle.levels.proofs.Loads.{table-some}
+use Rattle.levels.proofs.Frequencies.{table-some}
 use Rattle.energy.proofs.BandTables.{FigureUpTo, power-high, frequency-steps, power-steps, ends-high, energy-few, figure-none, figure-more, figure-all}
 use Rattle.energy.proofs.energy_figure.Statement.{statement}
 use Rattle.energy.proofs.energy_figure.Tie as tie

@@ -7,7 +7,7 @@ use lib.ListN.{getD}
 use denote.Ref.{now}
 use borrow.Author.Count.{below-none, below-more}
 use Rattle.levels.specs.PointTables.{pointsOf}
-use Rattle.levels.proofs.Loads.{frequency-high}
+use Rattle.levels.proofs.Frequencies.{frequency-high}
 use Rattle.fitting.proofs.BoundsIn.{bounds-rise, length-small}
 use Rattle.fitting.proofs.Verdicts.{verdict-stops, verdict-passes}
 use Rattle.pricing.specs.SecondHalf.{priceFaultIn}

@@ -8,10 +8,10 @@ use Rattle.model.specs.LevelTables.{readLevels}
 use Rattle.model.proofs.LevelTables.{levels-valid}
 use Rattle.level_tables.specs.Tables.{levelsIn}
 use Rattle.level_tables.proofs.Read.{levels-read, levels-read-refused}
-use Rattle.levels.specs.Settings.{settingAnswer}
-use Rattle.levels.proofs.Answers.{levels-refused, levels-answered}
-use Rattle.levels.proofs.interval.setting.Statement.{statement}
-use Rattle.levels.proofs.interval.setting.Tie as tie
+use Rattle.settings.specs.Settings.{settingAnswer}
+use Rattle.settings.proofs.Answers.{levels-refused, levels-answered}
+use Rattle.settings.proofs.interval.setting.Statement.{statement}
+use Rattle.settings.proofs.interval.setting.Tie as tie
 
 read-levels-requires : tie.Need-read-levels-requires
 read-levels-requires c κs = search needs

@@ -1,7 +1,7 @@
 -- Laws of a load over the working points in a table: products with a length of at most 1,000,000 ticks are small, and the
 -- band and the setting of a load in the terms of the table.
 -- Assumes nothing.
-use mathlib.Core.Path.{_≡_, sym, _∙_, ap}
+use mathlib.Core.Path.{_≡_, sym, _∙_}
 use mathlib.Core.Bool.{false}
 use Prim.Native.Nat.{ℕ, suc, _+_, _-_, _*_, _<_, _≤_}
 use native.Mathlib.Nat.{mul-le-mul}
@@ -10,33 +10,20 @@ use native.Mathlib.Omega.{arith}
 use lib.Dec.{leb}
 use lib.ListN.{getD}
 use borrow.Author.Tests.{le-leb, lt-leb}
-use Rattle.model.specs.Points.{Point}
 use Rattle.model.specs.Bands.{bandCount, frequencyOf, gap, Curve}
 use Rattle.model.specs.Setting.{bandOf, settingOf}
 use Rattle.model.proofs.Search.{firstBelow-is, firstBelow-none}
 use Rattle.model.proofs.Fitting.{InBand, bandOf-law, settingOf-is}
 use Rattle.levels.specs.declared.points.PointTable.{PointTable}
-use Rattle.levels.specs.declared.interval.SettingAnswer.the-variants.{Set}
 use Rattle.levels.specs.PointTables.{pointsOf, SmallPoints}
-use Rattle.levels.specs.Settings.{answered, Fits}
-use Rattle.levels.proofs.PointTables.{length-pointsOf, point-in}
+use Rattle.levels.proofs.PointTables.{length-pointsOf}
+use Rattle.levels.proofs.Frequencies.{frequency-in, band-count, frequency-high}
+use Rattle.settings.specs.declared.interval.SettingAnswer.the-variants.{Set}
+use Rattle.settings.specs.Settings.{answered, Fits}
 
-module _ (table : PointTable) where
-  pub frequency-in : (i : ℕ) → i < table .count → getD (table .frequencies) i 0 ≡ frequencyOf (pointsOf table) i
-  frequency-in i below = ap (λ (p : Point). p .frequency) (sym (point-in table i below))
-
-  pub band-count : bandCount (pointsOf table) ≡ table .count - 1
-  band-count = ap (λ (n : ℕ). n - 1) (length-pointsOf table)
-
-  module _ (small : SmallPoints table) where
-    pub table-some : 2 ≤ table .count
-    table-some = rw (length-pointsOf table) at (small .rising .some)
-
-    pub frequency-high : (i : ℕ) → i < table .count → getD (table .frequencies) i 0 ≤ 1_000
-    frequency-high i below = rw (frequency-in i below) (small .frequency-high i below)
-
-    pub load-high : (length i : ℕ) → length ≤ 1_000_000 → i < table .count → length * getD (table .frequencies) i 0 ≤ 1_000_000_000
-    load-high length i short below = omega (arith, mul-le-mul short (frequency-high i below))
+module _ (table : PointTable) (small : SmallPoints table) where
+  pub load-high : (length i : ℕ) → length ≤ 1_000_000 → i < table .count → length * getD (table .frequencies) i 0 ≤ 1_000_000_000
+  load-high length i short below = omega (arith, mul-le-mul short (frequency-high table small i below))
 
 -- The upper end of band j, over the length, is below the load.
 abbrev pub Past : PointTable → (length load j : ℕ) → Type 0

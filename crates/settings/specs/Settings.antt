@@ -5,8 +5,8 @@ use Rattle.model.specs.Outcome.{Outcome, refused, answer}
 use Rattle.model.specs.Points.{Point}
 use Rattle.model.specs.Bands.{bandCount, frequencyOf}
 use Rattle.model.specs.Setting.{Setting}
-use Rattle.levels.specs.declared.interval.SettingAnswer.{SettingAnswer}
-use Rattle.levels.specs.declared.interval.SettingAnswer.the-variants.{Set, Refused}
+use Rattle.settings.specs.declared.interval.SettingAnswer.{SettingAnswer}
+use Rattle.settings.specs.declared.interval.SettingAnswer.the-variants.{Set, Refused}
 
 abbrev pub answered : Setting → SettingAnswer
 answered setting = Set (setting .band) (setting .extra) (setting .gap)

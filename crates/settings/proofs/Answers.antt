@@ -21,12 +21,12 @@ use Rattle.model.proofs.Sites.{valid-processor}
 use Rattle.model.proofs.Working.{working-curve, working-top}
 use Rattle.level_tables.specs.Tables.{levelsIn}
 use Rattle.level_tables.proofs.Read.{top-in, top-high}
 use Rattle.levels.specs.declared.points.PointTable.{PointTable}
-use Rattle.levels.specs.declared.interval.SettingAnswer.{SettingAnswer}
-use Rattle.levels.specs.declared.interval.SettingAnswer.the-variants.{Refused}
+use Rattle.settings.specs.declared.interval.SettingAnswer.{SettingAnswer}
+use Rattle.settings.specs.declared.interval.SettingAnswer.the-variants.{Refused}
 use Rattle.levels.specs.PointTables.{pointTable, pointsOf, SmallPoints}
-use Rattle.levels.specs.Settings.{answered, settingAnswer, Fits}
+use Rattle.settings.specs.Settings.{answered, settingAnswer, Fits}
 use Rattle.levels.proofs.SmallPoints.{working-small, working-held}
 
 -- the setting of what altering a level table answers
 abbrev pub settingAltered : Outcome (List Level) → (ticks load : ℕ) → Outcome Setting

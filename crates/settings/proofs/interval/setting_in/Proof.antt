@@ -4,9 +4,9 @@ use native.Mathlib.Omega.{arith}
 use denote.Ref.{now}
 use borrow.Author.Needs.{needs}
 use Rattle.level_tables.proofs.Read.{levels-count}
-use Rattle.levels.proofs.Answers.{too-short, too-long, top-load, overloaded, working-fits, settled}
-use Rattle.levels.proofs.interval.setting_in.Statement.{statement}
-use Rattle.levels.proofs.interval.setting_in.Tie as tie
+use Rattle.settings.proofs.Answers.{too-short, too-long, top-load, overloaded, working-fits, settled}
+use Rattle.settings.proofs.interval.setting_in.Statement.{statement}
+use Rattle.settings.proofs.interval.setting_in.Tie as tie
 
 returns : tie.Need-returns
 returns c = too-short _ _ _ _ _ (c .if1 .taken)

@@ -3,9 +3,10 @@
 use Prim.Native.Nat.{ℕ, _+_, _-_, _<_, _≤_}
 use native.Mathlib.Omega.{arith}
 use borrow.Author.Count.{below-none, below-more}
-use Rattle.levels.proofs.Loads.{table-some, load-high, Past, band-past, band-found, band-none}
-use Rattle.levels.proofs.interval.band_of.Statement.{statement}
-use Rattle.levels.proofs.interval.band_of.Tie as tie
+use Rattle.levels.proofs.Frequencies.{table-some}
+use Rattle.settings.proofs.Loads.{load-high, Past, band-past, band-found, band-none}
+use Rattle.settings.proofs.interval.band_of.Statement.{statement}
+use Rattle.settings.proofs.interval.band_of.Tie as tie
 
 abbrev Inv-loop : tie.InvT-loop
 Inv-loop length load working last k₀ k = (k ≤ last) × ((j : ℕ) → j < k → Past working length load j)

@@ -3,9 +3,9 @@
 use Prim.Native.Nat.{_+_, _<_, _≤_}
 use native.Mathlib.Omega.{arith}
 use borrow.Author.Needs.{needs}
-use Rattle.levels.proofs.Loads.{load-high, band-inside, lower-below, frequency-above, setting-found, setting-idle}
-use Rattle.levels.proofs.interval.setting_of.Statement.{statement}
-use Rattle.levels.proofs.interval.setting_of.Tie as tie
+use Rattle.settings.proofs.Loads.{load-high, band-inside, lower-below, frequency-above, setting-found, setting-idle}
+use Rattle.settings.proofs.interval.setting_of.Statement.{statement}
+use Rattle.settings.proofs.interval.setting_of.Tie as tie
 
 returns : tie.Need-returns
 returns c = setting-idle _ _ _ (c .if1 .taken)

@@ -8,8 +8,8 @@ use Rattle.model.specs.SiteParameters.{alterLevels}
 use Rattle.level_tables.specs.Tables.{levelsIn}
 use Rattle.level_tables.proofs.Read.{levels-count}
 use Rattle.parameters.proofs.KeptLevels.{levels-kept, kept-valid, levels-limited}
-use Rattle.levels.proofs.interval.setting_up_to.Statement.{statement}
-use Rattle.levels.proofs.interval.setting_up_to.Tie as tie
+use Rattle.settings.proofs.interval.setting_up_to.Statement.{statement}
+use Rattle.settings.proofs.interval.setting_up_to.Tie as tie
 
 alter-levels-requires : tie.Need-alter-levels-requires
 alter-levels-requires c κs = levels-count _ _ _ (c .pre)
