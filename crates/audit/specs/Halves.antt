@@ -12,9 +12,9 @@ use Rattle.levels.specs.PointTables.{pointsOf, SmallPoints}
 use Rattle.intervals.specs.Times.{SmallBounds}
 use Rattle.site.specs.declared.SiteTable.{SiteTable}
 use Rattle.site.specs.SiteTables.{HoldsSite}
-use Rattle.fitting.specs.SetsHave.{SetsHave}
+use Rattle.job_records.specs.SetsHave.{SetsHave}
 use Rattle.fitting.specs.SeenCells.{CellsSeen}
-use Rattle.fitting.specs.TestedJobs.{openBelow}
+use Rattle.job_records.specs.TestedJobs.{openBelow}
 use Rattle.fitting.specs.FirstHalf.{siteIn}
 use Rattle.pricing.specs.SecondHalf.{Planned}
 use Rattle.audit.specs.declared.first_half.FitsAnswer.{FitsAnswer}

@@ -5,7 +5,7 @@ ghost use Rattle.model.specs.Outcome.{answer};
 ghost use Rattle.model.specs.Sites.{Site, ValidSite};
 ghost use Rattle.model.specs.Checking.{pricing, checkFor, check as checkOf};
 ghost use Rattle.site.specs.SiteTables.{HoldsSite, HoldsSome};
-ghost use Rattle.fitting.specs.SetsHave.{NoJobs};
+ghost use Rattle.job_records.specs.SetsHave.{NoJobs};
 ghost use Rattle.fitting.specs.SeenCells.{CellsSeen};
 ghost use Rattle.audit.specs.declared.checking.CheckAnswer.the-variants.{Accepted};
 ghost use Rattle.audit.specs.Answers.{checkAnswer};

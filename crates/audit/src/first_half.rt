@@ -4,7 +4,7 @@ ghost use lib.ListN.{replicate};
 ghost use Rattle.model.specs.Limits.{maxIntervals};
 ghost use Rattle.model.specs.Checking.{fits as fitsOf};
 ghost use Rattle.site.specs.SiteTables.{HoldsSome};
-ghost use Rattle.fitting.specs.SetsHave.{NoJobs};
+ghost use Rattle.job_records.specs.SetsHave.{NoJobs};
 ghost use Rattle.audit.specs.Answers.{fitsAnswer};
 ghost use Rattle.audit.specs.Halves.{SiteAnswered};
 use energy::energy_figure;

@@ -12,7 +12,7 @@ use Rattle.model.specs.Limits.{maxDeadline, maxFrequency}
 use Rattle.model.specs.Intervals.{intervalCount, boundAt, lengthOf, isOpen}
 use Rattle.model.proofs.Entries.{length-listOf, getD-listOf}
 use Rattle.intervals.specs.Times.{SmallBounds}
-use Rattle.fitting.specs.TestedJobs.{openBetween}
+use Rattle.job_records.specs.TestedJobs.{openBetween}
 use Rattle.fitting.specs.FirstHalf.{boundsIn}
 
 module _ (count : ℕ) (times : List ℕ) where

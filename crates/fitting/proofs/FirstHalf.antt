@@ -29,14 +29,14 @@ use Rattle.job_sets.specs.IntervalSets.{setIn}
 use Rattle.fitting.specs.declared.Verdict.{Verdict}
 use Rattle.fitting.specs.declared.Verdict.the-variants.{Passed, Refused}
 use Rattle.fitting.specs.Verdicts.{verdictOf, passed}
-use Rattle.fitting.specs.TestedJobs.{addsUp, TestedBelow, HoldsCycles}
+use Rattle.job_records.specs.TestedJobs.{addsUp, TestedBelow, HoldsCycles}
 use Rattle.fitting.specs.Sums.{jobSums, planSums, intervalLoads, planLoads}
 use Rattle.fitting.specs.FirstHalf.{boundsIn, siteIn, steppingIn, loadFaultIn}
 use Rattle.fitting.proofs.Verdicts.{byEntry-cong, both-alone, both-stepping, both-refused, both-passed}
 use Rattle.fitting.proofs.Tallies.{tally-at}
 use Rattle.fitting.proofs.BoundsIn.{length-boundsIn, intervals-in, open-in}
 use Rattle.fitting.proofs.StepFaults.{stepping-same}
-use Rattle.fitting.proofs.TestedJobs.{open-has}
+use Rattle.job_records.proofs.TestedJobs.{open-has}
 
 -- the sums of a plan of the right length, and its loads, which are those of its intervals where each step has one of the jobs
 module _ (plan : List ℕ) (right : wrongPlanLength plan ≡ false) where

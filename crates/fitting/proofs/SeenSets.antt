@@ -14,9 +14,9 @@ use Rattle.model.specs.Search.{someBelow}
 use Rattle.model.specs.Steps.{stepCount, cellOf, cellAt}
 use Rattle.model.proofs.Search.{someBelow-next}
 use Rattle.job_sets.specs.IntervalSets.{Added}
-use Rattle.fitting.specs.SetsHave.{SetsHave, NoJobs}
+use Rattle.job_records.specs.SetsHave.{SetsHave, NoJobs}
 use Rattle.fitting.specs.SeenCells.{isSeen, CellsSeen}
-use Rattle.fitting.proofs.SetsHave.{have-cong, have-added}
+use Rattle.job_records.proofs.SetsHave.{have-cong, have-added}
 
 module _ (plan : List ℕ) where
   pub seen-none : {seen : List ℕ} → NoJobs seen → SetsHave seen (isSeen plan 0)

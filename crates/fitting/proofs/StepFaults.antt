@@ -25,9 +25,9 @@ use Rattle.walking.specs.declared.steps.Step.{Step as CodeStep}
 use Rattle.walking.specs.Walking.{codeStep, modelStep}
 use Rattle.job_sets.specs.JobSets.{isMember}
 use Rattle.job_sets.specs.IntervalSets.{setWords, setIn, Added}
-use Rattle.fitting.specs.SetsHave.{SetsHave}
+use Rattle.job_records.specs.SetsHave.{SetsHave}
 use Rattle.fitting.specs.SeenCells.{isSeen}
-use Rattle.fitting.specs.TestedJobs.{HoldsCycles}
+use Rattle.job_records.specs.TestedJobs.{HoldsCycles}
 use Rattle.fitting.specs.FirstHalf.{openPairIn, faultWhere, faultOfStep, stepFaultIn, steppingIn}
 use Rattle.fitting.proofs.Verdicts.{byEntry-cong}
 use Rattle.fitting.proofs.SeenSets.{seen-more}

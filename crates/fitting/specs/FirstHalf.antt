@@ -19,9 +19,9 @@ use Rattle.fitting.specs.declared.Verdict.the-variants.{Passed}
 use Rattle.fitting.specs.Verdicts.{verdictOf, passed}
 use Rattle.job_sets.specs.JobSets.{isMember}
 use Rattle.job_sets.specs.IntervalSets.{setIn}
-use Rattle.fitting.specs.SetsHave.{SetsHave}
+use Rattle.job_records.specs.SetsHave.{SetsHave}
 use Rattle.fitting.specs.SeenCells.{CellsSeen}
-use Rattle.fitting.specs.TestedJobs.{openBelow}
+use Rattle.job_records.specs.TestedJobs.{openBelow}
 use Rattle.fitting.specs.Sums.{planLoads}
 
 -- The bounds that stand in an array, the first `count` of them.

@@ -1,7 +1,5 @@
 -- What the functions of this crate answer, as equations with the definitions of the crate model.
 pub mod Verdicts
-pub mod SetsHave
 pub mod SeenCells
-pub mod TestedJobs
 pub mod Sums
 pub mod FirstHalf

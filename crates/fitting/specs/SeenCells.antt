@@ -5,7 +5,7 @@ use mathlib.Core.List.{List}
 use lib.Dec.{eqb}
 use Rattle.model.specs.Search.{someBelow}
 use Rattle.model.specs.Steps.{stepCount, cellOf, cellAt}
-use Rattle.fitting.specs.SetsHave.{SetsHave}
+use Rattle.job_records.specs.SetsHave.{SetsHave}
 
 -- A step before step s has the cell of the interval and the job.
 abbrev pub isSeen : (plan : List ℕ) → (s interval job : ℕ) → Bool

@@ -9,7 +9,7 @@ ghost use Rattle.model.specs.Steps.{stepCount};
 ghost use Rattle.walking.specs.Walking.{modelStep};
 ghost use Rattle.fitting.specs.declared.Verdict.the-variants.{Passed};
 ghost use Rattle.fitting.specs.Verdicts.{verdictOf, passed};
-ghost use Rattle.fitting.specs.SetsHave.{NoJobs};
+ghost use Rattle.job_records.specs.SetsHave.{NoJobs};
 ghost use Rattle.fitting.specs.SeenCells.{CellsSeen};
 ghost use Rattle.fitting.specs.FirstHalf.{faultOfStep, stepFaultIn, steppingIn};
 use crate::Verdict;

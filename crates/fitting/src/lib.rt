@@ -1,8 +1,6 @@
 // The first half of the check: whether a plan fits the jobs.
 mod cells;
 mod fitting;
-mod opening;
-mod records;
 mod sums;
 
 pub use cells::check_steps;

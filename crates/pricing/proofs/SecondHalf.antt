@@ -36,14 +36,14 @@ use Rattle.fitting.specs.Verdicts.{verdictOf, passed}
 use Rattle.intervals.specs.Times.{SmallBounds}
 use Rattle.job_sets.specs.JobSets.{isMember}
 use Rattle.job_sets.specs.IntervalSets.{setIn}
-use Rattle.fitting.specs.SetsHave.{SetsHave}
-use Rattle.fitting.specs.TestedJobs.{openBelow}
+use Rattle.job_records.specs.SetsHave.{SetsHave}
+use Rattle.job_records.specs.TestedJobs.{openBelow}
 use Rattle.fitting.specs.FirstHalf.{boundsIn, siteIn}
 use Rattle.pricing.specs.SecondHalf.{Planned, BandNumbers, wrongLengthIn, entryFaultIn, priceFaultIn, cheaperFaultIn}
 use Rattle.fitting.proofs.Verdicts.{byEntry-cong, entries-refused, entries-passed}
 use Rattle.fitting.proofs.Tallies.{tally-at}
 use Rattle.fitting.proofs.BoundsIn.{intervals-in, end-in, length-in, open-in}
-use Rattle.fitting.proofs.TestedJobs.{open-has}
+use Rattle.job_records.proofs.TestedJobs.{open-has}
 use Rattle.pricing.proofs.PricedSets.{someBelow-cong}
 
 -- over the arrays alone: past the refusals 21 and 22 the price list has its length and its prices are numbers of bands

@@ -28,7 +28,7 @@ use Rattle.fitting.specs.declared.Verdict.{Verdict}
 use Rattle.fitting.specs.declared.Verdict.the-variants.{Passed, Refused}
 use Rattle.fitting.specs.Verdicts.{verdictOf, passed}
 use Rattle.fitting.specs.SeenCells.{CellsSeen}
-use Rattle.fitting.specs.TestedJobs.{HoldsCycles}
+use Rattle.job_records.specs.TestedJobs.{HoldsCycles}
 use Rattle.fitting.specs.FirstHalf.{steppingIn}
 use Rattle.fitting.proofs.StepFaults.{stepping-same}
 use Rattle.fitting.proofs.Verdicts.{both-alone, both-stepping, both-refused, both-passed}

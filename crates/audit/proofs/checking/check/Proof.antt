@@ -1,5 +1,5 @@
 -- `checking::check` meets its contract: the array that it lends has no jobs. Assumes nothing.
-use Rattle.fitting.proofs.SetsHave.{no-jobs}
+use Rattle.job_records.proofs.SetsHave.{no-jobs}
 use Rattle.audit.proofs.checking.check.Statement.{statement}
 use Rattle.audit.proofs.checking.check.Tie as tie
 

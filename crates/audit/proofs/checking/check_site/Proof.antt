@@ -4,7 +4,7 @@ use mathlib.Core.Path.{refl, sym, _∙_}
 use lib.ListN.{replicate}
 use borrow.Author.Needs.{needs}
 use Rattle.model.specs.Limits.{maxIntervals}
-use Rattle.fitting.proofs.SetsHave.{no-jobs}
+use Rattle.job_records.proofs.SetsHave.{no-jobs}
 use Rattle.audit.proofs.SecondHalf.{refused-accepted, check-refused, check-continued}
 use Rattle.audit.proofs.checking.check_site.Statement.{statement}
 use Rattle.audit.proofs.checking.check_site.Tie as tie

@@ -7,7 +7,7 @@ use Rattle.model.specs.Limits.{maxIntervals}
 use Rattle.model.specs.Checking.{fits as fitsOf}
 use Rattle.model.proofs.Sites.{sites-are-valid}
 use Rattle.site.proofs.ReadSites.{refused-site, held-site}
-use Rattle.fitting.proofs.SetsHave.{no-jobs}
+use Rattle.job_records.proofs.SetsHave.{no-jobs}
 use Rattle.audit.proofs.first_half.fits.Statement.{statement}
 use Rattle.audit.proofs.first_half.fits.Tie as tie
 

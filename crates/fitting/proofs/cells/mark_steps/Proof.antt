@@ -5,7 +5,7 @@ use Prim.Native.Nat.{ℕ, _-_, _≤_, _<_}
 use native.Mathlib.Omega.{arith}
 use denote.Ref.{now}
 use borrow.Author.Count.{below-none, below-more}
-use Rattle.fitting.specs.SetsHave.{SetsHave}
+use Rattle.job_records.specs.SetsHave.{SetsHave}
 use Rattle.fitting.specs.SeenCells.{isSeen}
 use Rattle.fitting.specs.FirstHalf.{stepFaultIn}
 use Rattle.fitting.proofs.StepFaults.{turn-fault, turn-pair, turn-marked}

@@ -9,7 +9,7 @@ use borrow.Author.Needs.{needs}
 use Rattle.model.specs.declared.Job.{Job}
 use Rattle.job_tables.specs.Tables.{jobsIn}
 use Rattle.job_tables.proofs.Read.{length-jobsIn, job-in}
-use Rattle.fitting.specs.TestedJobs.{HoldsCycles}
+use Rattle.job_records.specs.TestedJobs.{HoldsCycles}
 use Rattle.fitting.proofs.fitting.fit.Statement.{statement}
 use Rattle.fitting.proofs.fitting.fit.Tie as tie
 

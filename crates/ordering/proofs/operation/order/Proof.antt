@@ -7,7 +7,7 @@ use denote.Ref.{now}
 use borrow.Author.Needs.{needs}
 use Rattle.model.specs.Outcome.{answer}
 use Rattle.model.specs.Checking.{check}
-use Rattle.fitting.proofs.SetsHave.{no-jobs}
+use Rattle.job_records.proofs.SetsHave.{no-jobs}
 use Rattle.ordering.proofs.JobsWithShares.{seen-sets}
 use Rattle.ordering.proofs.OrderAnswers.{check-accepted, order-refused, order-orderable, order-small, order-short, order-written}
 use Rattle.ordering.proofs.operation.order.Statement.{statement}

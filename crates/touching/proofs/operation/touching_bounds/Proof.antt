@@ -5,7 +5,7 @@ use mathlib.Core.Path.{refl}
 use native.Mathlib.Omega.{arith}
 use borrow.Author.Needs.{needs}
 use Rattle.job_tables.proofs.Read.{jobs-count}
-use Rattle.fitting.proofs.SetsHave.{no-jobs}
+use Rattle.job_records.proofs.SetsHave.{no-jobs}
 use Rattle.touching.proofs.TouchingOutcomes.{refused-answers, same-answers}
 use Rattle.touching.proofs.TouchedArrays.{deadlines-high, times-rise, numbers-few, steps-refused, steps-passed}
 use Rattle.touching.proofs.operation.touching_bounds.Statement.{statement}

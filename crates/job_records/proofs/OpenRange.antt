@@ -17,8 +17,8 @@ use Rattle.model.proofs.Search.{FirstBelow, firstBelow-law}
 use Rattle.intervals.specs.Times.{SmallBounds}
 use Rattle.job_sets.specs.IntervalSets.{inRange, AddedRange}
 use Rattle.job_sets.proofs.Ranges.{range-has}
-use Rattle.fitting.specs.SetsHave.{SetsHave, withJobIn}
-use Rattle.fitting.specs.TestedJobs.{EndsBy, opensIn}
+use Rattle.job_records.specs.SetsHave.{SetsHave, withJobIn}
+use Rattle.job_records.specs.TestedJobs.{EndsBy, opensIn}
 
 -- The number of bounds before a time: those below the number lie before it, the others do not.
 pub record BoundsBefore (bounds : ℕ) (times : List ℕ) (time number : ℕ) : Type 0 where

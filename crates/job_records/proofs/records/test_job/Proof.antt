@@ -2,8 +2,8 @@
 use mathlib.Core.Bool.{and-false}
 use borrow.Author.Needs.{needs}
 use borrow.Author.Tests.{eq-eqb, ne-eqb}
-use Rattle.fitting.proofs.records.test_job.Statement.{statement}
-use Rattle.fitting.proofs.records.test_job.Tie as tie
+use Rattle.job_records.proofs.records.test_job.Statement.{statement}
+use Rattle.job_records.proofs.records.test_job.Tie as tie
 
 add-open-requires : tie.Need-add-open-requires
 add-open-requires c κs = search needs

@@ -58,20 +58,20 @@ use Rattle.model.specs.Limits.{maxJobs, maxBounds, maxIntervals}
 use Rattle.model.specs.Jobs.{noJob, jobOf}
 use Rattle.model.proofs.Numbers.{lt-or-le}
 use Rattle.intervals.specs.Times.{SmallBounds}
-use Rattle.fitting.specs.SetsHave.{NoJobs}
-use Rattle.fitting.specs.TestedJobs.{TestedBelow, JobTested}
-use Rattle.fitting.proofs.TestedJobs.{tests-none, tests-more}
+use Rattle.job_records.specs.SetsHave.{NoJobs}
+use Rattle.job_records.specs.TestedJobs.{TestedBelow, JobTested}
+use Rattle.job_records.proofs.TestedJobs.{tests-none, tests-more}
 use Rattle.model.proofs.Job as T
 use Rattle.model.proofs.Job.Laws as T′
-use Rattle.fitting.proofs.records.test_job as test
-use Rattle.fitting.proofs.records.test_job.Symbol as test-def
-use Rattle.fitting.proofs.records.test_job.Symbol.{name as #test-job}
-use Rattle.fitting.proofs.records.test_job.Met as test-thm
-use Rattle.fitting.proofs.records.test_jobs.Key.{name as #test-jobs}
-use Rattle.fitting.proofs.records.test_jobs as all
-use Rattle.fitting.proofs.records.test_jobs.Statement as stated
-use Rattle.fitting.proofs.records.test_jobs.Code as code
-use Rattle.fitting.proofs.records.test_jobs.Code.Mir as body
+use Rattle.job_records.proofs.records.test_job as test
+use Rattle.job_records.proofs.records.test_job.Symbol as test-def
+use Rattle.job_records.proofs.records.test_job.Symbol.{name as #test-job}
+use Rattle.job_records.proofs.records.test_job.Met as test-thm
+use Rattle.job_records.proofs.records.test_jobs.Key.{name as #test-jobs}
+use Rattle.job_records.proofs.records.test_jobs as all
+use Rattle.job_records.proofs.records.test_jobs.Statement as stated
+use Rattle.job_records.proofs.records.test_jobs.Code as code
+use Rattle.job_records.proofs.records.test_jobs.Code.Mir as body
 
 abbrev Times : RattleType
 Times = Array u64 maxBounds
@@ -451,4 +451,4 @@ test-jobs-spec 𝓤 H 𝓜 𝓖 𝓡 =
     entered 𝓤 H (tripleOf 𝓤 H (𝓖 .A) all.signature (all.spec 𝓤 H (𝓖 .A) (𝓜 .mem) (𝓡 .run)))
     (tables 𝓤 H 𝓜 𝓡 code.env .C) (tables 𝓤 H 𝓜 𝓡 code.env .Λ) #test-jobs code.function (code.unfolded 𝓤 H 𝓜 𝓡)
     (all-meets 𝓤 H (𝓖 .A) (givenOf 𝓤 H 𝓜 𝓖) (𝓜 .mem) (𝓡 .run) (tablesOf 𝓤 H 𝓜 (tables 𝓤 H 𝓜 𝓡 code.env))
-    (cited 𝓤 H (Test 𝓤 H (𝓖 .A) (𝓜 .mem) (𝓡 .run)) 𝓜 𝓡 code.env #test-job test-def.routine code.calls-fitting·records·test-job (test-thm.met 𝓤 H 𝓜 𝓖 𝓡)))
+    (cited 𝓤 H (Test 𝓤 H (𝓖 .A) (𝓜 .mem) (𝓡 .run)) 𝓜 𝓡 code.env #test-job test-def.routine code.calls-job-records·records·test-job (test-thm.met 𝓤 H 𝓜 𝓖 𝓡)))

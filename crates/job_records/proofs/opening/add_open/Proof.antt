@@ -1,9 +1,9 @@
 -- `opening::add_open` meets its contract: the intervals between the two bounds are those that the job is open in
 -- (proofs/OpenRange.antt). Assumes nothing.
 use borrow.Author.Needs.{needs}
-use Rattle.fitting.proofs.OpenRange.{bounds-before, range-open}
-use Rattle.fitting.proofs.opening.add_open.Statement.{statement}
-use Rattle.fitting.proofs.opening.add_open.Tie as tie
+use Rattle.job_records.proofs.OpenRange.{bounds-before, range-open}
+use Rattle.job_records.proofs.opening.add_open.Statement.{statement}
+use Rattle.job_records.proofs.opening.add_open.Tie as tie
 
 bound-number-requires : tie.Need-bound-number-requires
 bound-number-requires c κs = c .pre .1 .rising

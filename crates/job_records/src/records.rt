@@ -7,8 +7,8 @@ ghost use Rattle.model.specs.Limits.{maxJobs};
 ghost use Rattle.job_tables.specs.Tables.{jobsIn};
 ghost use Rattle.intervals.specs.Times.{SmallBounds};
 ghost use Rattle.job_sets.specs.IntervalSets.{setWords};
-ghost use Rattle.fitting.specs.SetsHave.{NoJobs};
-ghost use Rattle.fitting.specs.TestedJobs.{TestedBelow, JobTested};
+ghost use Rattle.job_records.specs.SetsHave.{NoJobs};
+ghost use Rattle.job_records.specs.TestedJobs.{TestedBelow, JobTested};
 use crate::opening::add_open;
 use job_sets::SET_WORDS;
 use model::Job;
@@ -16,7 +16,7 @@ use model::MAX_BOUNDS;
 use model::MAX_JOBS;
 
 // The first `count` jobs that stand in three arrays, as records.
-pub(crate) fn job_records(
+pub fn job_records(
     releases: &[u64; MAX_JOBS],
     deadlines: &[u64; MAX_JOBS],
     cycles: &[u64; MAX_JOBS],
@@ -45,7 +45,7 @@ pub(crate) fn job_records(
 
 // Lends the first `count` records to the pass, and the sets of the intervals on to it. `sums` are the cycles of each job's
 // steps, added.
-pub(crate) fn lend_jobs<'a, 's>(
+pub fn lend_jobs<'a, 's>(
     jobs: [Job; MAX_JOBS],
     count: usize,
     times: &'a [u64; MAX_BOUNDS],

@@ -8,7 +8,7 @@ use lib.Dec.{ltb, leb, eqb}
 use Rattle.model.specs.declared.Job.{Job}
 use Rattle.model.specs.Search.{firstBelow}
 use Rattle.model.specs.Jobs.{jobOf}
-use Rattle.fitting.specs.SetsHave.{SetsHave, withJobIn}
+use Rattle.job_records.specs.SetsHave.{SetsHave, withJobIn}
 
 -- A job with this release and deadline is open in interval i between the times.
 abbrev pub openBetween : (release deadline : ℕ) → (times : List ℕ) → (i : ℕ) → Bool

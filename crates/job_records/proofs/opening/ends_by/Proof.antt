@@ -3,9 +3,9 @@
 use native.Mathlib.Omega.{arith}
 use denote.Ref.{now}
 use borrow.Author.Needs.{needs}
-use Rattle.fitting.proofs.OpenRange.{BoundsBefore, bounds-before, ends-at, ends-before}
-use Rattle.fitting.proofs.opening.ends_by.Statement.{statement}
-use Rattle.fitting.proofs.opening.ends_by.Tie as tie
+use Rattle.job_records.proofs.OpenRange.{BoundsBefore, bounds-before, ends-at, ends-before}
+use Rattle.job_records.proofs.opening.ends_by.Statement.{statement}
+use Rattle.job_records.proofs.opening.ends_by.Tie as tie
 
 bound-number-requires : tie.Need-bound-number-requires
 bound-number-requires c κs = c .pre .rising

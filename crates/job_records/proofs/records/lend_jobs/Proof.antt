@@ -52,20 +52,20 @@ use denote.Triple.Clauses.{Lasts, ensured, lasts}
 use Rattle.model.specs.declared.Job.{Job}
 use Rattle.model.specs.Limits.{maxJobs, maxBounds, maxIntervals}
 use Rattle.intervals.specs.Times.{SmallBounds}
-use Rattle.fitting.specs.SetsHave.{NoJobs}
-use Rattle.fitting.specs.TestedJobs.{TestedBelow}
-use Rattle.fitting.proofs.Rows.{after, cut-after, join-after}
+use Rattle.job_records.specs.SetsHave.{NoJobs}
+use Rattle.job_records.specs.TestedJobs.{TestedBelow}
+use Rattle.job_records.proofs.Rows.{after, cut-after, join-after}
 use Rattle.model.proofs.Job as T
 use Rattle.model.proofs.Job.Laws as T′
-use Rattle.fitting.proofs.records.test_jobs as all
-use Rattle.fitting.proofs.records.test_jobs.Symbol as all-def
-use Rattle.fitting.proofs.records.test_jobs.Symbol.{name as #test-jobs}
-use Rattle.fitting.proofs.records.test_jobs.Met as all-thm
-use Rattle.fitting.proofs.records.lend_jobs.Key.{name as #lend-jobs}
-use Rattle.fitting.proofs.records.lend_jobs as lend
-use Rattle.fitting.proofs.records.lend_jobs.Statement as stated
-use Rattle.fitting.proofs.records.lend_jobs.Code as code
-use Rattle.fitting.proofs.records.lend_jobs.Code.Mir as body
+use Rattle.job_records.proofs.records.test_jobs as all
+use Rattle.job_records.proofs.records.test_jobs.Symbol as all-def
+use Rattle.job_records.proofs.records.test_jobs.Symbol.{name as #test-jobs}
+use Rattle.job_records.proofs.records.test_jobs.Met as all-thm
+use Rattle.job_records.proofs.records.lend_jobs.Key.{name as #lend-jobs}
+use Rattle.job_records.proofs.records.lend_jobs as lend
+use Rattle.job_records.proofs.records.lend_jobs.Statement as stated
+use Rattle.job_records.proofs.records.lend_jobs.Code as code
+use Rattle.job_records.proofs.records.lend_jobs.Code.Mir as body
 
 abbrev Times : RattleType
 Times = Array u64 maxBounds
@@ -376,4 +376,4 @@ lend-jobs-spec 𝓤 H 𝓜 𝓖 𝓡 =
     entered 𝓤 H (tripleOf 𝓤 H (𝓖 .A) lend.signature (lend.spec 𝓤 H (𝓖 .A) (𝓜 .mem) (𝓡 .run)))
     (tables 𝓤 H 𝓜 𝓡 code.env .C) (tables 𝓤 H 𝓜 𝓡 code.env .Λ) #lend-jobs code.function (code.unfolded 𝓤 H 𝓜 𝓡)
     (lend-meets 𝓤 H (𝓖 .A) (givenOf 𝓤 H 𝓜 𝓖) (𝓜 .mem) (𝓡 .run) (tablesOf 𝓤 H 𝓜 (tables 𝓤 H 𝓜 𝓡 code.env))
-    (cited 𝓤 H (All 𝓤 H (𝓖 .A) (𝓜 .mem) (𝓡 .run)) 𝓜 𝓡 code.env #test-jobs all-def.routine code.calls-fitting·records·test-jobs (all-thm.met 𝓤 H 𝓜 𝓖 𝓡)))
+    (cited 𝓤 H (All 𝓤 H (𝓖 .A) (𝓜 .mem) (𝓡 .run)) 𝓜 𝓡 code.env #test-jobs all-def.routine code.calls-job-records·records·test-jobs (all-thm.met 𝓤 H 𝓜 𝓖 𝓡)))

@@ -18,9 +18,9 @@ use Rattle.model.proofs.Numbers.{lt-or-le, true-or-false}
 use Rattle.model.proofs.Search.{FirstBelow, firstBelow-law, firstBelow-is, firstBelow-none}
 use Rattle.job_sets.specs.JobSets.{isMember}
 use Rattle.job_sets.specs.IntervalSets.{setIn}
-use Rattle.fitting.specs.SetsHave.{SetsHave, NoJobs}
-use Rattle.fitting.specs.TestedJobs.{openBetween, opensIn, openBelow, addsUp, TestedBelow, JobTested}
-use Rattle.fitting.proofs.SetsHave.{have-cong}
+use Rattle.job_records.specs.SetsHave.{SetsHave, NoJobs}
+use Rattle.job_records.specs.TestedJobs.{openBetween, opensIn, openBelow, addsUp, TestedBelow, JobTested}
+use Rattle.job_records.proofs.SetsHave.{have-cong}
 
 -- how many numbers there are before the first that fails a test: one more where all before the next pass, and it too
 module _ (test : ℕ → Bool) (j : ℕ) where

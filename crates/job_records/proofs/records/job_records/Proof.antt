@@ -13,8 +13,8 @@ use Rattle.model.specs.Limits.{maxJobs}
 use Rattle.model.specs.Jobs.{noJob, jobOf}
 use Rattle.model.proofs.Entries.{length-listOf, getD-listOf}
 use Rattle.job_tables.specs.Tables.{jobsIn}
-use Rattle.fitting.proofs.records.job_records.Statement.{statement}
-use Rattle.fitting.proofs.records.job_records.Tie as tie
+use Rattle.job_records.proofs.records.job_records.Statement.{statement}
+use Rattle.job_records.proofs.records.job_records.Tie as tie
 
 module _ (releases deadlines cycles : List ℕ) where
   abbrev entry : ℕ → Job

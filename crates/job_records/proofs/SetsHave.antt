@@ -10,7 +10,7 @@ use Rattle.model.specs.Limits.{maxIntervals, maxJobs}
 use Rattle.job_sets.specs.IntervalSets.{setWords, Added}
 use Rattle.job_sets.proofs.JobSets.{none-has}
 use Rattle.job_sets.proofs.IntervalSets.{zeros-are, added-has}
-use Rattle.fitting.specs.SetsHave.{SetsHave, NoJobs}
+use Rattle.job_records.specs.SetsHave.{SetsHave, NoJobs}
 
 pub have-cong : {sets : List ℕ} {f g : (i j : ℕ) → Bool} → SetsHave sets f → ((i j : ℕ) → i < maxIntervals → j < maxJobs → f i j ≡ g i j) → SetsHave sets g
 have-cong have same = record { size = have .size; has = λ i j inside below. have .has i j inside below ∙ same i j inside below }
