@@ -1,7 +1,6 @@
 -- Laws for the proofs of the functions.
 pub mod Inserted
 pub mod Padded
-pub mod MarkedTimes
 pub mod Halving
 pub mod SmallBounds
 pub mod OpenSets

@@ -7,11 +7,11 @@ use lib.ListN.{length, getD, take, drop}
 use denote.Ref.{now}
 use Rattle.model.specs.Marks.{insertMark, insertMarks}
 use Rattle.mark_tables.specs.Tables.{marksIn}
 use Rattle.intervals.specs.Times.{HoldsTimes}
 use Rattle.intervals.proofs.Padded.{length-padded, times-taken, holds-padded, holds-rising, holds-next}
-use Rattle.intervals.proofs.MarkedTimes.{marks-none, marks-more, marks-whole, marked-times-rise}
-use Rattle.intervals.proofs.marks.insert_marks.Statement.{statement}
-use Rattle.intervals.proofs.marks.insert_marks.Tie as tie
+use Rattle.marked_bounds.proofs.MarkedTimes.{marks-none, marks-more, marks-whole, marked-times-rise}
+use Rattle.marked_bounds.proofs.marks.insert_marks.Statement.{statement}
+use Rattle.marked_bounds.proofs.marks.insert_marks.Tie as tie
 
 abbrev Inv-loop : tie.InvT-loop
 Inv-loop times₀ count marks mark-count first last bounds₀ i₀ times bounds i =

@@ -8,11 +8,11 @@ use lib.ListN.{length, take}
 use borrow.Author.Needs.{needs}
 use denote.Ref.{now}
 use Rattle.model.specs.Limits.{maxBounds}
 use Rattle.intervals.specs.Times.{padded}
 use Rattle.intervals.proofs.Padded.{length-times}
-use Rattle.intervals.proofs.MarkedTimes.{mark-early, mark-late, mark-cuts}
-use Rattle.intervals.proofs.marks.insert_mark.Statement.{statement}
-use Rattle.intervals.proofs.marks.insert_mark.Tie as tie
+use Rattle.marked_bounds.proofs.MarkedTimes.{mark-early, mark-late, mark-cuts}
+use Rattle.marked_bounds.proofs.marks.insert_mark.Statement.{statement}
+use Rattle.marked_bounds.proofs.marks.insert_mark.Tie as tie
 
 -- nothing is put in
 kept : (times : List ℕ) (count : ℕ) → count < maxBounds → times ≡ padded (take count times) → (next : List ℕ) → take count times ≡ next

@@ -11,10 +11,10 @@ use Rattle.model.specs.Limits.{maxJobs}
 use Rattle.model.proofs.BoundsOf.{length-boundsOf, boundsOf-rises}
 use Rattle.job_tables.specs.Tables.{jobsIn}
 use Rattle.job_tables.proofs.Read.{length-jobsIn}
 use Rattle.intervals.proofs.Padded.{holds-padded, holds-rising}
-use Rattle.intervals.proofs.MarkedTimes.{marked-held}
-use Rattle.intervals.proofs.marks.marked_bounds.Statement.{statement}
-use Rattle.intervals.proofs.marks.marked_bounds.Tie as tie
+use Rattle.marked_bounds.proofs.MarkedTimes.{marked-held}
+use Rattle.marked_bounds.proofs.marks.marked_bounds.Statement.{statement}
+use Rattle.marked_bounds.proofs.marks.marked_bounds.Tie as tie
 
 bounds-of-requires : tie.Need-bounds-of-requires
 bounds-of-requires c κs = search needs
