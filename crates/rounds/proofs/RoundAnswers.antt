@@ -20,9 +20,9 @@ use Rattle.tasks.specs.LaidOut.{layOut}
 use Rattle.tasks.specs.Rounds.{roundOf, rounds}
 use Rattle.tasks.proofs.Multiples.{multiple-is-least}
 use Rattle.rounds.specs.declared.operation.RoundsAnswer.the-variants.{LaidOut, Refused}
-use Rattle.rounds.specs.TaskBytes.{TasksRead, RoundRead}
-use Rattle.rounds.specs.FoundMultiples.{MultipleFound}
-use Rattle.rounds.specs.ListedJobs.{JobArrays, RoundListed}
+use Rattle.task_tables.specs.TaskBytes.{TasksRead, RoundRead}
+use Rattle.task_tables.specs.FoundMultiples.{MultipleFound}
+use Rattle.laying.specs.ListedJobs.{JobArrays, RoundListed}
 use Rattle.rounds.specs.RoundAnswers.{RoundsContract}
 
 -- arrays of zeros

@@ -1,13 +1,13 @@
 // The operation: from a task table's bytes to a job table in the lent buffer.
 ghost use lib.ListN.{length};
-ghost use Rattle.rounds.specs.TaskBytes.{TasksRead};
+ghost use Rattle.task_tables.specs.TaskBytes.{TasksRead};
 ghost use Rattle.rounds.specs.RoundAnswers.{RoundsContract};
-use crate::laying::lay_out;
-use crate::multiple::multiple_of;
-use crate::task_table::read_tasks;
 use job_writing::write_jobs;
+use laying::lay_out;
 use model::MAX_JOBS;
 use reading::Reading;
+use task_tables::multiple_of;
+use task_tables::read_tasks;
 use tasks::MAX_MULTIPLE;
 
 // The length of the job table that was written, in bytes, and the multiple after which the round repeats; or the

@@ -1,7 +1,7 @@
 -- `operation::rounds` meets its contract: a table that is not read is refused, and one that was read is laid out. Assumes
 -- nothing.
 use mathlib.Core.Path.{sym, _∙_}
-use Rattle.rounds.proofs.TaskReading.{tasks-read}
+use Rattle.task_tables.proofs.TaskReading.{tasks-read}
 use Rattle.rounds.proofs.RoundAnswers.{round-unread}
 use borrow.Author.Needs.{needs}
 use Rattle.rounds.proofs.operation.rounds.Statement.{statement}

@@ -1,0 +1,3 @@
+-- Laws of the definitions, for the proofs of the functions.
+pub mod TaskReading
+mod FoundMultiples
