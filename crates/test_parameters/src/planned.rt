@@ -89,6 +89,20 @@ pub(crate) fn make(
         &mut prices[..price_room],
         &mut shares[..share_room],
     );
+    print_answer(levels, jobs, marks, request, plan, prices, shares, answer);
+}
+
+// What planning answered, and whether the rest of each buffer is as it was.
+fn print_answer(
+    levels: &[u8],
+    jobs: &[u8],
+    marks: &[u8],
+    request: Request,
+    plan: &[u8],
+    prices: &[u8],
+    shares: &[u32],
+    answer: PlanAnswer,
+) {
     match answer {
         PlanAnswer::Plan {
             intervals,

@@ -99,6 +99,16 @@ pub(crate) fn ask(
         &mut inside_list[..inside_room],
         &mut step_list[..step_room],
     );
+    print_touched(answer, open_list, inside_list, step_list);
+}
+
+// The lists and the nearest deadline, or the refusal; and whether the rest of each list is as it was.
+fn print_touched(
+    answer: TouchingAnswer,
+    open_list: &[u32],
+    inside_list: &[u32],
+    step_list: &[u32],
+) {
     match answer {
         TouchingAnswer::Touching {
             open_jobs,
