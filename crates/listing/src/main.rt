@@ -3,7 +3,7 @@
 ghost use mathlib.Core.Path.{_≡_};
 ghost use lib.ListN.{length};
 ghost use Rattle.io.specs.Counts.{Counts};
-ghost use Rattle.listing_text.specs.Appending.{textRoom};
+ghost use Rattle.listing_lines.specs.Appending.{textRoom};
 use libc::STDOUT_FILENO;
 use listing_text::TEXT_ROOM;
 use listing_text::write_listing;

@@ -1,8 +1,5 @@
 -- Laws of the listing.
 pub mod ListedSite
-pub mod AppendedText
-pub mod Decimals
-pub mod LineTexts
 pub mod ShownSpans
 pub mod ListedPlans
 pub mod ListedRefusals

@@ -29,7 +29,7 @@ use Rattle.site.specs.SiteTables.{HoldsSite}
 use Rattle.site.proofs.HeldSites.{held-jobs-counted, held-points, held-small, held-curve, held-top-point, held-bounds, held-bounds-small}
 use Rattle.intervals.specs.Times.{SmallBounds}
 use Rattle.model.proofs.Joined.{joined-cong}
-use Rattle.listing_text.specs.PlanText.{spanLines, planText, textOfPlan}
+use Rattle.listing_lines.specs.PlanText.{spanLines, planText, textOfPlan}
 use Rattle.listing_text.specs.ShownPlans.{boundsIn, pricesIn, ShownPlan, ListedPlan}
 
 module _ {levelBytes jobBytes markBytes : List ℕ} {parameters : Parameters} {intervals steps energy : ℕ} {prices shares : List ℕ}

@@ -19,8 +19,8 @@ use Rattle.model.specs.Sites.{siteOf}
 use Rattle.model.specs.Prices.{PriceList}
 use Rattle.model.specs.SiteLines.{T, job, listedShares}
 use Rattle.writing.specs.StepList.{stepOf, stepsOf}
-use Rattle.listing_text.specs.TextLines.{placesOf, decimal, signedDecimal, line, overfullLine, refusedLine}
-use Rattle.listing_text.specs.PlanText.{spanLine, stepLine, spanLines, stepLines, planText, textOfPlan}
+use Rattle.listing_lines.specs.TextLines.{placesOf, decimal, signedDecimal, line, overfullLine, refusedLine}
+use Rattle.listing_lines.specs.PlanText.{spanLine, stepLine, spanLines, stepLines, planText, textOfPlan}
 
 abbrev listedJobs : List Job
 listedJobs = job 0 4 6 ∷ job 2 3 4 ∷ []

@@ -20,9 +20,9 @@ use Rattle.planning.specs.declared.operation.PlanAnswer.the-variants.{Plan, Ove
 use Rattle.planning.specs.MadePlans.{Buffers}
 use Rattle.planning.specs.PlanAnswers.{outcomeOf, PlanContract}
 use Rattle.planning.proofs.PlanStages.{site-planned, plan-read}
-use Rattle.listing_text.specs.TextLines.{overfullLine, refusedLine}
-use Rattle.listing_text.specs.PlanText.{textOfPlan}
-use Rattle.listing_text.specs.Appending.{textRoom, Appended}
+use Rattle.listing_lines.specs.TextLines.{overfullLine, refusedLine}
+use Rattle.listing_lines.specs.PlanText.{textOfPlan}
+use Rattle.listing_lines.specs.Appending.{textRoom, Appended}
 use Rattle.listing_text.specs.ShownPlans.{ListedPlan}
 use Rattle.listing_text.specs.Listings.{zeros, planRoom, priceRoom, shareRoom, zeroBuffers, siteText, listingText, ListingContract}
 use Rattle.listing_text.proofs.ListedRefusals.{reading-refused}

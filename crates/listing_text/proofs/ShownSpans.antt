@@ -12,7 +12,7 @@ use Rattle.model.specs.Plans.{sharesIn}
 use Rattle.levels.specs.declared.points.PointTable.{PointTable}
 use Rattle.levels.specs.PointTables.{pointsOf}
 use Rattle.settings.specs.Settings.{Fits}
-use Rattle.listing_text.specs.PlanText.{spanLine}
+use Rattle.listing_lines.specs.PlanText.{spanLine}
 use Rattle.listing_text.specs.ShownPlans.{boundsIn, ShownPlan}
 
 pub span-ready : {working : PointTable} {jobs intervals : ℕ} {times prices shares : List ℕ}

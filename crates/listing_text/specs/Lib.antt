@@ -1,6 +1,3 @@
 -- The listing's text, and what the functions of this crate write of it.
-pub mod TextLines
-pub mod PlanText
-pub mod Appending
 pub mod ShownPlans
 pub mod Listings

@@ -14,9 +14,9 @@ use Rattle.planning.specs.declared.operation.PlanAnswer.{PlanAnswer}
 use Rattle.planning.specs.declared.operation.PlanAnswer.the-variants.{Plan, Overfull, Refused}
 use Rattle.planning.specs.MadePlans.{Buffers}
 use Rattle.planning.specs.PlanAnswers.{PlanContract}
-use Rattle.listing_text.specs.TextLines.{overfullLine, refusedLine}
-use Rattle.listing_text.specs.PlanText.{textOfPlan}
-use Rattle.listing_text.specs.Appending.{textRoom}
+use Rattle.listing_lines.specs.TextLines.{overfullLine, refusedLine}
+use Rattle.listing_lines.specs.PlanText.{textOfPlan}
+use Rattle.listing_lines.specs.Appending.{textRoom}
 
 -- "The listing reads [the marks] from marks.tbl, a missing, unreadable or empty file meaning none" (document 02, Change 6).
 abbrev pub marksOfFile : List ℕ → List ℕ

@@ -1,8 +1,6 @@
 // The listing of a site as text.
-mod lines;
 mod listing;
 mod plan;
-mod writer;
 
 pub use listing::write_listing;
 

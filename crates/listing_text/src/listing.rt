@@ -1,13 +1,13 @@
 // The listing of a site, from its tables.
 ghost use mathlib.Core.Path.{_≡_};
 ghost use Rattle.listing_text.specs.Listings.{zeros, planRoom, priceRoom, shareRoom, marksOfFile, ListingContract};
-use crate::lines::put_overfull;
-use crate::lines::put_refused;
 use crate::plan::put_plan;
+use listing_lines::put_overfull;
+use listing_lines::put_refused;
 use model::MAX_INTERVALS;
 use model::MAX_JOBS;
-use planning::PlanAnswer;
 use parameters::as_given;
+use planning::PlanAnswer;
 use planning::plan;
 
 // Long enough for the plan, the prices and the shares of any site.

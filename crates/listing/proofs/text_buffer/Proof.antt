@@ -2,7 +2,7 @@
 use mathlib.Core.Path.{sym}
 use Prim.Native.Nat.{ℕ}
 use lib.ListN.{length-replicate}
-use Rattle.listing_text.specs.Appending.{textRoom}
+use Rattle.listing_lines.specs.Appending.{textRoom}
 use Rattle.listing.proofs.text_buffer.Statement.{statement}
 use Rattle.listing.proofs.text_buffer.Tie as tie
 

@@ -6,10 +6,10 @@ use denote.Ref.{now}
 use Rattle.model.specs.Entries.{encodeEach, joined}
 use Rattle.model.specs.Plans.{sharesIn}
 use Rattle.writing.specs.StepList.{stepOf}
-use Rattle.listing_text.specs.PlanText.{stepLine}
-use Rattle.listing_text.specs.Appending.{stepRoom, Appended}
-use Rattle.listing_text.proofs.AppendedText.{same-room, next-most, pieces-none, pieces-next, pieces-whole}
-use Rattle.listing_text.proofs.LineTexts.{interval-lines}
+use Rattle.listing_lines.specs.PlanText.{stepLine}
+use Rattle.listing_lines.specs.Appending.{stepRoom, Appended}
+use Rattle.listing_lines.proofs.AppendedText.{same-room, next-most, pieces-none, pieces-next, pieces-whole}
+use Rattle.listing_lines.proofs.LineTexts.{interval-lines}
 use Rattle.listing_text.proofs.plan.put_interval.Statement.{statement}
 use Rattle.listing_text.proofs.plan.put_interval.Tie as tie
 

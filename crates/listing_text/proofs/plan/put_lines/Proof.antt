@@ -6,9 +6,9 @@ use native.Mathlib.Nat.{mul-le-mul-right}
 use native.Mathlib.Omega.{arith}
 use borrow.Author.Needs.{needs}
 use Rattle.model.specs.Limits.{maxJobs, maxIntervals}
-use Rattle.listing_text.specs.PlanText.{planText}
-use Rattle.listing_text.specs.Appending.{stepRoom}
-use Rattle.listing_text.proofs.AppendedText.{next-most, appended-then, appended-as}
+use Rattle.listing_lines.specs.PlanText.{planText}
+use Rattle.listing_lines.specs.Appending.{stepRoom}
+use Rattle.listing_lines.proofs.AppendedText.{next-most, appended-then, appended-as}
 use Rattle.listing_text.proofs.plan.put_lines.Statement.{statement}
 use Rattle.listing_text.proofs.plan.put_lines.Tie as tie
 

@@ -2,7 +2,7 @@
 -- (proofs/ListedPlans.antt). Assumes nothing.
 use native.Mathlib.Omega.{arith}
 use borrow.Author.Needs.{needs}
-use Rattle.listing_text.proofs.AppendedText.{appended-as}
+use Rattle.listing_lines.proofs.AppendedText.{appended-as}
 use Rattle.listing_text.proofs.ListedPlans.{shown-plan, shown-text}
 use Rattle.listing_text.proofs.plan.put_plan.Statement.{statement}
 use Rattle.listing_text.proofs.plan.put_plan.Tie as tie

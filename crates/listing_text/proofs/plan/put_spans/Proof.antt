@@ -9,10 +9,10 @@ use Rattle.model.specs.Entries.{joined}
 use Rattle.model.specs.Sum.{sum}
 use Rattle.model.specs.Plans.{sharesIn}
 use Rattle.levels.specs.PointTables.{pointsOf}
-use Rattle.listing_text.specs.PlanText.{spanLine, spanLines}
-use Rattle.listing_text.specs.Appending.{spanRoom, Appended}
+use Rattle.listing_lines.specs.PlanText.{spanLine, spanLines}
+use Rattle.listing_lines.specs.Appending.{spanRoom, Appended}
 use Rattle.listing_text.specs.ShownPlans.{boundsIn, pricesIn}
-use Rattle.listing_text.proofs.AppendedText.{same-room, next-most, appended-as, pieces-none, pieces-next, pieces-whole}
+use Rattle.listing_lines.proofs.AppendedText.{same-room, next-most, appended-as, pieces-none, pieces-next, pieces-whole}
 use Rattle.listing_text.proofs.ShownSpans.{span-ready, span-shown}
 use Rattle.listing_text.proofs.plan.put_spans.Statement.{statement}
 use Rattle.listing_text.proofs.plan.put_spans.Tie as tie

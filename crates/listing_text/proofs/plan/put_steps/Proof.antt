@@ -7,10 +7,10 @@ use denote.Ref.{now}
 use Rattle.model.specs.Entries.{encodeEach, joined}
 use Rattle.model.specs.Plans.{sharesIn}
 use Rattle.writing.specs.StepList.{stepsIn}
-use Rattle.listing_text.specs.PlanText.{stepLine}
-use Rattle.listing_text.specs.Appending.{stepRoom, Appended}
-use Rattle.listing_text.proofs.AppendedText.{same-room, next-most, pieces-none, pieces-next, pieces-whole}
-use Rattle.listing_text.proofs.LineTexts.{all-lines}
+use Rattle.listing_lines.specs.PlanText.{stepLine}
+use Rattle.listing_lines.specs.Appending.{stepRoom, Appended}
+use Rattle.listing_lines.proofs.AppendedText.{same-room, next-most, pieces-none, pieces-next, pieces-whole}
+use Rattle.listing_lines.proofs.LineTexts.{all-lines}
 use Rattle.listing_text.proofs.plan.put_steps.Statement.{statement}
 use Rattle.listing_text.proofs.plan.put_steps.Tie as tie
 

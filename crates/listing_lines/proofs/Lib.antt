@@ -1,0 +1,4 @@
+-- Laws of the lines.
+pub mod AppendedText
+mod Decimals
+pub mod LineTexts
