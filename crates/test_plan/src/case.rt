@@ -92,6 +92,20 @@ fn site(
         &mut prices[..price_length],
         &mut shares[..share_length],
     );
+    print_answer(levels, jobs, marks, plan, prices, shares, word, answer);
+}
+
+// What planning answered, and whether the rest of each buffer is as it was.
+fn print_answer(
+    levels: &[u8],
+    jobs: &[u8],
+    marks: &[u8],
+    plan: &[u8],
+    prices: &[u8],
+    shares: &[u32],
+    word: u8,
+    answer: PlanAnswer,
+) {
     match answer {
         PlanAnswer::Plan {
             intervals,

@@ -27,6 +27,11 @@ pub(crate) fn all() {
 }
 
 fn without_marks(state: &mut u32) {
+    without_draw(state);
+    with_draw(state);
+}
+
+fn without_draw(state: &mut u32) {
     group(b"no_jobs", Form::Any(0), state);
     group(b"one_job", Form::Any(1), state);
     group(b"two_jobs", Form::Any(2), state);
@@ -36,6 +41,9 @@ fn without_marks(state: &mut u32) {
     group(b"equal", Form::Equal, state);
     group(b"tight", Form::Tight, state);
     group(b"dropped", Form::Dropped, state);
+}
+
+fn with_draw(state: &mut u32) {
     group(b"idle_draw_no_jobs", Form::IdleDraw(0), state);
     group(b"idle_draw_one_job", Form::IdleDraw(1), state);
     group(b"idle_draw_two_jobs", Form::IdleDraw(2), state);
@@ -44,6 +52,11 @@ fn without_marks(state: &mut u32) {
 }
 
 fn with_marks(state: &mut u32) {
+    marks_of_any(state);
+    marks_of_forms(state);
+}
+
+fn marks_of_any(state: &mut u32) {
     marked_group(b"marks_no_jobs", Form::Any(0), Marking::Anywhere, state);
     marked_group(b"marks_one_job", Form::Any(1), Marking::Anywhere, state);
     marked_group(b"marks_two_jobs", Form::Any(2), Marking::Anywhere, state);
@@ -52,6 +65,9 @@ fn with_marks(state: &mut u32) {
     marked_group(b"marks_near_one_job", Form::Any(1), Marking::Near, state);
     marked_group(b"marks_near_two_jobs", Form::Any(2), Marking::Near, state);
     marked_group(b"marks_near_three_jobs", Form::Any(3), Marking::Near, state);
+}
+
+fn marks_of_forms(state: &mut u32) {
     marked_group(b"marks_near_nested", Form::Nested, Marking::Near, state);
     marked_group(b"marks_equal", Form::Equal, Marking::Anywhere, state);
     marked_group(b"marks_near_tight", Form::Tight, Marking::Near, state);
