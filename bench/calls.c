@@ -79,23 +79,17 @@ void call_check_mixed(void)
 }
 
 #ifdef WITH_BEFORE
-/* They take no parameters: bench/run says of which commits. */
-__typeof__(plain_plan) before_plan;
-struct ramyearly_check_answer before_check(
-    const uint8_t *levels, size_t levels_length,
-    const uint8_t *jobs, size_t jobs_length,
-    const uint8_t *marks, size_t marks_length,
-    const uint8_t *plan, size_t plan_length,
-    const uint8_t *prices, size_t prices_length);
+__typeof__(ramyearly_plan) before_plan;
+__typeof__(ramyearly_check) before_check;
 
 static struct ramyearly_check_answer checked_before(void)
 {
-    return before_check(LEVELS, JOBS, MARKS, ours.plan, 4 + 6 * planned.steps, ours.prices, 2 + 5 * planned.intervals);
+    return before_check(LEVELS, JOBS, MARKS, PARAMETERS, ours.plan, 4 + 6 * planned.steps, ours.prices, 2 + 5 * planned.intervals);
 }
 
 void call_plan_before(void)
 {
-    answered = before_plan(LEVELS, JOBS, MARKS, BUFFERS(theirs));
+    answered = before_plan(LEVELS, JOBS, MARKS, PARAMETERS, BUFFERS(theirs));
 }
 
 void call_check_before(void)
@@ -149,14 +143,20 @@ void open_tasks(void)
         wrong("rounds", "not as many jobs as there are");
 }
 
+static uint64_t load_of(const struct buffers *of, int interval)
+{
+    uint64_t load = 0;
+    for (int j = 0; j < network.jobs; j++)
+        load += of->shares[interval * network.jobs + j];
+    return load;
+}
+
 /* Our plan's loads, from the shares. */
 static void take_loads(void)
 {
     memset(&loads_by_band, 0, sizeof loads_by_band);
     for (int i = 0; i < network.intervals; i++) {
-        loads[i] = 0;
-        for (int j = 0; j < network.jobs; j++)
-            loads[i] += ours.shares[i * network.jobs + j];
+        loads[i] = load_of(&ours, i);
         for (int k = 0; k < network.bands; k++) {
             int64_t above = (int64_t)loads[i] - network.size[i] * network.lower[k], room = network.size[i] * network.gap[k];
             if (above > 0)
@@ -180,6 +180,29 @@ static void same_plan(const char *who, void (*call)(void))
     call();
     if (memcmp(&planned, &answered, sizeof planned) || memcmp(&ours, &theirs, sizeof ours))
         wrong(who, "another plan");
+}
+
+#ifdef WITH_BEFORE
+/* Whether planning of an earlier commit has our loads, figure and prices. Its shares and steps may be others, where several plans are
+ * least. */
+static void same_loads_before(void)
+{
+    memset(&theirs, 0, sizeof theirs);
+    call_plan_before();
+    if (answered.number || answered.intervals != planned.intervals || answered.energy != planned.energy
+        || memcmp(ours.prices, theirs.prices, sizeof ours.prices))
+        wrong("planning before", "another figure or other prices");
+    for (int i = 0; i < network.intervals; i++)
+        if (load_of(&theirs, i) != loads[i])
+            wrong("planning before", "another load");
+}
+#endif
+
+/* Whether our plan is short. */
+static void few_steps(void)
+{
+    if (planned.steps > planned.intervals + site.jobs - 1)
+        wrong("planning", "more steps than jobs and intervals less 1");
 }
 
 static void accepts(const char *who, uint32_t number, uint64_t energy)
@@ -221,6 +244,7 @@ static void plan_site(void)
     call_plan();
     if (planned.number)
         wrong("planning", "refused");
+    few_steps();
     take_loads();
     same_optimum("planning", &loads_by_band);
     all_accept();
@@ -231,7 +255,7 @@ static void plan_site(void)
     all_touched();
     same_plan("plain planner", call_plain);
 #ifdef WITH_BEFORE
-    same_plan("planning before", call_plan_before);
+    same_loads_before();
 #endif
 }
 

@@ -10,7 +10,8 @@ extern struct network network;
 extern struct ramyearly_plan_answer planned;
 
 /* Makes the site of a family without marks and plans it. What comes out is held against both halves of the check, ordering, touching,
- * the plain planner and, where they are linked, planning and checking before. */
+ * the plain planner and, where they are linked, planning and checking before. Planning before has the same loads, figure and prices; its
+ * shares may be others. */
 void open_site(int family, int jobs, int seed);
 /* Gives the site that is open marks and plans it again. Its least exact energy must stay. */
 void mark_site(void);

@@ -264,9 +264,9 @@ def all_tables(folder):
     run = run_of(folder)
     print(f"measured: {run['date']}\nmachine: {run['machine']}\ncompilers: {run['compilers']}")
     times = Times(read(folder, "times.csv"))
-    writers = "the plain planner and planning before write" if "plan" in times.before else "the plain planner writes"
-    print(f"{len(times.rows)} sites; {writers} the same bytes as ours"
-          + (", checking before accepts them" if "check" in times.before else "")
+    print(f"{len(times.rows)} sites; the plain planner writes the same bytes as ours"
+          + (", planning before has the same loads, figure and prices" if "plan" in times.before else "")
+          + (", checking before accepts our plans" if "check" in times.before else "")
           + (f", and {', '.join(times.peers)} find the same exact energy" if times.peers else ""))
     grids(times)
     marked_sites(times, folder)

@@ -137,8 +137,11 @@ struct ramyearly_spare_answer ramyearly_spare(
  * that meets all deadlines has less than the plan's exact energy. Number 11: start and end are the earliest overfull window, with its
  * spare, and no schedule meets all deadlines; it is the same window whatever the marks. Otherwise refusals 1 to 10, 31, 32, 34, 35 and
  * 36 before 11, and 12 to 14 after it, whose places are the lengths wanted, 14 counting 32-bit numbers. Where no plan comes out
- * the buffers stay as they were. There are at most 135 intervals, and 64 x 72 pairs of a job and an interval where it is open:
- * 27,652 bytes, 677 bytes and 8,640 numbers are always enough. */
+ * the buffers stay as they were.
+ * A plan is short: with at least one job it has at most jobs + intervals - 1 steps, and without jobs none. It pays no energy for that.
+ * 12 wants 4 + 6 x the smaller of that number and the pairs of a job and an interval where it is open, and 4 bytes without jobs; 13 wants
+ * 2 + 5 x intervals, and 14 jobs x intervals. There are at most 135 intervals, and so 198 steps: 1,192 bytes, 677 bytes and 8,640 numbers
+ * are always enough. */
 struct ramyearly_plan_answer ramyearly_plan(
     const uint8_t *levels, size_t levels_length,
     const uint8_t *jobs, size_t jobs_length,

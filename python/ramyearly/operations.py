@@ -85,10 +85,10 @@ def plan_table(intervals, steps):
 
 
 def plan(levels, jobs, *, marks=(), highest=None, free=0, margin=0):
-    """A plan that no schedule beats which meets all deadlines, with the prices that show it. Levels may begin with
-    (0, draw); every schedule pays the draw where it idles, and the energy figure has it for the whole time. Marks cut
-    intervals, and the least energy is the same with them as without. With parameters the schedules, the deadlines and the
-    cycles are those of the altered tables."""
+    """A plan that no schedule beats which meets all deadlines, with the prices that show it. With at least one job it has at
+    most jobs + intervals - 1 steps, and pays no energy for that. Levels may begin with (0, draw); every schedule pays the
+    draw where it idles, and the energy figure has it for the whole time. Marks cut intervals, and the least energy is the
+    same with them as without. With parameters the schedules, the deadlines and the cycles are those of the altered tables."""
     return plan_tables(level_table(levels), job_table(jobs), mark_table(marks), with_room(highest, free, margin))
 
 

@@ -7,7 +7,7 @@ static struct bytes four_jobs(void)
     return table(4, 4, (const uint32_t[]) { 0, 12, 4, 6, 8, 10, 13, 16, 16, 18, 10, 7 }, 12);
 }
 
-/* The first job is open in 5 intervals and each other job in one: 8 pairs. */
+/* The first job is open in 5 intervals and each other job in one: 8 pairs, fewer than 4 jobs + 7 intervals - 1. */
 enum { STEPS = 6, INTERVALS = 7, PLAN = 4 + 6 * 8, PRICES = 2 + 5 * INTERVALS, SHARES = 4 * INTERVALS };
 
 /* With the working frequencies 2, 5 and 9, gaps 2, 3 and 4, the second job fills its 2 ticks to the top, the third fills band 2 in its

@@ -142,7 +142,7 @@ static void plans(void)
         (const uint32_t[]) { 2, 0, 0, 0, 0, 4 }, 6);
     plan_is("the largest job", fastest_level(), largest_job(), 64, 32, 16,
         (struct ramyearly_plan_answer) { .intervals = 1, .steps = 1, .energy = 250000000000000 });
-    /* The listed site has 3 + 1 open pairs, 3 intervals and 2 jobs: 4 + 6 x 4, 2 + 5 x 3 and 2 x 3. */
+    /* The listed site has 3 + 1 open pairs, as many as 2 jobs + 3 intervals - 1: 4 + 6 x 4, 2 + 5 x 3 and 2 x 3. */
     plan_is("just long enough", t, jobs, 28, 17, 6, listed);
     plan_is("plan buffer too short", t, jobs, 27, 17, 6, (struct ramyearly_plan_answer) { .number = 12, .place = 28 });
     plan_is("price buffer too short", t, jobs, 28, 16, 6, (struct ramyearly_plan_answer) { .number = 13, .place = 17 });
@@ -175,6 +175,7 @@ int main(void)
     fits();
     parameters();
     parameter_refusals();
+    short_plans();
     if (!wrong)
         printf("interface: check, fits, setting, spare, plan, rounds, order and touching answer C as they should\n");
     return wrong;

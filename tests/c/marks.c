@@ -36,7 +36,8 @@ static struct bytes cut_prices(void)
     return prices_of(4, (const uint32_t[]) { 11, 12, 13, 14 }, (const uint8_t[]) { 1, 1, 2, 1 });
 }
 
-/* The first job is open in 4 intervals and the second in one: 4 + 6 x 5 bytes, 2 + 5 x 4 bytes and 2 x 4 numbers. */
+/* The first job is open in 4 intervals and the second in one, and 2 jobs + 4 intervals - 1 is 5 too: 4 + 6 x 5 bytes, 2 + 5 x 4 bytes and
+ * 2 x 4 numbers. */
 static void one_cut(void)
 {
     struct bytes t = level_pair(), jobs = two_jobs(), mark = marks_at("11");

@@ -236,13 +236,14 @@ static void overfull(void)
         (struct ramyearly_plan_answer) { .number = 12, .place = PLAN });
 }
 
-/* A mark at 4 is a bound up to the deadline 6, and none up to the altered one. */
+/* A mark at 4 is a bound up to the deadline 6, and none up to the altered one. It makes 4 intervals and 6 open pairs: for 2 jobs a plan
+ * buffer of 4 + 6 x 5 bytes is wanted. */
 static void marks_and_free_ticks(void)
 {
     struct bytes four = four_levels(), jobs = given_jobs(), mark = marks_at("4");
     struct parameters none_free = { 3, 0, 20 };
-    plan_altered_is("a mark before the deadline", four, jobs, mark, none_free, 39, 22, 8,
-        (struct ramyearly_plan_answer) { .number = 12, .place = 40 });
+    plan_altered_is("a mark before the deadline", four, jobs, mark, none_free, 33, 22, 8,
+        (struct ramyearly_plan_answer) { .number = 12, .place = 34 });
     fits_altered_is("a mark before the deadline", four, jobs, mark, none_free, altered_plan(), (struct ramyearly_fits_answer) { .number = 16 });
     touching_altered_refused("a mark before the deadline", jobs, mark, none_free, altered_plan(), 4, 6, LONG, 16, 0);
     fits_altered_is("a mark at the altered deadline", four, jobs, mark, PARAMETERS, altered_plan(),

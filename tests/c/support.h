@@ -8,14 +8,14 @@
 extern int wrong;
 
 struct bytes {
-    uint8_t at[1024];
+    uint8_t at[1192];
     size_t length;
 };
 
-/* The buffers that planning is lent, filled with a pattern. They have room for 64 jobs apart and 8 marks, which cut 64 intervals into
- * 72. No byte stands between them, so that all of them can be compared. */
+/* The buffers that planning is lent, filled with a pattern. They have room for any site: 64 jobs and 8 marks make 135 intervals and at most
+ * 198 steps. No byte stands between them, so that all of them can be compared. */
 struct lent {
-    uint8_t plan[440], prices[680];
+    uint8_t plan[1200], prices[680];
     uint32_t shares[64 * 135];
 };
 
@@ -145,5 +145,7 @@ void fits(void);
 void parameters(void);
 /* parameter_refusals.c: the cases where they are refused. */
 void parameter_refusals(void);
+/* short_plans.c: the cases of how many steps a plan has, and of the plan buffer. */
+void short_plans(void);
 
 #endif

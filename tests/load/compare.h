@@ -13,6 +13,12 @@ struct altered_tally {
     uint64_t fewer_levels, free_ticks, margins, plans, accepted, ordered, touched, emptied, too_many_cycles;
 };
 
+/* Plans that are as long as they may be: with jobs + intervals - 1 steps where there are more open pairs, with as many as open pairs where
+ * these are fewer, and with as many as there can be at all. Spared are the plans in a buffer too short for a step in each open pair. */
+struct short_tally {
+    uint64_t at_limit, at_pairs, most_steps, spared;
+};
+
 /* What was counted. by_number[0] counts the answers, and by_fits those calls that ask whether a plan fits. Of the plans, some have a
  * mark as a bound, and some have as many intervals or open pairs as there can be. Lists too short are those of touching, of which each
  * is counted. Of the plans that fit tiny sites, some are least and some are dearer. */
@@ -20,6 +26,7 @@ struct tally {
     uint64_t calls, plans, accepted, ordered, touched, disagreements, by_number[REFUSALS + 1], by_fits[REFUSALS + 1], too_short[PAPER_LISTS];
     uint64_t cut, most_intervals, most_pairs, least, dearer;
     struct altered_tally altered;
+    struct short_tally short_plans;
 };
 
 /* Calls are counted here. */

@@ -1,6 +1,7 @@
 #include <stdio.h>
 
 #include "call.h"
+#include "filled.h"
 
 static struct guarded plan_buffer, prices_buffer, shares_buffer;
 
@@ -56,6 +57,17 @@ static void shares_match(const struct paper_site *site, struct paper_bytes plan,
             same("a share", shares[i], wanted[i]);
 }
 
+/* Of the plans with its loads it is the one that fills them by interval and job number. */
+static void fills_loads(const struct paper_site *site, struct paper_bytes plan, const uint32_t *shares)
+{
+    static uint32_t wanted[PAPER_INTERVALS * PAPER_JOBS];
+    struct paper_loads loads = paper_loads(plan);
+    filled_shares(site, &loads, wanted);
+    for (unsigned i = 0; i < site->intervals.count * site->jobs.count; i++)
+        if (shares[i] != wanted[i])
+            same("a share that fills its load", shares[i], wanted[i]);
+}
+
 static void smallest_prices(const struct paper_site *site, struct paper_bytes plan, struct paper_bytes prices)
 {
     uint8_t price[PAPER_INTERVALS];
@@ -63,6 +75,15 @@ static void smallest_prices(const struct paper_site *site, struct paper_bytes pl
     paper_smallest_prices(site, plan, price);
     for (unsigned i = 0; i < n; i++)
         same("a price, smallest", prices.at[2 + 4 * n + i], price[i]);
+}
+
+static void count_short_plan(const struct paper_site *site, unsigned steps, size_t plan_length)
+{
+    unsigned pairs = paper_pairs(&site->intervals), limit = site->jobs.count + site->intervals.count - 1;
+    tally->short_plans.at_limit += steps == limit && limit < pairs;
+    tally->short_plans.at_pairs += steps == pairs && pairs < limit;
+    tally->short_plans.most_steps += steps == PAPER_STEPS_PLANNED;
+    tally->short_plans.spared += plan_length < 4 + 6 * (size_t)pairs;
 }
 
 static void count_plan(const struct paper_site *site)
@@ -80,7 +101,7 @@ static void judge_plan(const struct buffers *buffers, struct paper_tables t, str
 {
     struct paper_site site;
     paper_read_site(t, &site);
-    same("no more steps than open pairs", found.steps <= paper_pairs(&site.intervals), 1);
+    same("no more steps than there may be", found.steps <= paper_step_limit(&site), 1);
     if (!call_agrees())
         return;
     struct paper_bytes p = { plan_buffer.lent + buffers->plan.start, 4 + 6 * (size_t)found.steps };
@@ -100,8 +121,10 @@ static void judge_plan(const struct buffers *buffers, struct paper_tables t, str
     if (!call_agrees())
         return;
     shares_match(&site, p, shares);
+    fills_loads(&site, p, shares);
     smallest_prices(&site, p, r);
     count_plan(&site);
+    count_short_plan(&site, found.steps, buffers->plan.length);
     table_keep(plan, p);
     table_keep(prices, r);
 }

@@ -68,6 +68,14 @@ static void add_altered(struct altered_tally *all, const struct altered_tally *o
     all->too_many_cycles += one->too_many_cycles;
 }
 
+static void add_short_plans(struct short_tally *all, const struct short_tally *one)
+{
+    all->at_limit += one->at_limit;
+    all->at_pairs += one->at_pairs;
+    all->most_steps += one->most_steps;
+    all->spared += one->spared;
+}
+
 static struct tally total(void)
 {
     struct tally all = { .calls = 0 };
@@ -85,6 +93,7 @@ static struct tally total(void)
         all.most_intervals += one->most_intervals;
         all.most_pairs += one->most_pairs;
         add_altered(&all.altered, &one->altered);
+        add_short_plans(&all.short_plans, &one->short_plans);
         for (unsigned i = 0; i <= REFUSALS; i++) {
             all.by_number[i] += one->by_number[i];
             all.by_fits[i] += one->by_fits[i];
@@ -127,6 +136,15 @@ static bool print_cut_plans(const struct tally *t)
     printf("plans with a mark as a bound: %" PRIu64 ", with %d intervals %" PRIu64 ", with %d open pairs %" PRIu64 "\n", t->cut, PAPER_INTERVALS,
         t->most_intervals, PAPER_PAIRS, t->most_pairs);
     return t->cut > 0 && t->most_intervals > 0 && t->most_pairs > 0;
+}
+
+/* Answers whether plans were as long as they may be, and whether they went into buffers too short for a step in each open pair. */
+static bool print_short_plans(const struct short_tally *t)
+{
+    printf("plans with jobs + intervals - 1 steps, fewer than open pairs: %" PRIu64 ", with as many steps as open pairs, fewer than that: %" PRIu64
+        ", with %d steps: %" PRIu64 "; in buffers too short for all open pairs: %" PRIu64 "\n",
+        t->at_limit, t->at_pairs, PAPER_STEPS_PLANNED, t->most_steps, t->spared);
+    return t->at_limit > 0 && t->at_pairs > 0 && t->most_steps > 0 && t->spared > 0;
 }
 
 /* Answers whether sites were altered by each parameter and in each operation, and whether 36 had each of its reasons. */
@@ -181,6 +199,10 @@ static int run(uint64_t calls)
     }
     if (!print_cut_plans(&all)) {
         printf("load: no plan with marks was as large as there can be\n");
+        return 1;
+    }
+    if (!print_short_plans(&all.short_plans)) {
+        printf("load: the short plans were not of every kind\n");
         return 1;
     }
     if (!each) {

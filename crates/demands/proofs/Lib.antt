@@ -1,6 +1,6 @@
 -- The three demands hold, rounds repeat, idling is not free, a plan has one spelling, the window test keeps a running sum, what touches
--- a span is listed, handover marks cut intervals, one plan serves many boards, the check has two halves, and
--- parameters alter the tables.
+-- a span is listed, handover marks cut intervals, one plan serves many boards, the check has two halves,
+-- parameters alter the tables, and plans are short.
 pub mod SiteParts
 pub mod SameSites
 pub mod ThreeDemands
@@ -14,3 +14,5 @@ pub mod HandoverMarks
 pub mod ManyBoards
 pub mod TwoHalves
 pub mod SiteParameters
+pub mod SameLoads
+pub mod ShortPlans

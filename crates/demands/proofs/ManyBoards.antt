@@ -18,7 +18,7 @@ use Rattle.model.specs.Sites.{readGiven, Tables, tablesOf, alterTables, readTab
 use Rattle.model.specs.Windows.{spareFor, spare}
 use Rattle.model.specs.Steps.{sharesOf}
 use Rattle.model.specs.Checking.{figureOf, fitsFor, fits, checkFor, check}
-use Rattle.model.specs.Planning.{comesOut, afterReading, planFor, planning, Planned}
+use Rattle.model.specs.Planning.{comesOut, afterReading, stepLimit, planFor, planning, Planned}
 use Rattle.model.specs.Demands.{ValidTables}
 use Rattle.model.specs.Boards.{workingFrequencies, onBoard, Alike}
 use Rattle.model.proofs.Outcome.{answer-injective, andThen-answered}
@@ -303,11 +303,13 @@ module _ (one two : LimitedBoard) {processor other : Processor} (read-one : read
         checked ∙ ap answer (own ∙ sym its-own)
 
     planned-on : Planned (onBoard other site) intervals steps (figureOf (onBoard other site) plan) plan prices shares
+    unfolding stepLimit
     planned-on =
         record {
           interval-count = planned .interval-count;
           plan-size = planned .plan-size;
           step-count = planned .step-count;
+          few = planned .few;
           price-size = planned .price-size;
           accepted = check-site prices ∙ rw (planned .accepted);
           smallest = λ others e. planned .smallest others (accepted-here others e);

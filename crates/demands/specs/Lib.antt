@@ -1,6 +1,6 @@
 -- The three demands, for a reader who reads nothing else; rounds that repeat, idling that is not free, one spelling of a plan, the
--- running sum of the window test, what touches a span, handover marks, one plan for many boards, the check in two halves and site
--- parameters, over the calls.
+-- running sum of the window test, what touches a span, handover marks, one plan for many boards, the check in two halves, site
+-- parameters and short plans, over the calls.
 pub mod ThreeDemands
 pub mod RepeatedRounds
 pub mod IdlingIsNotFree
@@ -11,3 +11,4 @@ pub mod HandoverMarks
 pub mod ManyBoards
 pub mod TwoHalves
 pub mod SiteParameters
+pub mod ShortPlans

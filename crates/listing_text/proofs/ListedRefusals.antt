@@ -12,14 +12,17 @@ use Rattle.model.specs.Planning.{refusal, planning}
 use Rattle.model.specs.Demands.{LongEnough}
 use Rattle.model.proofs.Sites.{sites-are-valid}
 use Rattle.model.proofs.Demands.{long-enough-decides}
-use Rattle.planning.proofs.RoomSizes.{pairs-few}
+use Rattle.rooms.proofs.RoomSizes.{intervals-few, cells-few, limit-few}
 use Rattle.listing_text.specs.Listings.{planRoom, priceRoom, shareRoom, zeros}
 
 -- the buffers are long enough for any site
 long-enough : (site : Site) → ValidSite site → LongEnough site planRoom priceRoom shareRoom
 long-enough site valid =
-    let (pairs, intervals, shares) = pairs-few valid in
-    record { plan-room = omega arith; price-room = omega arith; share-room = omega arith }
+    record {
+      plan-room = omega (arith, limit-few valid);
+      price-room = omega (arith, intervals-few valid);
+      share-room = cells-few valid;
+    }
 
 length-zeros : (n : ℕ) → length (zeros n) ≡ n
 unfolding zeros

@@ -1,5 +1,5 @@
 -- The listing of a site from its tables in bytes, and the contract of writing it.
-use Prim.Native.Nat.{ℕ, _+_, _*_, _≤_}
+use Prim.Native.Nat.{ℕ, _+_, _-_, _*_, _≤_}
 use mathlib.Core.Path.{_≡_}
 use mathlib.Core.List.{List, [], _∷_, _++_}
 use lib.ListN.{length, take, drop, replicate}
@@ -23,9 +23,9 @@ abbrev pub marksOfFile : List ℕ → List ℕ
 marksOfFile [] = noMarks
 marksOfFile (byte ∷ bytes) = byte ∷ bytes
 
--- The lengths of the buffers for plan, prices and shares: always enough, since a job is at most open in every interval.
+-- The lengths of the buffers for plan, prices and shares: always enough, since a plan has at most jobs + intervals − 1 steps.
 abbrev pub planRoom : ℕ
-planRoom = 4 + 6 * maxJobs * maxIntervals
+planRoom = 4 + 6 * (maxJobs + maxIntervals - 1)
 
 abbrev pub priceRoom : ℕ
 priceRoom = 2 + 5 * maxIntervals

@@ -11,7 +11,7 @@ use planning::PlanAnswer;
 use planning::plan;
 
 // Long enough for the plan, the prices and the shares of any site.
-const PLAN_ROOM: usize = 4 + 6 * MAX_JOBS * MAX_INTERVALS;
+const PLAN_ROOM: usize = 4 + 6 * (MAX_JOBS + MAX_INTERVALS - 1);
 
 const PRICE_ROOM: usize = 2 + 5 * MAX_INTERVALS;
 

@@ -19,7 +19,7 @@ use Rattle.model.specs.Plans.{Shares}
 use Rattle.model.specs.Energy.{bandCycles, bandTotal}
 use Rattle.model.specs.Windows.{Window, earliestOverfull}
 use Rattle.model.specs.Checking.{jobSumFault, loadFault, fitting, entryFault, priceFault, cheaperFault, pricing, fitsFor, checkFor}
-use Rattle.model.specs.Planning.{PlanOutcome, unlessOverfull, planFor}
+use Rattle.model.specs.Planning.{PlanOutcome, unlessOverfull, stepLimit, planFor}
 use Rattle.model.specs.Boards.{workingFrequencies, onBoard, withFigureOf, Alike, BoardsAreAlike}
 use Rattle.model.proofs.Sum.{sum-cong, product-cong}
 use Rattle.model.proofs.Working.{working-top}
@@ -134,7 +134,7 @@ module _ (processor other : Processor) (rising : RisingPoints (allPoints process
 
   same-plans : (site : Site) (planRoom priceRoom shareRoom : ℕ)
       → planFor (onBoard other site) planRoom priceRoom shareRoom ≡ planFor (onBoard processor site) planRoom priceRoom shareRoom
-  unfolding planFor
+  unfolding stepLimit planFor
   same-plans site planRoom priceRoom shareRoom = same-window site _
 
   same-total : (site : Site) (shares : Shares) (k : ℕ)

@@ -8,6 +8,7 @@ use lib.ListN.{length}
 use Rattle.model.specs.Points.{points, pointAt}
 use Rattle.model.specs.Sites.{readGiven, alterTables, readSite}
 use Rattle.model.specs.Schedules.{Slot, idles, runs, IsGiven}
+use Rattle.model.specs.Planning.{stepLimit}
 use Rattle.model.specs.Hypotheses.{
   EveryLevels,
   EveryLevelTable,
@@ -125,5 +126,6 @@ every-given-table levelBytes jobBytes markBytes entries jobs marks levels-read j
     as-given-alters-nothing levelBytes jobBytes markBytes ∙ rw (levels-read, jobs-read, marks-read)
 
 pub every-buffer : EveryBuffer
+unfolding stepLimit
 every-buffer site planRoom priceRoom shareRoom plan-room price-room share-room =
-    record { plan-room = plan-room; price-room = price-room; share-room = share-room }
+    record { plan-room = omega arith; price-room = price-room; share-room = share-room }

@@ -19,7 +19,7 @@ use Rattle.model.specs.Intervals.{intervalCount, boundAt, lengthOf, Boun
 use Rattle.model.specs.Windows.{Window, earliestOverfull}
 use Rattle.model.specs.Energy.{intervalEnergy, exactEnergy, energyFigure}
 use Rattle.model.specs.Schedules.{Slot, idles, runs, slotPower, horizon, slotCount, slotPowers}
-use Rattle.model.specs.Planning.{PlanOutcome, unlessOverfull, planFor}
+use Rattle.model.specs.Planning.{PlanOutcome, unlessOverfull, stepLimit, planFor}
 use Rattle.model.specs.IdleDraw.{
   IdlingIsAPoint,
   Works,
@@ -123,7 +123,7 @@ schedules-pay-the-draw idlePower levels jobs schedule =
     sum-cong (slotCount schedule) (λ s below. slot-pays idlePower levels (schedule .slot s)) ∙ simp (sum-add, sum-mul-left)
 
 pub draw-moves-no-window : DrawMovesNoWindow
-unfolding planFor
+unfolding stepLimit planFor
 draw-moves-no-window idlePower site planRoom priceRoom shareRoom = go (earliestOverfull (topOf (site .processor)) (site .jobs)) _
   where
     go : (window : Option Window) (next : PlanOutcome) → unlessOverfull (withIdlePower idlePower site) window next ≡ unlessOverfull site window next

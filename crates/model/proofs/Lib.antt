@@ -16,6 +16,7 @@ pub mod Marks
 pub mod MarkedBounds
 pub mod Intervals
 pub mod OpenSets
+pub mod StepLimit
 pub mod Windows
 pub mod Points
 pub mod LevelTables

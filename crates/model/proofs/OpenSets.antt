@@ -98,3 +98,7 @@ module _ (bounds : List ℕ) (jobs : List Job) where
   pub open-pairs-few : openPairs bounds jobs ≤ intervalCount bounds * length jobs
   unfolding openPairs
   open-pairs-few = sum-at-most (intervalCount bounds) (length jobs) (λ i below. open-count-few i)
+
+  -- without jobs no pair is open
+  pub open-pairs-none : length jobs ≡ 0 → openPairs bounds jobs ≡ 0
+  open-pairs-none none = let few = rw none at open-pairs-few in omega (arith, few)

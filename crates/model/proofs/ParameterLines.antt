@@ -23,11 +23,11 @@ use Rattle.model.specs.PriceBytes.{pricesOf}
 use Rattle.model.specs.Sites.{readGiven, alterTables, readTables, readSite}
 use Rattle.model.specs.SiteParameters.{alterLevels, marginOn, alteredJob, alteredFault, alterJobs, asGiven}
 use Rattle.model.specs.Checking.{stepFault, jobSumFault, loadFault, fitting, entryFault, priceFault, cheaperFault, pricing, fitsFor, fits, checkFor, check}
-use Rattle.model.specs.Planning.{planFor, planning}
+use Rattle.model.specs.Planning.{stepLimit, planFor, planning}
 use Rattle.model.specs.ParameterLines.{ParameterLines}
 
 pub parameter-lines : ParameterLines
-unfolding readMarks encodeMarks insertMarks boundsWith earliestRelease latestDeadline readGiven alterLevels marginOn alteredJob alteredFault alterJobs asGiven alterTables readTables byEntryFrom numberAt bytesOf listOf encodeEach readLevels levelAt faultOfLevel runningFault tableFault encodeLevels readJobs jobAt faultOfJob encodeJobs sum product someBelow firstFrom leastBelow points drops dropped selectFrom working gap rise scale price bandOf settingOf setting insertTime boundsOf lengthOf cyclesInside spareOf isOverfull overfullTo earliestStart earliestEnd earliestOverfull spare load bandCycles intervalEnergy exactEnergy bandTotal energyFigure isOpen fitsLoad stepAt sharesOf pricesOf stepFault jobSum jobSumFault loadFault fitting entryFault priceFault cheaperFault pricing readSite fitsFor fits checkFor check openCount openPairs planFor planning
+unfolding readMarks encodeMarks insertMarks boundsWith earliestRelease latestDeadline readGiven alterLevels marginOn alteredJob alteredFault alterJobs asGiven alterTables readTables byEntryFrom numberAt bytesOf listOf encodeEach readLevels levelAt faultOfLevel runningFault tableFault encodeLevels readJobs jobAt faultOfJob encodeJobs sum product someBelow firstFrom leastBelow points drops dropped selectFrom working gap rise scale price bandOf settingOf setting insertTime boundsOf lengthOf cyclesInside spareOf isOverfull overfullTo earliestStart earliestEnd earliestOverfull spare load bandCycles intervalEnergy exactEnergy bandTotal energyFigure isOpen fitsLoad stepAt sharesOf pricesOf stepFault jobSum jobSumFault loadFault fitting entryFault priceFault cheaperFault pricing readSite fitsFor fits checkFor check openCount openPairs stepLimit planFor planning
 parameter-lines =
     record {
       no-level = refl;

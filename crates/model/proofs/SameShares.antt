@@ -1,4 +1,4 @@
--- What is asked of shares and prices, and the energy of shares, only look at the jobs and the intervals that there are.
+-- What is asked of shares and prices only looks at the jobs and the intervals that there are, and the energy of shares at the loads.
 -- Assumes nothing.
 use mathlib.Core.Path.{_≡_, _∙_, ap}
 use mathlib.Core.List.{List}
@@ -14,6 +14,24 @@ use Rattle.model.specs.Bands.{bandCount, rise, gap}
 use Rattle.model.specs.Energy.{intervalEnergy, exactEnergy, bandTotal, energyFigure}
 use Rattle.model.specs.Prices.{PriceList, FittingPrices}
 use Rattle.model.proofs.Sum.{sum-cong}
+
+module _ (jobs : List Job) (bounds : List ℕ) (a b : Shares)
+    (same : (i : ℕ) → i < intervalCount bounds → load jobs b i ≡ load jobs a i) where
+  pub exact-loads : (ws : List Point) → exactEnergy ws jobs bounds b ≡ exactEnergy ws jobs bounds a
+  unfolding exactEnergy
+  exact-loads ws = sum-cong (intervalCount bounds) (λ i below. ap (intervalEnergy ws (lengthOf bounds i)) (same i below))
+
+  band-loads : (ws : List Point) (k : ℕ) → bandTotal ws jobs bounds b k ≡ bandTotal ws jobs bounds a k
+  unfolding bandTotal
+  band-loads ws k = sum-cong (intervalCount bounds) (λ i below. rw (same i below))
+
+  pub figure-loads : (ws : List Point) → energyFigure ws jobs bounds b ≡ energyFigure ws jobs bounds a
+  unfolding energyFigure
+  figure-loads ws =
+      let bands : sum (bandCount ws) (λ k. bandTotal ws jobs bounds b k * rise ws k / gap ws k)
+      ≡ sum (bandCount ws) (λ k. bandTotal ws jobs bounds a k * rise ws k / gap ws k) =
+      sum-cong (bandCount ws) (λ k below. ap (λ (cycles : ℕ). cycles * rise ws k / gap ws k) (band-loads ws k)) in
+      rw bands
 
 module _ (jobs : List Job) (bounds : List ℕ) (a b : Shares)
     (same : (i j : ℕ) → i < intervalCount bounds → j < length jobs → b i j ≡ a i j) where
@@ -41,17 +59,7 @@ module _ (jobs : List Job) (bounds : List ℕ) (a b : Shares)
       }
 
   pub exact-same : (ws : List Point) → exactEnergy ws jobs bounds b ≡ exactEnergy ws jobs bounds a
-  unfolding exactEnergy
-  exact-same ws = sum-cong (intervalCount bounds) (λ i below. ap (intervalEnergy ws (lengthOf bounds i)) (load-same i below))
-
-  band-same : (ws : List Point) (k : ℕ) → bandTotal ws jobs bounds b k ≡ bandTotal ws jobs bounds a k
-  unfolding bandTotal
-  band-same ws k = sum-cong (intervalCount bounds) (λ i below. rw (load-same i below))
+  exact-same = exact-loads jobs bounds a b load-same
 
   pub figure-same : (ws : List Point) → energyFigure ws jobs bounds b ≡ energyFigure ws jobs bounds a
-  unfolding energyFigure
-  figure-same ws =
-      let bands : sum (bandCount ws) (λ k. bandTotal ws jobs bounds b k * rise ws k / gap ws k)
-      ≡ sum (bandCount ws) (λ k. bandTotal ws jobs bounds a k * rise ws k / gap ws k) =
-      sum-cong (bandCount ws) (λ k below. ap (λ (cycles : ℕ). cycles * rise ws k / gap ws k) (band-same ws k)) in
-      rw bands
+  figure-same = figure-loads jobs bounds a b load-same

@@ -6,7 +6,7 @@ use mathlib.Core.List.{[], _∷_}
 use Prim.Native.Nat.{ℕ}
 use borrow.Author.Tests.{eqb-true}
 use Rattle.model.specs.SiteLines.{job, T, full, pLines, workedLines, sameNumber, holds, allHold}
-use Rattle.model.specs.ChangeLines.{drawLines, markLines, boardLines, halvesPlan, earlyPlan, halfLines}
+use Rattle.model.specs.ChangeLines.{drawLines, markLines, boardLines, halvesPlan, earlyPlan, halfLines, limitLines}
 use Rattle.model.specs.Outcome.{Outcome, refused, answer, byEntryFrom}
 use Rattle.model.specs.Bytes.{numberAt, bytesOf}
 use Rattle.model.specs.Entries.{listOf, encodeEach}
@@ -42,13 +42,13 @@ use Rattle.model.specs.Checking.{
   checkFor,
   check,
 }
-use Rattle.model.specs.Planning.{planFor, planning}
+use Rattle.model.specs.Planning.{stepLimit, planFor, planning}
 use Rattle.model.proofs.Numbers.{both-true}
 
 pub lines-hold : (allHold pLines ≡ true) × (allHold workedLines ≡ true) × (allHold drawLines ≡ true) × (allHold markLines ≡ true)
-    × (allHold boardLines ≡ true) × (allHold halfLines ≡ true)
-unfolding allHold sameNumber holds pLines workedLines drawLines markLines boardLines halfLines readMarks encodeMarks insertMarks boundsWith earliestRelease latestDeadline readGiven alterLevels marginOn alteredJob alteredFault alterJobs asGiven alterTables readTables byEntryFrom numberAt bytesOf listOf encodeEach readLevels levelAt faultOfLevel runningFault tableFault encodeLevels readJobs jobAt faultOfJob encodeJobs sum product someBelow firstFrom leastBelow points drops dropped selectFrom working gap rise scale price bandOf settingOf setting insertTime boundsOf lengthOf cyclesInside spareOf isOverfull overfullTo earliestStart earliestEnd earliestOverfull spare load bandCycles intervalEnergy exactEnergy bandTotal energyFigure isOpen fitsLoad stepAt sharesOf pricesOf stepFault jobSum jobSumFault loadFault fitting entryFault priceFault cheaperFault pricing readSite fitsFor fits checkFor check openCount openPairs planFor planning
-lines-hold = (refl, refl, refl, refl, refl, refl)
+    × (allHold boardLines ≡ true) × (allHold halfLines ≡ true) × (allHold limitLines ≡ true)
+unfolding allHold sameNumber holds pLines workedLines drawLines markLines boardLines halfLines limitLines readMarks encodeMarks insertMarks boundsWith earliestRelease latestDeadline readGiven alterLevels marginOn alteredJob alteredFault alterJobs asGiven alterTables readTables byEntryFrom numberAt bytesOf listOf encodeEach readLevels levelAt faultOfLevel runningFault tableFault encodeLevels readJobs jobAt faultOfJob encodeJobs sum product someBelow firstFrom leastBelow points drops dropped selectFrom working gap rise scale price bandOf settingOf setting insertTime boundsOf lengthOf cyclesInside spareOf isOverfull overfullTo earliestStart earliestEnd earliestOverfull spare load bandCycles intervalEnergy exactEnergy bandTotal energyFigure isOpen fitsLoad stepAt sharesOf pricesOf stepFault jobSum jobSumFault loadFault fitting entryFault priceFault cheaperFault pricing readSite fitsFor fits checkFor check openCount openPairs stepLimit planFor planning
+lines-hold = (refl, refl, refl, refl, refl, refl, refl)
 
 -- an outcome that a line says to be a number is that answer
 answered : (outcome : Outcome ℕ) (wanted : ℕ) → sameNumber outcome wanted ≡ true → outcome ≡ answer wanted

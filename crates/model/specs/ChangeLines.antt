@@ -1,5 +1,5 @@
--- Lines of document 02's changes, in the form of SiteLines: Change 2 (idle draw), 6 (handover marks), 7 (boards) and 8 (the check's
--- halves). That every line holds is proved in proofs/SiteLines.antt, with those of document 01, by computing the definitions.
+-- Lines of document 02's changes, in the form of SiteLines: Change 2 (idle draw), 6 (handover marks), 7 (boards), 8 (the check's
+-- halves) and 10 (short plans). That every line holds is proved in proofs/SiteLines.antt, with those of document 01, by computing the definitions.
 use Prim.Native.Nat.{ℕ, zero, suc}
 use mathlib.Core.List.{List, [], _∷_}
 use Rattle.model.specs.declared.Level.{Level}
@@ -185,4 +185,26 @@ halfLines =
     ∷ failsIn T (job 0 2 4 ∷ []) (1 ∷ []) [] 15 0
     ∷ failsIn T (job 0 2 4 ∷ []) (1 ∷ 1 ∷ []) [] 34 0
     ∷ fitsIn T [] [] (0 ∷ 0 ∷ 0 ∷ 0 ∷ []) 0
+    ∷ []
+
+-- Lines of document 02, Change 10.
+unfoldable pub limitLines : List SiteLine
+limitLines =
+    -- T, jobs 0 4 6 and 2 3 4: 2 jobs, 3 intervals and 4 pairs, so that both numbers are 4
+    plansMarked T (job 0 4 6 ∷ job 2 3 4 ∷ []) [] 28 17 6
+    ∷ wantsMarked T (job 0 4 6 ∷ job 2 3 4 ∷ []) [] 27 17 6 12 28
+    -- one job after the other: 2 pairs, and 2 + 2 − 1 is 3
+    ∷ plansMarked T (job 0 2 4 ∷ job 2 4 4 ∷ []) [] 16 12 4
+    ∷ wantsMarked T (job 0 2 4 ∷ job 2 4 4 ∷ []) [] 15 12 4 12 16
+    -- two equal jobs with a mark between: 4 pairs, and 2 + 2 − 1 is 3
+    ∷ plansMarked T (job 0 2 4 ∷ job 0 2 4 ∷ []) (1 ∷ []) 22 12 4
+    ∷ wantsMarked T (job 0 2 4 ∷ job 0 2 4 ∷ []) (1 ∷ []) 21 12 4 12 22
+    -- three with two marks: 9 pairs, and 3 + 3 − 1 is 5
+    ∷ plansMarked T (job 0 3 4 ∷ job 0 3 4 ∷ job 0 3 4 ∷ []) (1 ∷ 2 ∷ []) 34 17 9
+    ∷ wantsMarked T (job 0 3 4 ∷ job 0 3 4 ∷ job 0 3 4 ∷ []) (1 ∷ 2 ∷ []) 33 17 9 12 34
+    -- one job in one interval; no jobs, with marks or without
+    ∷ plansMarked T (job 0 2 4 ∷ []) [] 10 7 1
+    ∷ wantsMarked T (job 0 2 4 ∷ []) [] 9 7 1 12 10
+    ∷ plansMarked T [] [] 4 2 0
+    ∷ wantsMarked T [] (3 ∷ []) 3 2 0 12 4
     ∷ []

@@ -1,7 +1,7 @@
 -- The hypotheses of the theorems shut nothing out. What a theorem asks of tables, sites, bounds and schedules is a record;
 -- here each is built from document 01's own words, for every table, site, list of bounds and schedule that they fit, so that
 -- no further condition can stand in it. Proved in proofs/Hypotheses.antt.
-use Prim.Native.Nat.{ℕ, suc, _+_, _*_, _<_, _≤_}
+use Prim.Native.Nat.{ℕ, suc, _+_, _-_, _*_, _<_, _≤_, min}
 use mathlib.Core.Path.{_≡_}
 use mathlib.Core.Logic.{_⊎_}
 use mathlib.Core.List.{List, _∷_}
@@ -126,9 +126,11 @@ EveryGivenTable =
     → readLevels levelBytes ≡ answer entries → readJobs jobBytes ≡ answer jobs → readMarks markBytes ≡ answer marks
     → ValidTables levelBytes jobBytes markBytes (asGiven levelBytes) (siteOf (tablesOf (record { levels = entries; jobs = jobs })) marks)
 
--- "Buffers [are] long enough when none of 12 to 14" holds: 4 + 6K bytes, 2 + 5N bytes and n × N shares are enough.
+-- "Buffers [are] long enough when none of 12 to 14" holds: 4 + 6 × the smaller of jobs + intervals − 1 and K bytes, 2 + 5N bytes and
+-- n × N shares are enough.
 abbrev pub EveryBuffer : Type 0
 EveryBuffer =
-    (site : Site) (planRoom priceRoom shareRoom : ℕ) → 4 + 6 * openPairs (site .bounds) (site .jobs) ≤ planRoom
+    (site : Site) (planRoom priceRoom shareRoom : ℕ)
+    → 4 + 6 * min (length (site .jobs) + intervalCount (site .bounds) - 1) (openPairs (site .bounds) (site .jobs)) ≤ planRoom
     → 2 + 5 * intervalCount (site .bounds) ≤ priceRoom → length (site .jobs) * intervalCount (site .bounds) ≤ shareRoom
     → LongEnough site planRoom priceRoom shareRoom

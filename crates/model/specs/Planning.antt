@@ -1,5 +1,5 @@
 -- Planning (document 01, "Planning"): its refusals, and what a plan that comes out is.
-use Prim.Native.Nat.{ℕ, _+_, _*_, _<_, _≤_}
+use Prim.Native.Nat.{ℕ, _+_, _-_, _*_, _<_, _≤_, min}
 use mathlib.Core.Path.{_≡_}
 use mathlib.Core.Bool.{cond}
 use mathlib.Core.List.{List}
@@ -38,9 +38,14 @@ unlessOverfull site none next = next
 abbrev pub wants : (number wanted room : ℕ) → PlanOutcome → PlanOutcome
 wants number wanted room next = cond (ltb room wanted) (refusal number wanted) next
 
--- The lengths wanted: 4 + 6K bytes of the plan, 2 + 5N of the prices, and n × N shares.
+-- How many steps a plan may have: "the smaller of" jobs + intervals − 1 "and K" (document 02, Change 10). Without jobs it is 0: there are no
+-- pairs, and subtraction ends at 0.
+unfoldable pub stepLimit : Site → ℕ
+stepLimit site = min (length (site .jobs) + intervalCount (site .bounds) - 1) (openPairs (site .bounds) (site .jobs))
+
+-- The lengths wanted: 4 + 6 × that limit bytes of the plan, "and 4 bytes for no jobs", 2 + 5N of the prices, and n × N shares.
 abbrev pub planLength : Site → ℕ
-planLength site = 4 + 6 * openPairs (site .bounds) (site .jobs)
+planLength site = 4 + 6 * stepLimit site
 
 abbrev pub priceLength : Site → ℕ
 priceLength site = 2 + 5 * intervalCount (site .bounds)
@@ -48,7 +53,7 @@ priceLength site = 2 + 5 * intervalCount (site .bounds)
 abbrev pub shareCount : Site → ℕ
 shareCount site = length (site .jobs) * intervalCount (site .bounds)
 
--- 11. 12: plan buffer under 4 + 6K bytes. 13: price buffer under 2 + 5N. 14: shares table under n × N numbers.
+-- 11. 12: plan buffer under 4 + 6 × the step limit bytes. 13: price buffer under 2 + 5N. 14: shares table under n × N numbers.
 unfoldable pub planFor : Site → (planRoom priceRoom shareRoom : ℕ) → PlanOutcome
 planFor site planRoom priceRoom shareRoom =
     unlessOverfull site (earliestOverfull (topOf (site .processor)) (site .jobs))
@@ -69,6 +74,8 @@ pub record Planned (site : Site) (intervals steps energy : ℕ) (plan prices sha
   pub interval-count : intervals ≡ intervalCount (site .bounds)
   pub plan-size : length plan ≡ 4 + 6 * steps
   pub step-count : stepCount plan ≡ steps
+  -- "A planned site with at least one job must use at most jobs + intervals − 1 steps", and no plan has more than K
+  pub few : steps ≤ stepLimit site
   pub price-size : length prices ≡ 2 + 5 * intervals
   -- the check of exactly the bytes written accepts them and answers the same energy figure
   pub accepted : checkFor site plan prices ≡ answer energy

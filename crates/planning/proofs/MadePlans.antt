@@ -2,24 +2,29 @@
 -- Assumes nothing.
 use mathlib.Core.Path.{_≡_}
 use mathlib.Core.List.{List, _++_}
-use Prim.Native.Nat.{ℕ, suc, _+_, _*_, _^_, _<_, _≤_}
+use Prim.Native.Nat.{ℕ, suc, _+_, _-_, _*_, _^_, _<_, _≤_}
 use native.Mathlib.Nat.{mul-le-mul-left}
 use native.Mathlib.Omega.{arith}
+use lib.Dec.{ltb}
 use lib.ListN.{length, getD, take, drop, length-take}
 use lib.Seq.{take-at, drop-at, getD-take}
 use Rattle.model.specs.declared.Job.{Job}
 use Rattle.model.specs.Points.{Point}
 use Rattle.model.specs.Processors.{workingOf, topOf}
+use Rattle.model.specs.Sum.{sum, onlyIf}
 use Rattle.model.specs.Intervals.{boundAt, intervalCount, openPairs}
 use Rattle.model.specs.Sites.{Site, ValidSite}
+use Rattle.model.specs.Planning.{stepLimit}
 use Rattle.model.specs.Demands.{LongEnough}
 use Rattle.model.specs.Plans.{Gives, load, sharesIn}
 use Rattle.model.specs.Prices.{PriceList, FittingPrices}
+use Rattle.model.proofs.StepLimit.{within-limit}
 use Rattle.levels.specs.PointTables.{pointsOf}
 use Rattle.site.specs.declared.SiteTable.{SiteTable}
 use Rattle.energy.specs.Figures.{figureOfLoads}
 use Rattle.writing.specs.StepList.{stepsOf}
 use Rattle.price_writing.specs.PriceListBytes.{encodePrices}
+use Rattle.writing.proofs.CellOrder.{step-total}
 use Rattle.writing.proofs.WrittenPlan.{planOf, few-steps}
 use Rattle.price_writing.proofs.WrittenPrices.{length-price-list}
 use Rattle.writing.proofs.EncodedPlan.{length-plan}
@@ -27,11 +32,11 @@ use Rattle.workloads.specs.Workloads.{Workload}
 use Rattle.workloads.specs.Arrays.{numbersIn, problemIn, KeptPast}
 use Rattle.workloads.specs.Placement.{SmallestPriced}
 use Rattle.planner.specs.PlacedTables.{PlacedTables}
+use Rattle.rooms.proofs.RoomSizes.{limit-few}
 use Rattle.planning.specs.SiteArrays.{InArrays}
 use Rattle.planning.specs.MadePlans.{MadePlan}
 use Rattle.planning.proofs.SiteArrays.{SiteWorkload, points-held, held-times, held-ends, time-at}
 use Rattle.planning.proofs.Placeable.{jobs-counted, intervals-counted, workload-gives, smallest-prices-fit, smallest-prices-least}
-use Rattle.planning.proofs.RoomSizes.{pairs-few}
 use Rattle.planning.proofs.WrittenSite.{plan-planned}
 
 module _ {site : Site} {table : SiteTable} {cycles times first last sets : List ℕ}
@@ -66,9 +71,16 @@ module _ {site : Site} {work : Workload} (valid : ValidSite site) (made : SiteWo
   gives : Gives (topOf (site .processor)) jobs (site .bounds) (sharesIn (length jobs) table)
   gives = rw jobs-are at (workload-gives valid made tables)
 
-  -- the steps are at most the open pairs
-  pub steps-few : length (stepsOf (work .jobs) (work .intervals) (sharesIn (work .jobs) table)) ≤ openPairs (site .bounds) jobs
-  steps-few = rw (jobs-are, intervals-are) (few-steps jobs (site .bounds) (sharesIn (length jobs) table) (gives .shut))
+  -- where few cells have a share, the steps are within the limit
+  pub steps-few : sum (work .intervals) (λ i. sum (work .jobs) (λ j. onlyIf (ltb 0 (sharesIn (work .jobs) table i j)) 1)) ≤ work .jobs + work .intervals - 1
+      → length (stepsOf (work .jobs) (work .intervals) (sharesIn (work .jobs) table)) ≤ stepLimit site
+  steps-few short =
+      let steps : ℕ = length (stepsOf (work .jobs) (work .intervals) (sharesIn (work .jobs) table)) in
+      let cells : steps ≤ length jobs + intervalCount (site .bounds) - 1 =
+      omega (arith, step-total (work .jobs) (work .intervals) (sharesIn (work .jobs) table), jobs-are, intervals-are) in
+      let pairs : steps ≤ openPairs (site .bounds) jobs =
+      rw (jobs-are, intervals-are) (few-steps jobs (site .bounds) (sharesIn (length jobs) table) (gives .shut)) in
+      within-limit site steps cells pairs
 
   loaded : (i : ℕ) → i < intervalCount (site .bounds) → getD loads i 0 ≡ load jobs (sharesIn (length jobs) table) i
   unfolding load
@@ -92,6 +104,7 @@ module _ {site : Site} {work : Workload} (valid : ValidSite site) (made : SiteWo
     module _ {site-table : SiteTable} {cycles times first last sets : List ℕ}
         (held : InArrays site site-table cycles times first last sets) (steps energy : ℕ)
         (plan₀ prices₀ shares₀ plan prices : List ℕ) (kept : KeptPast (work .intervals * work .jobs) shares₀ table)
+        (short : sum (work .intervals) (λ i. sum (work .jobs) (λ j. onlyIf (ltb 0 (sharesIn (work .jobs) table i j)) 1)) ≤ work .jobs + work .intervals - 1)
         (steps-are : steps ≡ length (stepsOf (work .jobs) (work .intervals) (sharesIn (work .jobs) table)))
         (plan-is : plan ≡ planOf (work .jobs) (work .intervals) (sharesIn (work .jobs) table) ++ drop (4 + 6 * steps) plan₀)
         (prices-are : prices ≡ encodePrices (work .intervals) (λ i. getD times (suc i) 0) counted
@@ -125,7 +138,8 @@ module _ {site : Site} {work : Workload} (valid : ValidSite site) (made : SiteWo
               rw (plan-first, list-first, intervals-are)
               (plan-planned site valid (sharesIn (length jobs) table) gives counted byte
               fitting least (λ i. getD times (suc i) 0) (ends-held held) loads loaded steps energy
-              (take (length jobs * intervalCount (site .bounds)) table) (rw (jobs-are, intervals-are) at steps-are) figure-is table-size table-at);
+              (take (length jobs * intervalCount (site .bounds)) table) (rw (jobs-are, intervals-are) at steps-are) within
+              figure-is table-size table-at);
           plan-kept =
               rw plan-is
               (drop-at (planOf (work .jobs) (work .intervals) (sharesIn (work .jobs) table)) (drop (4 + 6 * steps) plan₀) (4 + 6 * steps) plan-size);
@@ -135,9 +149,12 @@ module _ {site : Site} {work : Workload} (valid : ValidSite site) (made : SiteWo
           shares-kept = rw size at (kept .same-rest);
         };
         intervals-fit = omega (arith, made .sound .intervals-most);
-        steps-fit = omega (arith, steps-few, steps-are, pairs-few valid .0);
+        steps-fit = omega (arith, within, limit-few valid);
       }
         where
+          within : steps ≤ stepLimit site
+          within = rw steps-are (steps-few short)
+
           table-size : length (take (length jobs * intervalCount (site .bounds)) table) ≡ length jobs * intervalCount (site .bounds)
           table-size =
               let room : length jobs * intervalCount (site .bounds) ≤ length table = rw (size, intervals-are) at (tables .stored .table-length) in

@@ -39,7 +39,7 @@ module _ {site : Site} {work : Workload} (valid : ValidSite site) (made : SiteWo
   curve = working-curve (allPoints (site .processor)) (valid .processor .rising)
 
   -- the last working point has the top frequency
-  top-point : frequencyOf ws (bandCount ws) ≡ topOf (site .processor)
+  pub top-point : frequencyOf ws (bandCount ws) ≡ topOf (site .processor)
   top-point = working-top (site .processor .idlePower) (site .processor .levels) (valid .processor .rising)
 
   pub jobs-counted : work .jobs ≡ length jobs

@@ -142,12 +142,6 @@ module _ {site : Site} {table : SiteTable} {cycles times first last sets : List 
       (λ j below. refl)
       (λ j past. ap (λ (job : Job). job .cycles) (getD-past (site .jobs) j noJob (omega (arith, held .jobs-counted)))) j
 
-  -- the members of its open sets are jobs
-  pub open-jobs : (intervals : ℕ) → intervals ≡ table .bounds - 1
-      → (i j : ℕ) → i < intervals → isMember (setIn sets i) j ≡ true → j < table .jobs
-  open-jobs intervals are i j inside member =
-      omega (arith, held .jobs-counted, held .open-are .only i j (omega (arith, intervals-counted)) member)
-
   -- they hold what the window test asks for
   pub test-arrays : (intervals : ℕ) → intervals ≡ table .bounds - 1 → TestArrays (site .jobs) (site .bounds) times cycles sets intervals
   test-arrays intervals are = record {

@@ -18,7 +18,7 @@ use Rattle.model.specs.Steps.{stepCount, sharesOf}
 use Rattle.model.specs.PriceBytes.{pricesOf}
 use Rattle.model.specs.Checking.{figureOf}
 use Rattle.model.specs.Accepted.{Accepted}
-use Rattle.model.specs.Planning.{Planned}
+use Rattle.model.specs.Planning.{stepLimit, Planned}
 use Rattle.model.proofs.Sum.{sum-term}
 use Rattle.model.proofs.SameShares.{load-same, gives-same, prices-same}
 use Rattle.model.proofs.Accepted.{check-accepts}
@@ -88,16 +88,17 @@ module _ (site : Site) (valid : ValidSite site) where
         figure-of-plan ws jobs bounds loads (sharesOf plan)
         (λ i below. loaded i below ∙ sym (load-same jobs bounds shares (sharesOf plan) same i below))
 
-    pub plan-planned : (steps energy : ℕ) (table : List ℕ) → steps ≡ length (stepsOf (length jobs) N shares)
+    pub plan-planned : (steps energy : ℕ) (table : List ℕ) → steps ≡ length (stepsOf (length jobs) N shares) → steps ≤ stepLimit site
         → energy ≡ figureOfLoads ws bounds loads → length table ≡ length jobs * N
         → ((i j : ℕ) → i < N → j < length jobs → getD table (i * length jobs + j) 0 ≡ shares i j)
         → Planned site N steps energy plan list table
-    plan-planned steps energy table steps-are energy-is sized held =
+    plan-planned steps energy table steps-are few-are energy-is sized held =
         let counted : stepCount plan ≡ steps = written-count (length jobs) N shares few intervals-few fit ∙ sym steps-are in
         record {
           interval-count = refl;
           plan-size = rw (← counted) (written-length (length jobs) N shares few intervals-few fit);
           step-count = counted;
+          few = few-are;
           price-size = length-price-list N ends prices;
           accepted = check-accepts site plan list energy .1 (accepted, energy-is ∙ figure);
           smallest = λ others e i below.

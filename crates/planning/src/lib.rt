@@ -1,7 +1,7 @@
-// Planning: the operation; inside it how long the buffers must be, and the plan that is made.
+// Planning: the operation, and inside it the plan that is made.
 mod making;
 mod operation;
-mod rooms;
+mod placing;
 
 pub use operation::PlanAnswer;
 pub use operation::plan;

@@ -6,13 +6,13 @@ ghost use Rattle.model.specs.Limits.{maxIntervals};
 ghost use Rattle.model.specs.Sites.{Site};
 ghost use Rattle.reading.specs.Column.{columnOf};
 ghost use Rattle.planning.specs.MadePlans.{CanMake, MadePlan};
+use crate::placing::place_short;
 use energy::energy_figure;
 use intervals::interval_count;
 use job_sets::SET_WORDS;
 use model::MAX_BOUNDS;
 use model::MAX_INTERVALS;
 use model::MAX_JOBS;
-use planner::place;
 use price_writing::write_prices;
 use prices::smallest_prices;
 use site::SiteTable;
@@ -54,7 +54,7 @@ pub(crate) fn make_plan(
     let mut numbers = [0u8; MAX_INTERVALS];
     let mut holders = [0u64; SET_WORDS];
     sizes(times, intervals, &mut size);
-    place(
+    place_short(
         jobs,
         intervals,
         bands,

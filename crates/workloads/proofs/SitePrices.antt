@@ -23,7 +23,7 @@ use Rattle.model.proofs.Numbers.{lt-or-le, true≢false, both-true}
 use Rattle.model.proofs.Intervals.{length-positive}
 use Rattle.model.proofs.LeastEnergy.{fitting-is-between}
 use Rattle.workloads.specs.Workloads.{Workload}
-use Rattle.workloads.specs.Placement.{Priced, SmallestPriced}
+use Rattle.workloads.specs.Placement.{OnlyOpen, Priced, SmallestPriced}
 use Rattle.workloads.specs.RangesFit.{isWithin, RangesFit}
 use Rattle.workloads.specs.SiteProblem.{problemOf}
 use Rattle.workloads.specs.Arrays.{numbersIn, problemIn}
@@ -66,41 +66,47 @@ module _ {ws : List Point} {jobs : List Job} {bounds : List ℕ} {first last : �
       go (inl more) = absurd (true≢false (sym (window-overfull curve B ranges is-top order inside more) ∙ fits _ _))
       go (inr enough) = enough
 
+  -- prices that fit are, counted from 0, fitting for what is placed
+  module _ {shares : Shares} (shut : OnlyOpen (problemOf ws jobs bounds first last) shares)
+      (most : (i : ℕ) → i < intervalCount bounds → load jobs shares i ≤ lengthOf bounds i * frequencyOf ws (bandCount ws))
+      {prices : PriceList} (fitting : FittingPrices ws jobs bounds shares prices) where
+    pub counted : (i : ℕ) → i < intervalCount bounds → prices i ≡ suc (prices i - 1)
+    counted i inside =
+        let some = leb-true 1 (prices i) (both-true (leb 1 (prices i)) (leb (prices i) (bandCount ws)) (fitting .number i inside) .0) in
+        omega arith
+
+    between : (i : ℕ) → i < intervalCount bounds
+        → (prices i - 1 < bandCount ws)
+        × (lengthOf bounds i * frequencyOf ws (prices i - 1) ≤ load jobs shares i)
+        × (load jobs shares i ≤ lengthOf bounds i * frequencyOf ws (suc (prices i - 1)))
+    between i inside =
+        fitting-is-between ws curve (lengthOf bounds i) (load jobs shares i) (length-positive B i inside) (most i inside) (prices i - 1) .0
+        (rw (← counted i inside, fitting .number i inside, fitting .fits i inside))
+
+    pub fitting-priced : Priced (problemOf ws jobs bounds first last) shares (λ i. prices i - 1)
+    unfolding load
+    fitting-priced =
+        record {
+          shut = shut;
+          band = λ i inside. between i inside .0;
+          low = λ i inside. between i inside .1;
+          high = λ i inside. between i inside .2;
+          cheapest = λ i other j inside next below share is-open.
+              let order = fitting .cheapest i other j inside next below share (open-iff curve B ranges other j next below .1 is-open) in
+              omega arith;
+        }
+
   module _ {shares : Shares} {prices : ℕ → ℕ} (smallest : SmallestPriced (problemOf ws jobs bounds first last) shares prices) where
     -- the smallest prices fit, counted from 1
     pub smallest-fit : FittingPrices ws jobs bounds shares (λ i. suc (prices i))
     smallest-fit = priced-fit curve B ranges (smallest .priced)
 
-    module _ (others : PriceList) (fitting : FittingPrices ws jobs bounds shares others) where
-      counted : (i : ℕ) → i < intervalCount bounds → others i ≡ suc (others i - 1)
-      counted i inside =
-          let some = leb-true 1 (others i) (both-true (leb 1 (others i)) (leb (others i) (bandCount ws)) (fitting .number i inside) .0) in
-          omega arith
+    most : (i : ℕ) → i < intervalCount bounds → load jobs shares i ≤ lengthOf bounds i * frequencyOf ws (bandCount ws)
+    unfolding load
+    most = load-most (problem-sound curve B ranges) (smallest .priced)
 
-      between : (i : ℕ) → i < intervalCount bounds
-          → (others i - 1 < bandCount ws)
-          × (lengthOf bounds i * frequencyOf ws (others i - 1) ≤ load jobs shares i)
-          × (load jobs shares i ≤ lengthOf bounds i * frequencyOf ws (suc (others i - 1)))
-      unfolding load
-      between i inside =
-          fitting-is-between ws curve (lengthOf bounds i) (load jobs shares i) (length-positive B i inside)
-          (load-most (problem-sound curve B ranges) (smallest .priced) i inside) (others i - 1) .0
-          (rw (← counted i inside, fitting .number i inside, fitting .fits i inside))
-
-      -- and other prices that fit are fitting for what is placed
-      others-priced : Priced (problemOf ws jobs bounds first last) shares (λ i. others i - 1)
-      unfolding load
-      others-priced =
-          record {
-            shut = smallest .priced .shut;
-            band = λ i inside. between i inside .0;
-            low = λ i inside. between i inside .1;
-            high = λ i inside. between i inside .2;
-            cheapest = λ i other j inside next below share is-open.
-                let order = fitting .cheapest i other j inside next below share (open-iff curve B ranges other j next below .1 is-open) in
-                omega arith;
-          }
-
-      -- none of them is smaller anywhere
-      pub smallest-least : (i : ℕ) → i < intervalCount bounds → suc (prices i) ≤ others i
-      smallest-least i inside = omega (arith, smallest .smallest (λ i. others i - 1) others-priced i inside, counted i inside)
+    -- no prices that fit are smaller anywhere
+    pub smallest-least : (others : PriceList) → FittingPrices ws jobs bounds shares others → (i : ℕ) → i < intervalCount bounds → suc (prices i) ≤ others i
+    smallest-least others fitting i inside =
+        let priced = fitting-priced (smallest .priced .shut) most fitting in
+        omega (arith, smallest .smallest (λ i. others i - 1) priced i inside, counted (smallest .priced .shut) most fitting i inside)

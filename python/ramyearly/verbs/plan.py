@@ -17,7 +17,8 @@ def run(arguments, prepare):
     parser = parser_of(
         "plan",
         "Plans each site: writes plan.tbl, which the reader's kernel loads, and prices.tbl, with which\n"
-        "anyone can check that no schedule needs less energy. Each is written whole or not at all." + LISTS + REPEATED,
+        "anyone can check that no schedule needs less energy. Each is written whole or not at all. A plan\n"
+        "with at least one job has at most jobs + intervals - 1 steps." + LISTS + REPEATED,
         several=True,
     )
     options = parse_with_out(add_parameters(parser), arguments)

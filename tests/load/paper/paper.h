@@ -1,4 +1,4 @@
-/* Document 01 and Changes 1 to 3 and 5 to 9 of document 02 in plain C, written from the pages alone, to be held against the archive.
+/* Document 01 and Changes 1 to 3 and 5 to 10 of document 02 in plain C, written from the pages alone, to be held against the archive.
  * It reads tables, lays out tasks, judges plans, puts them in order, lists what touches a span and says when planning must
  * refuse. It does not plan.
  * Nothing here is meant to be fast: each function follows the words of the pages. */
@@ -20,6 +20,8 @@ enum {
     PAPER_INTERVALS = PAPER_BOUNDS - 1,
     /* The most open pairs: no deadline is before a release, and all marks stand between them. */
     PAPER_PAIRS = PAPER_JOBS * (PAPER_JOBS + PAPER_MARKS),
+    /* The most steps of a plan that planning writes. */
+    PAPER_STEPS_PLANNED = PAPER_JOBS + PAPER_INTERVALS - 1,
     /* The length of a plan with a step for every job in every interval. */
     PAPER_PLAN = 4 + 6 * PAPER_INTERVALS * PAPER_JOBS,
     PAPER_TIME = 1000000,
@@ -186,6 +188,7 @@ struct ramyearly_check_answer paper_check(struct paper_tables tables, struct pap
 
 /* planning.c */
 unsigned paper_pairs(const struct paper_intervals *intervals);
+unsigned paper_step_limit(const struct paper_site *site);
 struct ramyearly_plan_answer paper_planning(struct paper_tables tables, size_t plan, size_t prices, size_t shares);
 void paper_smallest_prices(const struct paper_site *site, struct paper_bytes plan, uint8_t price[PAPER_INTERVALS]);
 

@@ -11,10 +11,20 @@ unsigned paper_pairs(const struct paper_intervals *intervals)
     return pairs;
 }
 
+/* The most steps that a plan may have: the smaller of jobs + intervals - 1 and K, and none without jobs. */
+unsigned paper_step_limit(const struct paper_site *site)
+{
+    unsigned pairs = paper_pairs(&site->intervals);
+    if (site->jobs.count == 0)
+        return 0;
+    unsigned limit = site->jobs.count + site->intervals.count - 1;
+    return limit < pairs ? limit : pairs;
+}
+
 /* 12 to 14, with the length wanted as the place. */
 static struct paper_refusal buffers_refusal(const struct paper_site *site, size_t plan, size_t prices, size_t shares)
 {
-    uint32_t n = site->intervals.count, plan_wanted = 4 + 6 * paper_pairs(&site->intervals);
+    uint32_t n = site->intervals.count, plan_wanted = 4 + 6 * paper_step_limit(site);
     if (plan < plan_wanted)
         return paper_refuse(12, plan_wanted);
     if (prices < 2 + 5 * n)

@@ -2,11 +2,13 @@
 -- (proofs/MadePlans.antt).
 -- Assumes nothing.
 use mathlib.Core.Path.{refl}
-use Prim.Native.Nat.{_-_}
+use Prim.Native.Nat.{_+_, _-_, _≤_}
 use native.Mathlib.Numerals.{add-one}
 use native.Mathlib.Omega.{arith}
+use lib.Dec.{ltb}
 use denote.Ref.{now}
 use borrow.Author.Needs.{needs}
+use Rattle.model.specs.Sum.{sum, onlyIf}
 use Rattle.model.specs.Plans.{sharesIn}
 use Rattle.model.specs.Sites.{Site}
 use Rattle.workloads.specs.Workloads.{Workload}
@@ -14,7 +16,9 @@ use Rattle.workloads.specs.Arrays.{numbersIn, problemIn, workloadWith}
 use Rattle.workloads.specs.Placement.{SmallestPriced}
 use Rattle.prices.specs.RisingPrices.{CanPrice}
 use Rattle.planning.specs.SiteArrays.{InArrays}
-use Rattle.planning.proofs.SiteArrays.{SiteWorkload, points-some, points-small, cycles-length, held-times, open-jobs, site-workload}
+use Rattle.planning.proofs.SiteArrays.{SiteWorkload, points-some, points-small, cycles-length, held-times, site-workload}
+use Rattle.planning.proofs.AllCycles.{all-cycles-few}
+use Rattle.planning.proofs.ShortPlaced.{open-sets}
 use Rattle.planning.proofs.Placeable.{workload-fits, workload-can-price}
 use Rattle.planning.proofs.MadePlans.{rooms, steps-few, made-plan}
 use Rattle.planning.proofs.making.make_plan.Statement.{statement}
@@ -55,8 +59,8 @@ made-of : (c : tie.After-sizes) (site : Site)
     → SiteWorkload site (workload c)
 made-of c site held = site-workload held _ _ (c .before .before .before .interval-count .ensures) (c .sizes .ensures)
 
-place-requires : tie.Need-place-requires
-place-requires c κs =
+place-short-requires : tie.Need-place-short-requires
+place-short-requires c κs =
     let sized = c .before .before .before .before .before .before .before in
     let (site, can) = entry sized .pre in
     let held = can .fitting .in-arrays in
@@ -66,37 +70,44 @@ place-requires c κs =
         workload-fits (held .valid) made (can .fitting .fits),
         (
           rooms (held .valid) made (can .long) .0,
-          (cycles-length held, (open-jobs held _ (sized .before .before .before .interval-count .ensures), (refl, refl, refl))),
+          ((cycles-length held, all-cycles-few (held .valid) made (can .fitting .fits)), (open-sets (held .valid) made (held .open-are), (refl, refl, refl))),
         ),
       ),
     )
 
 -- the placing follows on the lengths
-abbrev sizing : tie.After-place → tie.After-sizes
+abbrev sizing : tie.After-place-short → tie.After-sizes
 sizing c = c .before .before .before .before .before .before .before .before
 
 -- some prices fit what is placed
-can-price : (c : tie.After-place) → CanPrice (workload (sizing c)) (c .place .last .1 .1 .1 .1 .1 .1 .1 .1 .1 .0) (c .place .last .1 .1 .1 .1 .1 .1 .1 .1 .1 .1 .0)
+can-price : (c : tie.After-place-short) → CanPrice (workload (sizing c)) (c .place-short .last .1 .1 .1 .1 .1 .1 .1 .1 .1 .0) (c .place-short .last .1 .1 .1 .1 .1 .1 .1 .1 .1 .1 .0)
 can-price c =
     let (site, can) = entry (sizing c) .pre in
     let held = can .fitting .in-arrays in
-    workload-can-price (held .valid) (made-of (sizing c) site held) (c .place .ensures .0)
+    workload-can-price (held .valid) (made-of (sizing c) site held) (c .place-short .ensures .0)
 
 smallest-prices-requires : tie.Need-smallest-prices-requires
 smallest-prices-requires c κs =
     let placed = c .before .before .before .before .before .before .before .before in
-    ((workload (sizing placed) .cycles, can-price placed), placed .place .ensures .0 .prices-length)
+    ((workload (sizing placed) .cycles, can-price placed), placed .place-short .ensures .0 .prices-length)
 
 -- the smallest prices follow on the placing
-abbrev placing : tie.After-smallest-prices → tie.After-place
+abbrev placing : tie.After-smallest-prices → tie.After-place-short
 placing c = c .before .before .before .before .before .before .before .before .before
 
 smallest : (c : tie.After-smallest-prices)
     → let placed = placing c in
     let work = workload (sizing placed) in
-    SmallestPriced (problemIn work) (sharesIn (work .jobs) (placed .place .last .1 .1 .1 .1 .1 .1 .1 .1 .1 .0))
+    SmallestPriced (problemIn work) (sharesIn (work .jobs) (placed .place-short .last .1 .1 .1 .1 .1 .1 .1 .1 .1 .0))
     (numbersIn (c .smallest-prices .last .1 .1 .1 .1 .1 .1 .1 .1 .1 .0))
 smallest c = let placed = placing c in c .smallest-prices .ensures .0 (workload (sizing placed) .cycles) (can-price placed)
+
+-- few cells have a share
+short : (c : tie.After-place-short)
+    → let work = workload (sizing c) in
+    let shares = sharesIn (work .jobs) (c .place-short .last .1 .1 .1 .1 .1 .1 .1 .1 .1 .0) in
+    sum (work .intervals) (λ i. sum (work .jobs) (λ j. onlyIf (ltb 0 (shares i j)) 1)) ≤ work .jobs + work .intervals - 1
+short c = c .place-short .ensures .3
 
 write-plan-requires : tie.Need-write-plan-requires
 write-plan-requires c κs =
@@ -104,12 +115,12 @@ write-plan-requires c κs =
     let (site, can) = entry (sizing placed) .pre in
     let held = can .fitting .in-arrays in
     let made = made-of (sizing placed) site held in
-    let tables = placed .place .ensures .0 in
-    let holding = placed .place .ensures .2 in (
+    let tables = placed .place-short .ensures .0 in
+    let holding = placed .place-short .ensures .2 in (
       (made .sound .jobs-most, made .sound .intervals-most, tables .stored .table-length),
       (
         λ i below. record { held = λ j inside. holding .held i j below inside; held-past = λ j past. holding .held-past i j below past },
-        omega (arith, can .long .plan-room, steps-few (held .valid) made _ _ _ tables),
+        omega (arith, can .long .plan-room, steps-few (held .valid) made _ _ _ tables (short placed)),
       ),
     )
 
@@ -145,7 +156,7 @@ same-length-2 : tie.Need-same-length-2
 same-length-2 c = search needs
 
 same-length-3 : tie.Need-same-length-3
-same-length-3 c = placing (pricing (writing (c .before .before .before .before))) .place .ensures .1 .same-length
+same-length-3 c = placing (pricing (writing (c .before .before .before .before))) .place-short .ensures .1 .same-length
 
 returns : tie.Need-returns
 returns c = λ site can.
@@ -154,9 +165,9 @@ returns c = λ site can.
     let priced = pricing written in
     let placed = placing priced in
     let held = can .fitting .in-arrays in
-    made-plan (held .valid) (made-of (sizing placed) site held) _ _ _ (placed .place .ensures .0)
+    made-plan (held .valid) (made-of (sizing placed) site held) _ _ _ (placed .place-short .ensures .0)
     (priced .smallest-prices .last .1 .1 .1 .1 .1 .1 .1 .1 .1 .0) (smallest priced) held _ _
-    _ _ _ _ _ (placed .place .ensures .1) (written .write-plan .ensures .0) (written .write-plan .ensures .1)
+    _ _ _ _ _ (placed .place-short .ensures .1) (short placed) (written .write-plan .ensures .0) (written .write-plan .ensures .1)
     (listed .write-prices .ensures) (c .energy-figure .ensures)
 
 pub make-plan-spec : {M : Type 1} → statement M
@@ -166,7 +177,7 @@ make-plan-spec =
     interval-count-requires
     sub-bands
     sizes-requires
-    place-requires
+    place-short-requires
     smallest-prices-requires
     write-plan-requires
     write-prices-requires

@@ -6,7 +6,7 @@ use denote.Ref.{now}
 use borrow.Author.Needs.{needs}
 use Rattle.model.specs.Sites.{Site}
 use Rattle.model.specs.Demands.{LongEnough}
-use Rattle.planning.specs.WantedRooms.{OpenIn, WantedRooms}
+use Rattle.rooms.specs.WantedRooms.{OpenIn, WantedRooms}
 use Rattle.planning.specs.MadePlans.{FitsIn}
 use Rattle.planning.proofs.SiteArrays.{intervals-counted}
 use Rattle.planning.proofs.PlanStages.{plan-short, prices-short, shares-short, plan-made}

@@ -1,4 +1,4 @@
--- How long the buffers must be (document 01, refusals 12 to 14), and what that is worked out from.
+-- How long the buffers must be (document 01, refusals 12 to 14; document 02, Change 10), and what that is worked out from.
 use Prim.Native.Nat.{ℕ, _<_, _^_}
 use mathlib.Core.Path.{_≡_}
 use mathlib.Core.List.{List}

@@ -1,0 +1,2 @@
+-- How long the buffers of a plan must be.
+pub mod WantedRooms
