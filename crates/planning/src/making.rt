@@ -77,7 +77,7 @@ pub(crate) fn make_plan(
         last,
         &size,
         &working.frequencies,
-        shares,
+        &holders,
         &loads,
         &mut numbers,
     );

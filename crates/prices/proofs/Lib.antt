@@ -3,3 +3,5 @@ pub mod RaisedPrices
 pub mod PriceRanges
 pub mod RisingPrices
 pub mod RisePasses
+pub mod HeldShares
+pub mod MemberRaises

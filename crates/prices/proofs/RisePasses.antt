@@ -1,6 +1,6 @@
 -- Laws of a pass over the jobs that raises prices in an array.
 -- Assumes nothing.
-use mathlib.Core.Path.{_≡_, refl, sym, _∙_}
+use mathlib.Core.Path.{_≡_, refl, sym, _∙_, ap}
 use mathlib.Core.Bool.{Bool, true, false}
 use mathlib.Core.Logic.{_⊎_, inl, inr}
 use mathlib.Core.List.{List}
@@ -9,48 +9,36 @@ use native.Mathlib.Omega.{arith}
 use lib.ListN.{length}
 use borrow.Author.Count.{below-none, below-more}
 use Rattle.model.specs.Limits.{maxIntervals}
-use Rattle.model.specs.Plans.{Shares, sharesIn}
+use Rattle.model.specs.Plans.{sharesIn}
 use Rattle.model.proofs.Numbers.{true≢false, true-or-false}
 use Rattle.workloads.specs.Workloads.{Workload}
 use Rattle.workloads.specs.Arrays.{numbersIn, problemIn}
 use Rattle.workloads.specs.Placement.{SmallestPriced}
-use Rattle.prices.specs.RisingPrices.{Raised, LeastBand, HighestPrice, IsBelow, JobStep, roomLeft, CanPrice, CanRise, RisePass}
+use Rattle.prices.specs.RisingPrices.{Raised, LeastBand, HighestPrice, IsBelow, JobRaise, WindowStep, roomLeft, CanPrice, CanRise, RisePass}
+use Rattle.prices.proofs.RaisedPrices.{raised-up}
 use Rattle.prices.proofs.RisingPrices.{rising-start, rising-raised, room-falls, rising-fits}
 
--- one job: a window with a price below the highest one at which the job has a share is raised
-module _ {shares : Shares} {before : List ℕ} {job first last price : ℕ} {below : Bool}
-    (highest : HighestPrice shares (numbersIn before) job first last price) (is-below : IsBelow (numbersIn before) first last price below) where
-  pub job-raised : below ≡ true → {after : List ℕ} → Raised first last price (numbersIn before) (numbersIn after) → length after ≡ length before
-      → JobStep shares before after job first last true
-  job-raised lower raised same-length =
-      let (low, low-first, low-last, less) = is-below .found lower in
-      let (from, from-first, from-last, share, is-price) = highest .held (omega arith) in
+-- a window with a price below one is raised to it
+module _ {before : List ℕ} {first last price : ℕ} {below : Bool} (is-below : IsBelow (numbersIn before) first last price below) where
+  pub window-raised : below ≡ true → {after : List ℕ} → Raised first last price (numbersIn before) (numbersIn after) → length after ≡ length before
+      → WindowStep before after first last price true
+  window-raised lower raised same-length =
       record {
         same-length = same-length;
-        raise = λ e.
-            record {
-              from = from;
-              from-first = from-first;
-              from-last = from-last;
-              share = share;
-              raised = rw is-price raised;
-              lower = low;
-              lower-first = low-first;
-              lower-last = low-last;
-              is-lower = omega arith;
-            };
+        raised = λ e. raised;
+        lower = λ e. is-below .found lower;
         same = λ e. absurd (true≢false e);
-        settled = λ e. absurd (true≢false e);
+        none = λ e. absurd (true≢false e);
       }
 
-  pub job-settled : below ≡ false → JobStep shares before before job first last false
-  job-settled none-lower =
+  pub window-kept : below ≡ false → WindowStep before before first last price false
+  window-kept none-lower =
       record {
         same-length = refl;
-        raise = λ e. absurd (true≢false (sym e));
+        raised = λ e. absurd (true≢false (sym e));
+        lower = λ e. absurd (true≢false (sym e));
         same = λ e. refl;
-        settled = λ e i other from to other-from other-to share.
-            omega (arith, highest .most i from to share, is-below .none none-lower other other-from other-to);
+        none = λ e. is-below .none none-lower;
       }
 
 -- the least prices can rise
@@ -73,6 +61,7 @@ module _ {work : Workload} {table before : List ℕ} (can : CanRise work table b
   pass-start =
       record {
         prices-length = can .prices-length;
+        risen = λ i. omega arith;
         rising = can .rising;
         falls = λ e. absurd (true≢false (sym e));
         same = λ e. refl;
@@ -87,35 +76,58 @@ module _ {work : Workload} {table before : List ℕ} (can : CanRise work table b
         go (inl e) = omega (arith, pass .falls e)
         go (inr e) = rw (pass .same e) (omega arith)
 
-    module _ (below : job < work .jobs) {after : List ℕ} {raised : Bool}
-        (step : JobStep (sharesIn (work .jobs) table) prices after job (numbersIn (work .first) job) (numbersIn (work .last) job) raised) where
-      -- the job forced a raise
+    module _ (below : job < work .jobs) {after : List ℕ} {price : ℕ} {raised : Bool}
+        (highest : HighestPrice (sharesIn (work .jobs) table) (numbersIn before) job 0 (work .intervals) price)
+        (step : WindowStep prices after (numbersIn (work .first) job) (numbersIn (work .last) job) price raised) where
+      -- the raise is one that the job forces: at the start of the pass it had a share at this price, and prices only rise
+      forced : raised ≡ true → JobRaise (sharesIn (work .jobs) table) (numbersIn prices) (numbersIn after) job (numbersIn (work .first) job) (numbersIn (work .last) job)
+      forced e =
+          let (low, low-first, low-last, less) = step .lower e in
+          let (from, start, inside, share, is-price) = highest .held (omega arith) in
+          let here = can .priced .shut from job inside below share in
+          record {
+            from = from;
+            from-first = here .from;
+            from-last = here .to;
+            share = share;
+            price = price;
+            price-most = omega (arith, pass .risen from);
+            raised = step .raised e;
+            lower = low;
+            lower-first = low-first;
+            lower-last = low-last;
+            is-lower = less;
+          }
+
       pub pass-raised : raised ≡ true → RisePass work table before after (job + 1) true
       pass-raised e =
-          let forced = step .raise e in
           record {
             prices-length = step .same-length ∙ pass .prices-length;
-            rising = rising-raised (can .sound .sound) (can .priced) (pass .rising) below forced;
-            falls = λ t. omega (arith, room-falls (can .sound .sound) (can .priced) (pass .rising) below forced, room-most);
+            risen = λ i. omega (arith, pass .risen i, raised-up (step .raised e) i);
+            rising = rising-raised (can .sound .sound) (can .priced) (pass .rising) below (forced e);
+            falls = λ t. omega (arith, room-falls (can .sound .sound) (can .priced) (pass .rising) below (forced e), room-most);
             same = λ t. absurd (true≢false t);
             settled = λ t. absurd (true≢false t);
           }
 
-      -- the job is settled
+      -- where no job has forced a raise so far the job is settled
       pub pass-settled : raised ≡ false → RisePass work table before after (job + 1) changed
       pass-settled e =
           rw (step .same e)
           (record {
             prices-length = pass .prices-length;
+            risen = pass .risen;
             rising = pass .rising;
             falls = pass .falls;
             same = pass .same;
-            settled = λ t.
-                below-more _ job (pass .settled t)
-                (λ i other inside next share is-open.
-                let here = can .priced .shut i job inside below share in
-                step .settled e i other (here .from) (here .to) (is-open .from) (is-open .to) share);
+            settled = λ t. below-more _ job (pass .settled t) (λ i other inside next share is-open. settled t i other inside share (is-open .from) (is-open .to));
           })
+        where
+          settled : changed ≡ false → (i other : ℕ) → i < work .intervals → 0 < sharesIn (work .jobs) table i job
+              → numbersIn (work .first) job ≤ other → other < numbersIn (work .last) job → numbersIn prices i ≤ numbersIn prices other
+          settled t i other inside share from to =
+              let same : numbersIn prices i ≡ numbersIn before i = ap (λ (array : List ℕ). numbersIn array i) (pass .same t) in
+              omega (arith, highest .most i (omega arith) inside share, step .none e other from to)
 
   -- after a pass
   module _ {after : List ℕ} {changed : Bool} (pass : RisePass work table before after (work .jobs) changed) where

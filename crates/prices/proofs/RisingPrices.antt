@@ -41,13 +41,14 @@ module _ {p : Problem} (sound : SoundProblem p) {shares : Shares} {fitting : ℕ
       after-smallest : (others : ℕ → ℕ) → Priced p shares others → (k : ℕ) → k < p .intervals → after k ≤ others k
       after-smallest others others-fit k inside = go (raised-case (raise .raised) k)
         where
-          go : (after k ≡ prices k) ⊎ ((p .first j ≤ k) × (k < p .last j) × (after k ≡ max (prices k) (prices (raise .from)))) → after k ≤ others k
+          go : (after k ≡ prices k) ⊎ ((p .first j ≤ k) × (k < p .last j) × (after k ≡ max (prices k) (raise .price))) → after k ≤ others k
           go (inl same) = omega (arith, rising .smallest others others-fit k inside)
           go (inr (from, to, up)) =
               let source = in-window (raise .from-last) in
               omega (
                 arith,
                 rising .smallest others others-fit k inside,
+                raise .price-most,
                 rising .smallest others others-fit (raise .from) source,
                 others-fit .cheapest (raise .from) k j source inside below (raise .share) (record { from = from; to = to }),
               )
@@ -69,7 +70,7 @@ module _ {p : Problem} (sound : SoundProblem p) {shares : Shares} {fitting : ℕ
           (let here = raise .raised .inside (raise .lower) (raise .lower-first) (raise .lower-last) in
           let last = below-last (raise .from) (in-window (raise .from-last)) in
           let is-lower = raise .is-lower in
-          omega arith)
+          omega (arith, raise .price-most))
 
     -- where no job forces a raise the prices fit
     pub rising-fits : ((j : ℕ) → j < p .jobs → Settled p shares prices j) → SmallestPriced p shares prices

@@ -1,19 +1,21 @@
 // The smallest prices that fit shares, bands counted from 0.
 ghost use mathlib.Core.Path.{_≡_};
-ghost use Prim.Native.Nat.{ℕ, _*_, _<_, _≤_};
-ghost use lib.ListN.{length};
-ghost use Rattle.model.specs.Limits.{maxIntervals, maxLevels, maxDeadline, maxFrequency};
-ghost use Rattle.model.specs.Plans.{sharesIn};
+ghost use Prim.Native.Nat.{ℕ, _<_, _≤_};
+ghost use lib.ListN.{length, replicate};
+ghost use Rattle.model.specs.Limits.{maxJobs, maxIntervals, maxLevels, maxDeadline, maxFrequency};
 ghost use Rattle.workloads.specs.Arrays.{numbersIn};
-ghost use Rattle.prices.specs.RisingPrices.{LeastBand, HighestPrice, JobStep, ArraysPrice, ArraysPriced, WindowsRise, WindowsRisen};
+ghost use Rattle.prices.specs.RisingPrices.{LeastBand, WindowStep, MembersRaised, HighestPrices, ArraysPrice, ArraysPriced, WindowsRise, WindowsRisen, JobsRaise, JobsRaised};
 use crate::ranges::is_below;
 use crate::ranges::raise;
+use job_sets::JobSet;
+use job_sets::SET_WORDS;
 use model::MAX_INTERVALS;
 use model::MAX_JOBS;
 use model::MAX_POINTS;
 
 // The prices rise from the least ones that the loads allow, until a pass over the jobs changes nothing.
-// The arrays of a workload are lent, since for few jobs a copy takes longer than a pass.
+// The arrays of a workload are lent, since for few jobs a copy takes longer than a pass. Of the shares it is enough to know where there are
+// some: the sets of the jobs with a share are small, and the table of the shares is as large as a processor's first cache.
 pub fn smallest_prices(
     jobs: usize,
     intervals: usize,
@@ -22,18 +24,18 @@ pub fn smallest_prices(
     last: &[u8; MAX_JOBS],
     size: &[u64; MAX_INTERVALS],
     frequency: &[u64; MAX_POINTS],
-    shares: &[u32],
+    holders: &[u64; SET_WORDS],
     loads: &[u64; MAX_INTERVALS],
     prices: &mut [u8; MAX_INTERVALS],
 )
-    requires { ⌜ ArraysPrice jobs intervals bands (now first) (now last) (now size) (now frequency) (now shares) (now loads) ⌝ }
+    requires { ⌜ ArraysPrice jobs intervals bands (now first) (now last) (now size) (now frequency) (now holders) (now loads) ⌝ }
     requires { ⌜ length (now prices) ≡ maxIntervals ⌝ }
     ensures { λ _. ⌜ ArraysPriced jobs intervals bands (now (first .entry)) (now (last .entry)) (now (size .entry)) (now (frequency .entry))
-        (now (shares .entry)) (now (loads .entry)) (now (prices .exit))
+        (now (holders .entry)) (now (loads .entry)) (now (prices .exit))
         × (length (now (prices .exit)) ≡ maxIntervals) ⌝ }
 {
     least_prices(intervals, bands, size, frequency, loads, prices);
-    while raise_all(jobs, first, last, shares, prices) {}
+    while raise_all(jobs, intervals, first, last, holders, prices) {}
 }
 
 // The least price that each load allows. The array is not cleared, which would take longer than this for a small site.
@@ -77,24 +79,72 @@ fn least_band(frequency: &[u64; MAX_POINTS], bands: usize, size: u64, load: u64)
 // Goes over the jobs once, and answers whether a price was raised.
 fn raise_all(
     jobs: usize,
+    intervals: usize,
     first: &[u8; MAX_JOBS],
     last: &[u8; MAX_JOBS],
-    shares: &[u32],
+    holders: &[u64; SET_WORDS],
     prices: &mut [u8; MAX_INTERVALS],
 ) -> bool
-    requires { ⌜ WindowsRise jobs (now first) (now last) (now shares) (now prices) ⌝ }
-    ensures { λ r. ⌜ WindowsRisen jobs (now (first .entry)) (now (last .entry)) (now (shares .entry)) (now (prices .entry)) (now (prices .exit)) r ⌝ }
+    requires { ⌜ WindowsRise jobs intervals (now first) (now last) (now holders) (now prices) ⌝ }
+    ensures { λ r. ⌜ WindowsRisen jobs intervals (now (first .entry)) (now (last .entry)) (now (holders .entry)) (now (prices .entry)) (now (prices .exit)) r ⌝ }
+{
+    let mut highest = [0u8; MAX_JOBS];
+    highest_prices(holders, prices, intervals, &mut highest);
+    raise_jobs(jobs, first, last, &highest, prices)
+}
+
+// For each job the highest price at which it has a share, 0 where it has none, put into an array of zeros. The shares are few: going over them
+// once is shorter than going over every job's window.
+fn highest_prices(
+    holders: &[u64; SET_WORDS],
+    prices: &[u8; MAX_INTERVALS],
+    intervals: usize,
+    highest: &mut [u8; MAX_JOBS],
+)
+    requires { ⌜ (intervals ≤ maxIntervals) × (now highest ≡ replicate maxJobs 0) ⌝ }
+    ensures { λ _. ⌜ HighestPrices (now (holders .entry)) (now (prices .entry)) intervals (now (highest .exit)) ⌝ }
+{
+    let mut i = 0;
+    while i < intervals {
+        raise_members(job_sets::set_at(holders, i), prices[i], highest);
+        i += 1;
+    }
+}
+
+// Raises the numbers of a set's members to at least a price.
+fn raise_members(set: JobSet, price: u8, highest: &mut [u8; MAX_JOBS])
+    requires { ⌜ length (now highest) ≡ maxJobs ⌝ }
+    ensures { λ _. ⌜ MembersRaised set price (now (highest .entry)) (now (highest .exit)) ⌝ }
+{
+    let mut rest = set;
+    while !job_sets::is_empty(rest) {
+        let job = job_sets::least(rest);
+        if highest[job] < price {
+            highest[job] = price;
+        }
+        rest = job_sets::without(rest, job);
+    }
+}
+
+// Raises the prices of each job's window to the highest one at which it has a share, and answers whether one was lower.
+fn raise_jobs(
+    jobs: usize,
+    first: &[u8; MAX_JOBS],
+    last: &[u8; MAX_JOBS],
+    highest: &[u8; MAX_JOBS],
+    prices: &mut [u8; MAX_INTERVALS],
+) -> bool
+    requires { ⌜ JobsRaise jobs (now first) (now last) (now highest) (now prices) ⌝ }
+    ensures { λ r. ⌜ JobsRaised jobs (now (first .entry)) (now (last .entry)) (now (highest .entry)) (now (prices .entry)) (now (prices .exit)) r ⌝ }
 {
     let mut changed = false;
     let mut job = 0;
     while job < jobs {
-        if raise_job(
-            shares,
+        if raise_window(
             prices,
-            jobs,
-            job,
             first[job] as usize,
             last[job] as usize,
+            highest[job],
         ) {
             changed = true;
         }
@@ -103,48 +153,14 @@ fn raise_all(
     changed
 }
 
-// Raises the prices of a job's window to the highest one at which it has a share, and answers whether one was lower.
-fn raise_job(
-    shares: &[u32],
-    prices: &mut [u8; MAX_INTERVALS],
-    jobs: usize,
-    job: usize,
-    first: usize,
-    last: usize,
-) -> bool
-    requires { ⌜ (job < jobs) × (first ≤ last) × (last ≤ maxIntervals) × (last * jobs ≤ length (now shares)) ⌝ }
-    requires { ⌜ length (now prices) ≡ maxIntervals ⌝ }
-    ensures { λ r. ⌜ JobStep (sharesIn jobs (now (shares .entry))) (now (prices .entry)) (now (prices .exit)) job first last r ⌝ }
+// Raises the prices of a window to at least a price, and answers whether one was lower.
+fn raise_window(prices: &mut [u8; MAX_INTERVALS], first: usize, last: usize, price: u8) -> bool
+    requires { ⌜ (first ≤ last) × (last ≤ maxIntervals) × (length (now prices) ≡ maxIntervals) ⌝ }
+    ensures { λ r. ⌜ WindowStep (now (prices .entry)) (now (prices .exit)) first last price r ⌝ }
 {
-    let price = highest_price(shares, prices, jobs, job, first, last);
     if is_below(prices, first, last, price) {
         raise(prices, first, last, price);
         return true;
     }
     false
-}
-
-// The highest price among the intervals of a window in which a job has a share, 0 where it has none.
-fn highest_price(
-    shares: &[u32],
-    prices: &[u8; MAX_INTERVALS],
-    jobs: usize,
-    job: usize,
-    first: usize,
-    last: usize,
-) -> u8
-    requires { ⌜ (job < jobs) × (first ≤ last) × (last ≤ maxIntervals) × (last * jobs ≤ length (now shares)) ⌝ }
-    ensures { λ r. ⌜ HighestPrice (sharesIn jobs (now (shares .entry))) (numbersIn (now (prices .entry))) job first last r ⌝ }
-{
-    let mut highest = 0;
-    let mut i = first;
-    while i < last {
-        if shares[i * jobs + job] > 0 {
-            if highest < prices[i] {
-                highest = prices[i];
-            }
-        }
-        i += 1;
-    }
-    highest
 }

@@ -89,7 +89,7 @@ can-price c =
 smallest-prices-requires : tie.Need-smallest-prices-requires
 smallest-prices-requires c κs =
     let placed = c .before .before .before .before .before .before .before .before in
-    ((workload (sizing placed) .cycles, can-price placed), placed .place-short .ensures .0 .prices-length)
+    ((workload (sizing placed) .cycles, _, can-price placed, placed .place-short .ensures .2), placed .place-short .ensures .0 .prices-length)
 
 -- the smallest prices follow on the placing
 abbrev placing : tie.After-smallest-prices → tie.After-place-short
@@ -100,7 +100,9 @@ smallest : (c : tie.After-smallest-prices)
     let work = workload (sizing placed) in
     SmallestPriced (problemIn work) (sharesIn (work .jobs) (placed .place-short .last .1 .1 .1 .1 .1 .1 .1 .1 .1 .0))
     (numbersIn (c .smallest-prices .last .1 .1 .1 .1 .1 .1 .1 .1 .1 .0))
-smallest c = let placed = placing c in c .smallest-prices .ensures .0 (workload (sizing placed) .cycles) (can-price placed)
+smallest c =
+    let placed = placing c in
+    c .smallest-prices .ensures .0 (workload (sizing placed) .cycles) _ (can-price placed) (placed .place-short .ensures .2)
 
 -- few cells have a share
 short : (c : tie.After-place-short)
