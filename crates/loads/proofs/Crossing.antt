@@ -1,22 +1,20 @@
 -- Laws of what must cross each bound: at the start, at one cell, at the end of an interval, and at the end.
 -- Assumes nothing.
-use mathlib.Core.Path.{_≡_, refl, sym, _∙_, ap}
-use mathlib.Core.Bool.{Bool, true, false, _&&_, cond}
+use mathlib.Core.Path.{_≡_, refl, sym, _∙_}
+use mathlib.Core.Bool.{Bool, true, false, _&&_}
 use mathlib.Core.Logic.{_⊎_, inl, inr}
-use Prim.Native.Nat.{ℕ, zero, suc, _+_, _-_, _*_, _<_, _≤_}
+use Prim.Native.Nat.{ℕ, suc, _+_, _-_, _*_, _<_, _≤_}
 use native.Mathlib.Nat.{eq-zero-or-pos, eq-or-lt-of-le, le-of-suc-le-suc}
 use native.Mathlib.Decide.{ℕ-discrete}
 use native.Mathlib.Omega.{arith}
 use lib.Dec.{leb, ltb, eqb}
-use borrow.Author.Tests.{le-leb, lt-leb, leb-true, leb-false, lt-ltb, le-ltb, ltb-true, eq-eqb, ne-eqb, eqb-true, eqb-false}
+use borrow.Author.Tests.{le-leb, lt-leb, leb-true, lt-ltb, le-ltb, ltb-true, eq-eqb, ne-eqb, eqb-true}
 use Rattle.model.specs.Sum.{sum, onlyIf}
-use Rattle.model.specs.Plans.{Shares}
-use Rattle.model.proofs.Numbers.{lt-or-le, true-or-false, both-true, true≢false}
+use Rattle.model.proofs.Numbers.{lt-or-le, both-true, true≢false}
 use Rattle.model.proofs.Search.{first-or-none}
 use Rattle.model.proofs.Sum.{sum-cong, sum-mono, sum-strict, sum-const, sum-term, sum-update}
 use Rattle.model.proofs.SumMore.{onlyIf-le}
-use Rattle.workloads.specs.Placement.{Problem, SoundProblem, Open, OnlyOpen, loadOf, placedOf, Priced, Placed}
-use Rattle.workloads.specs.RangesFit.{isWithin}
+use Rattle.workloads.specs.Placement.{Problem, SoundProblem, Open}
 use Rattle.loads.specs.Loads.{within, Fillable}
 use Rattle.loads.specs.Crossing.{zeroCount, dueBy, Takes, Crossing}
 

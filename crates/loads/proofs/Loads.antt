@@ -11,10 +11,10 @@ use lib.Dec.{leb, ltb, eqb}
 use borrow.Author.Tests.{le-leb, leb-true, lt-ltb, ltb-true, eq-eqb, ne-eqb}
 use Rattle.model.specs.Sum.{sum, onlyIf}
 use Rattle.model.specs.Plans.{Shares}
-use Rattle.model.proofs.Numbers.{lt-or-le, true-or-false, both-true}
+use Rattle.model.proofs.Numbers.{lt-or-le, both-true}
 use Rattle.model.proofs.Search.{least-index}
-use Rattle.model.proofs.Sum.{sum-cong, sum-mono, sum-strict, sum-swap, sum-mul-left, sum-zero, sum-split, sum-shorter, sum-longer, sum-pos, sum-add}
-use Rattle.workloads.specs.Placement.{Problem, SoundProblem, Open, OnlyOpen, loadOf, placedOf, Priced, Placed}
+use Rattle.model.proofs.Sum.{sum-cong, sum-mono, sum-strict, sum-swap, sum-mul-left, sum-zero, sum-shorter, sum-longer, sum-add}
+use Rattle.workloads.specs.Placement.{Problem, SoundProblem, Open, loadOf, Priced, Placed}
 use Rattle.workloads.specs.RangesFit.{isWithin}
 use Rattle.loads.specs.Loads.{within, Serving, Fillable, LeastPrices, AtLeast}
 

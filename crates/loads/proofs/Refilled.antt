@@ -1,22 +1,21 @@
 -- Laws of shares that fill given loads anew: at the start, at one cell, at a cell that is passed, at the end of an interval, and at the
 -- end, when they are the greatest.
 -- Assumes nothing.
-use mathlib.Core.Path.{_≡_, refl, sym, _∙_, ap}
-use mathlib.Core.Bool.{Bool, true, false, _&&_, cond}
+use mathlib.Core.Path.{_≡_, refl, sym, _∙_}
 use mathlib.Core.Logic.{_⊎_, inl, inr}
-use Prim.Native.Nat.{ℕ, zero, suc, _+_, _-_, _*_, _<_, _≤_}
+use Prim.Native.Nat.{ℕ, zero, suc, _+_, _-_, _<_, _≤_}
 use native.Mathlib.Nat.{eq-zero-or-pos, eq-or-lt-of-le, le-of-suc-le-suc}
 use native.Mathlib.Decide.{ℕ-discrete}
 use native.Mathlib.Omega.{arith}
 use lib.Dec.{leb, ltb, eqb}
-use borrow.Author.Tests.{le-leb, lt-leb, leb-true, leb-false, lt-ltb, le-ltb, ltb-true, eq-eqb, ne-eqb, eqb-true, eqb-false}
+use borrow.Author.Tests.{le-leb, lt-leb, eq-eqb, ne-eqb}
 use Rattle.model.specs.Sum.{sum, onlyIf}
 use Rattle.model.specs.Plans.{Shares}
-use Rattle.model.proofs.Numbers.{lt-or-le, true-or-false, both-true, true≢false}
-use Rattle.model.proofs.Sum.{sum-cong, sum-mono, sum-zero, sum-add, sum-hit, sum-split, sum-swap, sum-shorter, sum-update}
+use Rattle.model.proofs.Numbers.{lt-or-le}
+use Rattle.model.proofs.Sum.{sum-cong, sum-mono, sum-zero, sum-add, sum-hit, sum-swap, sum-shorter, sum-update}
 use Rattle.workloads.specs.Placement.{Problem, SoundProblem, Open, loadOf, placedOf}
 use Rattle.paths.specs.Paths.{Grown}
-use Rattle.paths.proofs.GrownShares.{grown-case, grown-most, grown-load, grown-placed}
+use Rattle.paths.proofs.GrownShares.{grown-case, grown-load, grown-placed}
 use Rattle.loads.specs.Loads.{Fillable}
 use Rattle.loads.specs.Crossing.{dueBy, Takes}
 use Rattle.loads.specs.Refilled.{Before, total, cellCount, Agree, Rival, Refilling, Refilled}

@@ -1,6 +1,6 @@
 -- What must still cross each bound, while given loads are filled anew: interval after interval, and in each the open jobs by number.
 -- `cross b` are the cycles still to be run before bound b by jobs that are due after it.
-use Prim.Native.Nat.{ℕ, suc, _+_, _-_, _<_, _≤_}
+use Prim.Native.Nat.{ℕ, _+_, _-_, _<_, _≤_}
 use mathlib.Core.Path.{_≡_}
 use mathlib.Core.Logic.{_⊎_}
 use lib.Dec.{eqb, leb}

@@ -2,7 +2,6 @@
 -- stands hold what is to be placed for it.
 -- Assumes nothing.
 use mathlib.Core.Path.{_≡_, refl, sym, _∙_, ap, subst}
-use mathlib.Core.Bool.{true}
 use mathlib.Core.Logic.{_⊎_, inl, inr}
 use mathlib.Core.List.{List, [], _∷_}
 use Prim.Native.Nat.{ℕ, zero, suc, _+_, _-_, _<_, _≤_}
@@ -22,8 +21,6 @@ use Rattle.model.proofs.Working.{working-curve}
 use Rattle.reading.specs.Column.{columnOf}
 use Rattle.reading.proofs.Column.{length-column, column-at, column-past, column-cong}
 use Rattle.job_tables.proofs.Read.{job-in}
-use Rattle.job_sets.specs.JobSets.{isMember}
-use Rattle.job_sets.specs.IntervalSets.{setIn}
 use Rattle.levels.specs.declared.points.PointTable.{PointTable}
 use Rattle.levels.specs.PointTables.{pointsOf, SmallPoints}
 use Rattle.levels.proofs.SmallPoints.{working-small, working-held}

@@ -2,7 +2,6 @@
 -- Assumes nothing.
 use mathlib.Core.Path.{_≡_, refl, sym, _∙_}
 use mathlib.Core.Bool.{true, false}
-use mathlib.Core.Logic.{_⊎_, inl, inr}
 use mathlib.Core.List.{List}
 use Prim.Native.Nat.{ℕ, _<_, _≤_, max}
 use native.Mathlib.Decide.{ℕ-discrete}
@@ -10,7 +9,7 @@ use native.Mathlib.Omega.{arith}
 use lib.ListN.{length, set, length-set}
 use lib.Seq.{getD-set-same, getD-set-other}
 use Rattle.model.specs.Limits.{maxJobs}
-use Rattle.model.proofs.Numbers.{true≢false, true-or-false}
+use Rattle.model.proofs.Numbers.{true≢false}
 use Rattle.job_sets.specs.declared.JobSet.{JobSet}
 use Rattle.job_sets.specs.JobSets.{isMember, leastMember, isEmpty, withoutJob}
 use Rattle.job_sets.proofs.JobSets.{empty-has, least-has, without-here, without-other}

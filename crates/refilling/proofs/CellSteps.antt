@@ -5,11 +5,9 @@ use mathlib.Core.Logic.{_⊎_, inl, inr}
 use mathlib.Core.List.{List}
 use Prim.Native.Nat.{ℕ, suc, _+_, _-_, _<_, _≤_}
 use native.Mathlib.Nat.{eq-or-lt-of-le, le-of-suc-le-suc}
-use native.Mathlib.Numerals.{add-one}
 use native.Mathlib.Omega.{arith}
 use lib.ListN.{length, getD, set}
 use lib.Seq.{getD-set-same, getD-set-other, set-getD}
-use Rattle.model.proofs.Numbers.{lt-or-le}
 use Rattle.workloads.specs.Arrays.{numbersIn}
 use Rattle.paths.specs.Moves.{putAt}
 use Rattle.loads.specs.Crossing.{Lowered, Takes}

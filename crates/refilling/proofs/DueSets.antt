@@ -1,6 +1,6 @@
 -- Laws of the jobs of a set that are due by a bound, where each interval's set has the jobs that are open there.
 -- Assumes nothing.
-use mathlib.Core.Path.{_≡_, refl, sym, _∙_}
+use mathlib.Core.Path.{_≡_, sym, _∙_}
 use mathlib.Core.Bool.{Bool, true, false, not, _&&_, cond}
 use mathlib.Core.Logic.{_⊎_, inl, inr}
 use mathlib.Core.List.{List}
@@ -9,7 +9,6 @@ use native.Mathlib.Omega.{arith}
 use lib.Dec.{ltb}
 use borrow.Author.Tests.{lt-ltb, le-ltb, not-true}
 use Rattle.model.specs.Limits.{maxJobs}
-use Rattle.model.specs.Sum.{onlyIf}
 use Rattle.model.proofs.Numbers.{lt-or-le, true-or-false, true≢false, both-true}
 use Rattle.model.proofs.Search.{firstBelow-law}
 use Rattle.model.proofs.Sum.{sum-mono}

@@ -3,17 +3,17 @@
 use mathlib.Core.Path.{_≡_, _∙_, sym}
 use mathlib.Core.Bool.{true}
 use mathlib.Core.List.{List}
-use Prim.Native.Nat.{ℕ, _+_, _*_, _^_, _<_, _≤_}
+use Prim.Native.Nat.{ℕ, _+_, _*_, _<_, _≤_}
 use native.Mathlib.Omega.{arith}
 use lib.ListN.{length, replicate, length-replicate, getD-replicate}
-use Rattle.model.specs.Limits.{maxJobs, maxIntervals, maxBounds}
+use Rattle.model.specs.Limits.{maxIntervals, maxBounds}
 use Rattle.model.specs.Sum.{sum}
 use Rattle.model.specs.Plans.{sharesIn}
 use Rattle.model.proofs.Numbers.{true≢false}
 use Rattle.job_sets.specs.JobSets.{noJobs}
 use Rattle.job_sets.proofs.JobSets.{none-has}
 use Rattle.workloads.specs.Workloads.{Workload}
-use Rattle.workloads.specs.Arrays.{numbersIn, problemIn, Stored, Holding, KeptPast}
+use Rattle.workloads.specs.Arrays.{numbersIn, problemIn, Holding, KeptPast}
 use Rattle.workloads.proofs.SharesTable.{kept-trans}
 use Rattle.paths.proofs.HeldJobs.{holding-start}
 use Rattle.loads.specs.Loads.{Fillable}

@@ -1,13 +1,13 @@
 -- Laws of filling in plain arrays: a job takes what it can, jobs are passed, and the next interval is begun.
 -- Assumes nothing.
-use mathlib.Core.Path.{_≡_, refl, sym, _∙_}
+use mathlib.Core.Path.{_≡_}
 use mathlib.Core.Logic.{_⊎_, inl, inr}
 use mathlib.Core.List.{List}
 use Prim.Native.Nat.{ℕ, suc, _+_, _-_, _*_, _<_, _≤_}
 use native.Mathlib.Nat.{eq-zero-or-pos, mul-le-mul-right}
 use native.Mathlib.Decide.{ℕ-discrete}
 use native.Mathlib.Omega.{arith}
-use lib.ListN.{length, length-set}
+use lib.ListN.{length-set}
 use Rattle.model.specs.Plans.{Shares, sharesIn}
 use Rattle.model.proofs.Numbers.{lt-or-le}
 use Rattle.workloads.specs.Workloads.{Workload}
@@ -15,13 +15,12 @@ use Rattle.workloads.specs.Placement.{Problem, Open}
 use Rattle.workloads.specs.Arrays.{numbersIn, problemIn, Holding, KeptPast}
 use Rattle.workloads.proofs.SharesTable.{place-below, kept-refl, kept-set}
 use Rattle.paths.specs.Paths.{Grown}
-use Rattle.paths.specs.Moves.{putAt}
 use Rattle.paths.proofs.GrownShares.{grown-case, grown-put}
 use Rattle.paths.proofs.HeldJobs.{holding-put}
 use Rattle.loads.specs.Crossing.{Takes}
 use Rattle.loads.proofs.Refilled.{own-zero, refill-takes, refill-passes, refill-rows}
 use Rattle.refilling.specs.Cells.{CanTake, CellTaken}
-use Rattle.refilling.specs.RefillTables.{RefillTables, Uncrossed}
+use Rattle.refilling.specs.RefillTables.{RefillTables}
 
 -- a cell that takes nothing leaves the sets
 holding-same : {p : Problem} {before after : Shares} {holders : List ℕ} {i j : ℕ} → Holding p before holders → Grown p before after i j 0 → Holding p after holders

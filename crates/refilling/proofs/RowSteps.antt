@@ -1,17 +1,15 @@
 -- Laws of filling one interval: its start, one job, and its end.
 -- Assumes nothing.
 use mathlib.Core.Path.{_≡_, refl, sym, _∙_}
-use mathlib.Core.Bool.{Bool, true, false, not, _&&_}
+use mathlib.Core.Bool.{Bool, true, false, not}
 use mathlib.Core.Logic.{_⊎_, inl, inr}
 use mathlib.Core.List.{List}
 use Prim.Native.Nat.{ℕ, suc, _*_, _<_, _≤_}
 use native.Mathlib.Decide.{ℕ-discrete}
 use native.Mathlib.Omega.{arith}
-use lib.Dec.{eqb}
 use lib.ListN.{set}
-use borrow.Author.Tests.{not-true}
 use Rattle.model.specs.Limits.{maxJobs}
-use Rattle.model.proofs.Numbers.{lt-or-le, true-or-false, true≢false, both-true}
+use Rattle.model.proofs.Numbers.{lt-or-le, true≢false, both-true}
 use Rattle.job_sets.specs.declared.JobSet.{JobSet}
 use Rattle.job_sets.specs.JobSets.{isMember, leastMember, isEmpty, inFirstOnly, withJob, withoutJob}
 use Rattle.job_sets.specs.IntervalSets.{setIn}
@@ -23,7 +21,7 @@ use Rattle.refilling.specs.declared.rows.Row.{Row}
 use Rattle.refilling.specs.Cells.{CanTake, CellTaken}
 use Rattle.refilling.specs.RefillTables.{OpenSets, RefillTables, Uncrossed, BetweenRows, InRow}
 use Rattle.refilling.proofs.RefillTables.{can-take, cell-taken, cell-kept, cells-passed, row-ended, left-falls, cross-falls}
-use Rattle.refilling.proofs.Uncrossed.{uncrossed-stay, uncrossed-ahead, uncrossed-next, uncrossed-before}
+use Rattle.refilling.proofs.Uncrossed.{uncrossed-stay, uncrossed-before}
 use Rattle.refilling.proofs.DueSets.{dueSet, due-within, due-by-bound, due-after, least-before}
 
 -- the start: the open jobs that are not finished and are due by the bound

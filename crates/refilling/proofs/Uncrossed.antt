@@ -1,14 +1,13 @@
 -- Laws of bounds that nothing must cross: they stay so, one is passed, and a new one is found.
 -- Assumes nothing.
-use mathlib.Core.Path.{_≡_, _∙_}
-use mathlib.Core.Logic.{_⊎_, inl, inr}
+use mathlib.Core.Path.{_≡_}
 use mathlib.Core.List.{List}
 use Prim.Native.Nat.{ℕ, suc, _<_, _≤_}
 use native.Mathlib.Decide.{ℕ-discrete}
 use native.Mathlib.Omega.{arith}
-use lib.ListN.{length, set, length-set}
+use lib.ListN.{set, length-set}
 use lib.Seq.{getD-set-same, getD-set-other}
-use Rattle.model.specs.Limits.{maxIntervals, maxBounds}
+use Rattle.model.specs.Limits.{maxIntervals}
 use Rattle.workloads.specs.Arrays.{numbersIn}
 use Rattle.refilling.specs.RefillTables.{Uncrossed}
 

@@ -1,7 +1,7 @@
 // Filling the intervals one after another, and in each the open jobs by number.
 ghost use mathlib.Core.Path.{_≡_};
 ghost use mathlib.Core.Bool.{cond, true, false};
-ghost use Prim.Native.Nat.{ℕ, suc, _+_, _<_, _≤_};
+ghost use Prim.Native.Nat.{ℕ, _+_, _<_, _≤_};
 ghost use lib.Dec.{ltb};
 ghost use Rattle.model.specs.Limits.{maxIntervals};
 ghost use Rattle.job_sets.specs.JobSets.{memberCount, isEmpty, inFirstOnly, noJobs};

@@ -1,5 +1,4 @@
 -- `placing::place_short` meets its contract (proofs/ShortPlaced.antt). Assumes nothing.
-use borrow.Author.Needs.{needs}
 use denote.Ref.{now}
 use Rattle.workloads.specs.Workloads.{Workload}
 use Rattle.workloads.specs.Arrays.{workloadWith}

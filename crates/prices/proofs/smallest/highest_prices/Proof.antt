@@ -1,9 +1,7 @@
 -- `smallest::highest_prices` meets its contract. The loop's invariant: they are the highest prices up to `i`. Assumes nothing.
 use mathlib.Core.Path.{_≡_}
-use Prim.Native.Nat.{ℕ, _+_, _-_, _<_, _≤_}
+use Prim.Native.Nat.{_-_, _≤_}
 use native.Mathlib.Omega.{arith}
-use denote.Ref.{now}
-use Rattle.model.specs.Limits.{maxIntervals}
 use Rattle.prices.specs.RisingPrices.{HighestPrices}
 use Rattle.prices.proofs.HeldShares.{highest-start, highest-next}
 use Rattle.prices.proofs.smallest.highest_prices.Statement.{statement}

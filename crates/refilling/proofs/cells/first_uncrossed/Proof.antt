@@ -1,7 +1,7 @@
 -- `cells::first_uncrossed` meets its contract. The loop's invariant: each bound before `b` must be crossed. Assumes nothing.
 use mathlib.Core.Path.{_≡_}
 use mathlib.Core.Logic.{_⊎_, inl, inr}
-use Prim.Native.Nat.{ℕ, _+_, _-_, _<_, _≤_}
+use Prim.Native.Nat.{ℕ, _-_, _<_, _≤_}
 use native.Mathlib.Omega.{arith}
 use borrow.Author.Count.{below-more}
 use Rattle.model.specs.Limits.{maxIntervals, maxBounds}

@@ -1,7 +1,7 @@
 -- `cells::most` meets its contract. Assumes nothing.
 use mathlib.Core.Path.{_≡_}
 use mathlib.Core.Logic.{⊎-elim}
-use Prim.Native.Nat.{_+_, _-_, _<_, _≤_}
+use Prim.Native.Nat.{_-_, _<_, _≤_}
 use native.Mathlib.Omega.{arith}
 use Rattle.workloads.specs.Arrays.{numbersIn}
 use Rattle.refilling.specs.Cells.{Most}

@@ -1,12 +1,11 @@
 -- `cells::take` meets its contract (proofs/CellSteps.antt). Assumes nothing.
-use mathlib.Core.Path.{_≡_, refl, sym}
-use Prim.Native.Nat.{_+_, _*_, _<_, _≤_}
+use mathlib.Core.Path.{refl}
+use Prim.Native.Nat.{_+_, _*_, _<_}
 use native.Mathlib.Omega.{arith}
 use lib.ListN.{length, length-set}
 use borrow.Author.Needs.{needs}
 use denote.Ref.{now}
 use Rattle.workloads.proofs.SharesTable.{place-in}
-use Rattle.refilling.specs.Cells.{CanTake, CellTaken}
 use Rattle.refilling.proofs.CellSteps.{takes-most, takes-none, put-none}
 use Rattle.refilling.proofs.cells.take.Statement.{statement}
 use Rattle.refilling.proofs.cells.take.Tie as tie

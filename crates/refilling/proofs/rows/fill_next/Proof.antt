@@ -1,7 +1,7 @@
 -- `rows::fill_next` meets its contract: the least job takes what it can (proofs/RowSteps.antt). Assumes nothing.
 use mathlib.Core.Path.{_≡_, ap}
 use mathlib.Core.Logic.{⊎-elim}
-use Prim.Native.Nat.{ℕ, _*_, _<_, _≤_}
+use Prim.Native.Nat.{ℕ, _<_, _≤_}
 use native.Mathlib.Omega.{arith}
 use borrow.Author.Needs.{needs}
 use denote.Ref.{now}
@@ -10,9 +10,8 @@ use Rattle.workloads.specs.Arrays.{numbersIn}
 use Rattle.job_sets.specs.declared.JobSet.{JobSet}
 use Rattle.job_sets.specs.JobSets.{memberCount, withoutJob}
 use Rattle.job_sets.proofs.JobSets.{count-without}
-use Rattle.refilling.specs.RefillTables.{lentLasts}
 use Rattle.refilling.proofs.DueSets.{due-fewer}
-use Rattle.refilling.proofs.RowSteps.{is-member, job-below, job-small, job-open, job-due, can-take-next, next-kept, row-finishes, row-narrows}
+use Rattle.refilling.proofs.RowSteps.{is-member, job-below, job-small, can-take-next, next-kept, row-finishes, row-narrows}
 use Rattle.refilling.proofs.rows.fill_next.Statement.{statement}
 use Rattle.refilling.proofs.rows.fill_next.Tie as tie
 

@@ -1,10 +1,7 @@
 -- `rows::fill_row` meets its contract. The loop's invariant: the interval is filled up to some job. Assumes nothing.
-use mathlib.Core.Path.{_≡_, refl, sym, _∙_}
-use Prim.Native.Nat.{ℕ, _*_, _<_, _≤_}
-use native.Mathlib.Omega.{arith}
+use mathlib.Core.Path.{sym, _∙_}
 use borrow.Author.Needs.{needs}
 use borrow.Author.Tests.{not-true, not-false}
-use denote.Ref.{now}
 use Rattle.job_sets.specs.JobSets.{memberCount}
 use Rattle.workloads.proofs.SharesTable.{kept-refl, kept-trans}
 use Rattle.refilling.specs.RefillTables.{RowFilled}

@@ -1,6 +1,6 @@
 -- `rows::fill_rows` meets its contract. The loop's invariant: the intervals before `interval` are filled. Assumes nothing.
 use mathlib.Core.Path.{_≡_}
-use Prim.Native.Nat.{ℕ, suc, _+_, _-_, _<_, _≤_}
+use Prim.Native.Nat.{_-_, _≤_}
 use native.Mathlib.Numerals.{add-one}
 use native.Mathlib.Omega.{arith}
 use borrow.Author.Needs.{needs}
@@ -8,7 +8,7 @@ use denote.Ref.{now}
 use Rattle.job_sets.specs.JobSets.{noJobs}
 use Rattle.workloads.proofs.SharesTable.{kept-refl, kept-trans}
 use Rattle.loads.proofs.Refilled.{refill-ends}
-use Rattle.refilling.specs.RefillTables.{lentLasts, BetweenRows, InRow, RowsFilled}
+use Rattle.refilling.specs.RefillTables.{lentLasts, BetweenRows, RowsFilled}
 use Rattle.refilling.proofs.RowSteps.{row-ends}
 use Rattle.refilling.proofs.rows.fill_rows.Statement.{statement}
 use Rattle.refilling.proofs.rows.fill_rows.Tie as tie

@@ -1,6 +1,6 @@
 -- `rows::start_row` meets its contract (proofs/RowSteps.antt). Assumes nothing.
 use mathlib.Core.Logic.{⊎-elim}
-use Prim.Native.Nat.{suc, _<_, _≤_}
+use Prim.Native.Nat.{suc}
 use native.Mathlib.Omega.{arith}
 use borrow.Author.Needs.{needs}
 use denote.Ref.{now}
