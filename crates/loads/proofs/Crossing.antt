@@ -75,6 +75,23 @@ fill-starts {p} sound {loads} fillable cross starts =
       few = omega arith;
     }
 
+-- what is left of the jobs, and what must cross the bounds, only falls
+module _ {i j d amount : ℕ} {left cross left-after cross-after : ℕ → ℕ} (takes : Takes i j d amount left cross left-after cross-after) where
+  pub left-falls : (q : ℕ) → left-after q ≤ left q
+  left-falls q = go (ℕ-discrete q j)
+    where
+      go : Dec (q ≡ j) → left-after q ≤ left q
+      go (yes e) = rw e (omega (arith, takes .here))
+      go (no other) = omega (arith, takes .others q other)
+
+  pub cross-falls : (b : ℕ) → cross-after b ≤ cross b
+  cross-falls b = go (lt-or-le i b) (lt-or-le b d)
+    where
+      go : (i < b) ⊎ (b ≤ i) → (b < d) ⊎ (d ≤ b) → cross-after b ≤ cross b
+      go (inl after) (inl before) = omega (arith, takes .lowered .inside b after before)
+      go (inr early) order = omega (arith, takes .lowered .outside b (inl early))
+      go (inl after) (inr late) = omega (arith, takes .lowered .outside b (inr late))
+
 -- a cell
 module _ (p : Problem) {left cross left-after cross-after : ℕ → ℕ} {i j amount : ℕ} (below : j < p .jobs) (takes : Takes i j (p .last j) amount left cross left-after cross-after) where
   due-taken : (b : ℕ) → dueBy p left b ≡ dueBy p left-after b + onlyIf (leb (p .last j) b) amount
@@ -87,38 +104,23 @@ module _ (p : Problem) {left cross left-after cross-after : ℕ → ℕ} {i j am
       own true = sym (takes .here)
       own false = refl
 
-  left-falls : (q : ℕ) → q < p .jobs → left-after q ≤ left q
-  left-falls q h = go (ℕ-discrete q j)
-    where
-      go : Dec (q ≡ j) → left-after q ≤ left q
-      go (yes e) = rw e (omega (arith, takes .here))
-      go (no other) = omega (arith, takes .others q other)
-
-  cross-falls : (b : ℕ) → b ≤ p .intervals → cross-after b ≤ cross b
-  cross-falls b inside = go (lt-or-le i b) (lt-or-le b (p .last j))
-    where
-      go : (i < b) ⊎ (b ≤ i) → (b < p .last j) ⊎ (p .last j ≤ b) → cross-after b ≤ cross b
-      go (inl after) (inl before) = omega (arith, takes .lowered .inside b after before)
-      go (inr early) due = omega (arith, takes .lowered .outside b (inl early))
-      go (inl after) (inr late) = omega (arith, takes .lowered .outside b (inr late))
-
   -- a job finishes or a cross comes to 0
   steps-grow : p .last j ≤ p .intervals → 0 < amount
       → zeroCount (p .jobs) left + zeroCount (p .intervals) cross < zeroCount (p .jobs) left-after + zeroCount (p .intervals) cross-after
   steps-grow inside some = go (takes .most)
     where
       less : zeroCount (p .jobs) left ≤ zeroCount (p .jobs) left-after
-      less = zeros-mono (p .jobs) left left-after left-falls
+      less = zeros-mono (p .jobs) left left-after (λ q h. left-falls takes q)
       fewer : zeroCount (p .intervals) cross ≤ zeroCount (p .intervals) cross-after
-      fewer = zeros-mono (p .intervals) cross cross-after (λ b h. cross-falls b (omega arith))
+      fewer = zeros-mono (p .intervals) cross cross-after (λ b h. cross-falls takes b)
       go : (left-after j ≡ 0) ⊎ ((b : ℕ) × (i < b) × (b < p .last j) × (cross-after b ≡ 0))
           → zeroCount (p .jobs) left + zeroCount (p .intervals) cross < zeroCount (p .jobs) left-after + zeroCount (p .intervals) cross-after
-      go (inl none) = omega (arith, fewer, zeros-more (p .jobs) left left-after j below left-falls (omega (arith, takes .here)) none)
+      go (inl none) = omega (arith, fewer, zeros-more (p .jobs) left left-after j below (λ q h. left-falls takes q) (omega (arith, takes .here)) none)
       go (inr (b, after, before, none)) =
           omega (
             arith,
             less,
-            zeros-more (p .intervals) cross cross-after b (omega arith) (λ b h. cross-falls b (omega arith)) (omega (arith, takes .lowered .inside b after before)) none,
+            zeros-more (p .intervals) cross cross-after b (omega arith) (λ b h. cross-falls takes b) (omega (arith, takes .lowered .inside b after before)) none,
           )
 
 pub fill-takes : {p : Problem} → SoundProblem p → {loads left cross left-after cross-after : ℕ → ℕ} {i j amount placed steps : ℕ}
@@ -130,7 +132,7 @@ fill-takes {p} sound {loads} {left} {cross} {left-after} {cross-after} {i} {j} {
       balance = λ b after within. balance b after within (lt-or-le b (p .last j));
       first = takes .lowered .outside 0 (inl (omega arith)) ∙ now .first;
       last = takes .lowered .outside (p .intervals) (inr (sound .inside j below)) ∙ now .last;
-      ended = λ q h due. omega (arith, left-falls p below takes q h, now .ended q h due);
+      ended = λ q h due. omega (arith, left-falls takes q, now .ended q h due);
       later = λ q h early. takes .others q (λ e. absurd (early-other q early e)) ∙ now .later q h early;
       passed = λ q h begun more. passed q begun more (eq-or-lt-of-le (le-of-suc-le-suc h));
       few = few (lt-or-le 0 amount);
@@ -155,8 +157,8 @@ fill-takes {p} sound {loads} {left} {cross} {left-after} {cross-after} {i} {j} {
     passed : (q : ℕ) → p .first q ≤ i → 0 < left-after q → (q ≡ j) ⊎ (q < j) → (b : ℕ) × (i < b) × (b < p .last q) × (cross-after b ≡ 0)
     passed q begun more (inl e) = tight q e more (takes .most)
     passed q begun more (inr h) =
-        let (b, after, before, none) = now .passed q h begun (omega (arith, left-falls p below takes q (omega arith))) in
-        (b, after, before, omega (arith, cross-falls p below takes b (omega (arith, sound .inside q (omega arith)))))
+        let (b, after, before, none) = now .passed q h begun (omega (arith, left-falls takes q)) in
+        (b, after, before, omega (arith, cross-falls takes b))
 
     few : (0 < amount) ⊎ (amount ≤ 0) → steps + onlyIf (ltb 0 amount) 1 ≤ zeroCount (p .jobs) left-after + zeroCount (p .intervals) cross-after - 1
     few (inl some) = rw (lt-ltb 0 amount some) (omega (
@@ -170,8 +172,8 @@ fill-takes {p} sound {loads} {left} {cross} {left-after} {cross-after} {i} {j} {
         (omega (
           arith,
           now .few,
-          zeros-mono (p .jobs) left left-after (left-falls p below takes),
-          zeros-mono (p .intervals) cross cross-after (λ b h. cross-falls p below takes b (omega arith)),
+          zeros-mono (p .jobs) left left-after (λ q h. left-falls takes q),
+          zeros-mono (p .intervals) cross cross-after (λ b h. cross-falls takes b),
         ))
 
 -- a cell whose job is not open

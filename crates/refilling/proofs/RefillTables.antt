@@ -5,11 +5,9 @@ use mathlib.Core.Logic.{_⊎_, inl, inr}
 use mathlib.Core.List.{List}
 use Prim.Native.Nat.{ℕ, suc, _+_, _-_, _*_, _<_, _≤_}
 use native.Mathlib.Nat.{eq-zero-or-pos, mul-le-mul-right}
-use native.Mathlib.Decide.{ℕ-discrete}
 use native.Mathlib.Omega.{arith}
 use lib.ListN.{length-set}
 use Rattle.model.specs.Plans.{Shares, sharesIn}
-use Rattle.model.proofs.Numbers.{lt-or-le}
 use Rattle.workloads.specs.Workloads.{Workload}
 use Rattle.workloads.specs.Placement.{Problem, Open}
 use Rattle.workloads.specs.Arrays.{numbersIn, problemIn, Holding, KeptPast}
@@ -17,7 +15,6 @@ use Rattle.workloads.proofs.SharesTable.{place-below, kept-refl, kept-set}
 use Rattle.paths.specs.Paths.{Grown}
 use Rattle.paths.proofs.GrownShares.{grown-case, grown-put}
 use Rattle.paths.proofs.HeldJobs.{holding-put}
-use Rattle.loads.specs.Crossing.{Takes}
 use Rattle.loads.proofs.Refilled.{own-zero, refill-takes, refill-passes, refill-rows}
 use Rattle.refilling.specs.Cells.{CanTake, CellTaken}
 use Rattle.refilling.specs.RefillTables.{RefillTables}
@@ -117,20 +114,3 @@ row-ended inside tables =
       cross-length = tables .cross-length;
       refilling = refill-rows (tables .sound .sound) (tables .fillable) inside (tables .refilling);
     }
-
--- what is left of the jobs, and what must cross the bounds, only falls
-module _ {i j d amount : ℕ} {left cross left-after cross-after : ℕ → ℕ} (takes : Takes i j d amount left cross left-after cross-after) where
-  pub left-falls : (q : ℕ) → left-after q ≤ left q
-  left-falls q = go (ℕ-discrete q j)
-    where
-      go : Dec (q ≡ j) → left-after q ≤ left q
-      go (yes e) = rw e (omega (arith, takes .here))
-      go (no other) = omega (arith, takes .others q other)
-
-  pub cross-falls : (b : ℕ) → cross-after b ≤ cross b
-  cross-falls b = go (lt-or-le i b) (lt-or-le b d)
-    where
-      go : (i < b) ⊎ (b ≤ i) → (b < d) ⊎ (d ≤ b) → cross-after b ≤ cross b
-      go (inl after) (inl before) = omega (arith, takes .lowered .inside b after before)
-      go (inr early) order = omega (arith, takes .lowered .outside b (inl early))
-      go (inl after) (inr late) = omega (arith, takes .lowered .outside b (inr late))

@@ -17,10 +17,11 @@ use Rattle.job_sets.proofs.JobSets.{less-has, least-has, empty-has, with-other,
 use Rattle.workloads.specs.Workloads.{Workload}
 use Rattle.workloads.specs.Placement.{Open}
 use Rattle.workloads.specs.Arrays.{numbersIn, problemIn, KeptPast}
+use Rattle.loads.proofs.Crossing.{left-falls, cross-falls}
 use Rattle.refilling.specs.declared.rows.Row.{Row}
 use Rattle.refilling.specs.Cells.{CanTake, CellTaken}
 use Rattle.refilling.specs.RefillTables.{OpenSets, RefillTables, Uncrossed, BetweenRows, InRow}
-use Rattle.refilling.proofs.RefillTables.{can-take, cell-taken, cell-kept, cells-passed, row-ended, left-falls, cross-falls}
+use Rattle.refilling.proofs.RefillTables.{can-take, cell-taken, cell-kept, cells-passed, row-ended}
 use Rattle.refilling.proofs.Uncrossed.{uncrossed-stay, uncrossed-before}
 use Rattle.refilling.proofs.DueSets.{dueSet, due-within, due-by-bound, due-after, least-before}
 
