@@ -18,7 +18,7 @@ use pricing::price;
 use site::{SiteReading, SiteTable, read_site};
 
 // The energy figure of an accepted plan, or the refusal's number and place.
-#[derive(Drop)]
+#[derive(Clone, Copy)]
 pub enum CheckAnswer {
     Accepted { energy: u64 },
     Refused { number: u32, place: u32 },

@@ -14,7 +14,7 @@ use model::{MAX_BOUNDS, MAX_INTERVALS, MAX_JOBS, Parameters};
 use site::{SiteReading, SiteTable, read_site};
 
 // The energy figure of a plan that fits, or the refusal's number and place.
-#[derive(Drop)]
+#[derive(Clone, Copy)]
 pub enum FitsAnswer {
     Fits { energy: u64 },
     Refused { number: u32, place: u32 },

@@ -1,4 +1,6 @@
 // Checking a plan: whether it fits, and with its price list whether it is least.
+#![tactic(auto)]
+
 mod checking;
 mod first_half;
 

@@ -1,5 +1,7 @@
 // The kernel's interface, for C: byte slices are a pointer and a length, answers are structs by value. No function
 // requires anything of its caller. The header is include/ramyearly.h.
+#![tactic(auto)]
+
 mod nearest_job;
 
 ghost use Rattle.std.specs.Prelude.{◌≡◌};
@@ -20,7 +22,7 @@ use touching::{NearestDeadline, TouchingAnswer};
 
 // The first half of the check. Number 0: the plan fits; otherwise the refusal's number and place, and 0.
 #[repr(C)]
-#[derive(Drop)]
+#[derive(Clone, Copy)]
 pub struct FitsResult {
     pub number: u32,
     pub place: u32,
@@ -29,7 +31,7 @@ pub struct FitsResult {
 
 // The check of a plan and its price list. Number 0: accepted; otherwise the refusal's number and place, and 0.
 #[repr(C)]
-#[derive(Drop)]
+#[derive(Clone, Copy)]
 pub struct CheckResult {
     pub number: u32,
     pub place: u32,
@@ -38,7 +40,7 @@ pub struct CheckResult {
 
 // The setting of one interval. Number 0: answered; otherwise the refusal's number and place, and zeros.
 #[repr(C)]
-#[derive(Drop)]
+#[derive(Clone, Copy)]
 pub struct SettingResult {
     pub number: u32,
     pub place: u32,
@@ -49,7 +51,7 @@ pub struct SettingResult {
 
 // The spare of a window. Number 0: answered; otherwise the refusal's number and place, and 0.
 #[repr(C)]
-#[derive(Drop)]
+#[derive(Clone, Copy)]
 pub struct SpareResult {
     pub number: u32,
     pub place: u32,
@@ -59,7 +61,7 @@ pub struct SpareResult {
 // Planning. Number 0: a plan was written, with its intervals, steps and energy figure; 11: the earliest overfull window
 // and its spare; otherwise the refusal's number and place. Fields that a case does not fill are 0.
 #[repr(C)]
-#[derive(Drop)]
+#[derive(Clone, Copy)]
 pub struct PlanResult {
     pub number: u32,
     pub place: u32,
@@ -74,7 +76,7 @@ pub struct PlanResult {
 // Laying out a round. Number 0: a job table was written, with its length in bytes and the multiple after which the round
 // repeats; otherwise the refusal's number and place, and zeros.
 #[repr(C)]
-#[derive(Drop)]
+#[derive(Clone, Copy)]
 pub struct RoundsResult {
     pub number: u32,
     pub place: u32,
@@ -84,7 +86,7 @@ pub struct RoundsResult {
 
 // Ordering. Number 0: the ordered plan was written, with its length in bytes; otherwise the refusal's number and place, and 0.
 #[repr(C)]
-#[derive(Drop)]
+#[derive(Clone, Copy)]
 pub struct OrderResult {
     pub number: u32,
     pub place: u32,
@@ -94,7 +96,7 @@ pub struct OrderResult {
 // What touches a span. Number 0: the lists were written, with their lengths and the nearest deadline, 0 where there is none;
 // otherwise the refusal's number and place, and zeros.
 #[repr(C)]
-#[derive(Drop)]
+#[derive(Clone, Copy)]
 pub struct TouchingResult {
     pub number: u32,
     pub place: u32,

@@ -7,7 +7,7 @@ use nearest::NearestAnswer;
 // The job nearest to trouble. Number 0: the list was written, with its length in numbers; 11: the earliest overfull window and its spare;
 // otherwise the refusal's number and place. Fields that a case does not fill are 0.
 #[repr(C)]
-#[derive(Drop)]
+#[derive(Clone, Copy)]
 pub struct NearestResult {
     pub number: u32,
     pub place: u32,

@@ -1,4 +1,6 @@
 // The cycles of jobs by the bound that is their deadline.
+#![tactic(auto)]
+
 ghost use Rattle.std.specs.Prelude.{◌≡◌, ℕ, ◌^◌, ◌<◌, ◌≤◌, length, replicate};
 ghost use Rattle.model.specs.Limits.{max_jobs, max_intervals, max_bounds};
 ghost use Rattle.model.specs.Sum.{sum};

@@ -1,4 +1,6 @@
 // The energy figure of a plan, from the loads of its intervals.
+#![tactic(auto)]
+
 ghost use Rattle.std.specs.Prelude.{◌≡◌, ◌-◌, ◌*◌, ◌≤◌, min, take};
 ghost use Rattle.model.specs.Limits.{max_frequency, max_power, max_deadline};
 ghost use Rattle.levels.specs.PointTables.{points_of, SmallPoints};

@@ -1,4 +1,6 @@
 // Signed numbers.
+#![tactic(auto)]
+
 ghost use Rattle.std.specs.Prelude.{◌≡◌, nat_abs};
 
 // A number without its sign. The least number has one too: one more than it can be negated.

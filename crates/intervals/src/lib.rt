@@ -1,4 +1,6 @@
 // Intervals of a job table: bounds, the number of a bound, and open sets.
+#![tactic(auto)]
+
 mod opening;
 mod times;
 

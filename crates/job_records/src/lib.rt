@@ -1,4 +1,6 @@
 // The jobs as lent records: in one pass over them the open sets of the intervals, and which jobs' steps add to their cycles.
+#![tactic(auto)]
+
 mod opening;
 mod records;
 

@@ -1,4 +1,6 @@
 // Sets of jobs: what a set has is asked and changed here alone, and its word is no other crate's business.
+#![tactic(auto)]
+
 mod by_interval;
 mod members;
 
@@ -9,7 +11,7 @@ pub use members::{
 use model::MAX_INTERVALS;
 
 // The members are the jobs whose bit is set, bit number equal to job number.
-#[derive(Drop)]
+#[derive(Clone, Copy)]
 pub struct JobSet {
     pub word: u64,
 }

@@ -11,7 +11,7 @@ use reading::{Reading, column32, number16};
 
 // The answer of reading jobs, with the entries beside it: their releases, deadlines and cycles, zeros past the last
 // entry, and zeros alone where the table is refused.
-#[derive(Drop)]
+#[derive(Clone, Copy)]
 pub struct JobTable {
     pub reading: Reading,
     pub releases: [u64; MAX_JOBS],

@@ -14,7 +14,7 @@ use reading::{Reading, column16, number16};
 
 // The answer of reading levels, with the entries beside it: their frequencies and their voltages, zeros past the
 // last entry, and zeros alone where the table is refused.
-#[derive(Drop)]
+#[derive(Clone, Copy)]
 pub struct LevelTable {
     pub reading: Reading,
     pub frequencies: [u64; MAX_LEVELS],

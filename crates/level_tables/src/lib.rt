@@ -1,4 +1,6 @@
 // Reading level tables from bytes, with the idle entry and a level's power, and the built-in level tables.
+#![tactic(auto)]
+
 mod built_in;
 mod idle_entry;
 mod levels;

@@ -1,4 +1,6 @@
 // Working levels of a level table.
+#![tactic(auto)]
+
 mod points;
 mod working;
 

@@ -10,7 +10,7 @@ use level_tables::{idle_entries, idle_power, power_of};
 use model::{Level, MAX_LEVELS, MAX_POINTS};
 
 // Frequencies and powers of a list of points, zeros past the last.
-#[derive(Drop)]
+#[derive(Clone, Copy)]
 pub struct PointTable {
     pub count: usize,
     pub frequencies: [u64; MAX_POINTS],
@@ -18,7 +18,7 @@ pub struct PointTable {
 }
 
 // A frequency and the power drawn at it.
-#[derive(Drop)]
+#[derive(Clone, Copy)]
 pub(crate) struct Point {
     pub frequency: u64,
     pub power: u64,

@@ -1,5 +1,7 @@
 // Prints the listing of a site. Its tables are the files levels.tbl, jobs.tbl and marks.tbl of the working directory. A marks.tbl that is
 // missing, empty or can't be read means no handover marks.
+#![tactic(auto)]
+
 ghost use Rattle.std.specs.Prelude.{◌≡◌, length};
 ghost use Rattle.io.specs.Counts.{IsPrefixLen};
 ghost use Rattle.listing_lines.specs.Appending.{text_room};

@@ -1,4 +1,6 @@
 // The lines of a listing as text.
+#![tactic(auto)]
+
 mod lines;
 mod writer;
 

@@ -1,4 +1,6 @@
 // The listing of a site as text.
+#![tactic(auto)]
+
 mod listing;
 mod plan;
 

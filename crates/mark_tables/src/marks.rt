@@ -11,7 +11,7 @@ use model::MAX_MARKS;
 use reading::{Reading, number16, number32};
 
 // The answer of reading marks, with the marks beside it: zeros past the last one, and zeros alone where the table is refused.
-#[derive(Drop)]
+#[derive(Clone, Copy)]
 pub struct MarkTable {
     pub reading: Reading,
     pub marks: [u64; MAX_MARKS],

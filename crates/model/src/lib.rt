@@ -1,16 +1,17 @@
 // The vocabulary of the code: a level, a job, a site's parameters, and the limits of documents 01 and 02 by name.
 // What the words mean is defined in specs/, and the laws on the definitions are proved in proofs/.
+#![tactic(auto)]
 
 // A frequency level of the processor: cycles per tick, and hundredths of a volt. A level table may begin with the idle entry:
 // 0, and what idling draws in thousands of power units.
-#[derive(Drop)]
+#[derive(Clone, Copy)]
 pub struct Level {
     pub frequency: u64,
     pub voltage: u64,
 }
 
 // A job may run from its release up to, not including, its deadline, for its number of cycles.
-#[derive(Drop)]
+#[derive(Clone, Copy)]
 pub struct Job {
     pub release: u64,
     pub deadline: u64,
@@ -19,7 +20,7 @@ pub struct Job {
 
 // The three numbers that come with each site: the highest running level allowed, counted from 1; the ticks kept free before each
 // deadline; and the margin on cycles, in percent.
-#[derive(Drop)]
+#[derive(Clone, Copy)]
 pub struct Parameters {
     pub highest: u32,
     pub free: u32,

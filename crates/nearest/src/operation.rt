@@ -22,7 +22,7 @@ use windows::{Overfull, earliest_overfull};
 
 // The length of the list that was written, in numbers; the earliest overfull window and its spare, which is refusal 11; or another
 // refusal's number and place.
-#[derive(Drop)]
+#[derive(Clone, Copy)]
 pub enum NearestAnswer {
     Listed { length: u64 },
     Overfull { start: u32, end: u32, spare: i64 },

@@ -8,7 +8,7 @@ use job_sets::SET_WORDS;
 use model::Parameters;
 
 // The length of the ordered plan that was written, in bytes; or the refusal's number and place.
-#[derive(Drop)]
+#[derive(Clone, Copy)]
 pub enum OrderAnswer {
     Ordered { length: u32 },
     Refused { number: u32, place: u32 },

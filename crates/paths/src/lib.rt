@@ -1,4 +1,6 @@
 // Moving cycles along the path that a search found.
+#![tactic(auto)]
+
 mod path;
 mod shares;
 
@@ -6,7 +8,7 @@ pub use path::fill;
 pub use shares::put;
 
 // A job's turn to be placed: its number, how many jobs there are, and how many of its cycles are left.
-#[derive(Drop)]
+#[derive(Clone, Copy)]
 pub struct Turn {
     pub job: usize,
     pub jobs: usize,

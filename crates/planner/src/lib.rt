@@ -1,4 +1,6 @@
 // Planning: jobs are placed band after band, at least price.
+#![tactic(auto)]
+
 mod moving;
 mod placement;
 mod rooms;

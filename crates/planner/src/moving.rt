@@ -9,7 +9,7 @@ use searching::search;
 
 // How many cycles of a job are left. Where some are, the intervals from `start` up to, not including, `end` are all that a
 // search reaches from the job, and none of them has room.
-#[derive(Drop)]
+#[derive(Clone, Copy)]
 pub struct Rest {
     pub left: u64,
     pub start: usize,

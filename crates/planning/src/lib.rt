@@ -1,4 +1,6 @@
 // Planning: the operation, and inside it the plan that is made.
+#![tactic(auto)]
+
 mod making;
 mod operation;
 mod placing;

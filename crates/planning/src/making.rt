@@ -16,7 +16,7 @@ use site::SiteTable;
 use writing::write_plan;
 
 // Intervals, steps and energy figure of a plan.
-#[derive(Drop)]
+#[derive(Clone, Copy)]
 pub struct Figures {
     pub intervals: usize,
     pub steps: usize,

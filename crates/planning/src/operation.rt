@@ -16,7 +16,7 @@ use windows::{Overfull, earliest_overfull};
 
 // Intervals, steps and energy figure of the plan written; the earliest overfull window and its spare, which is refusal 11;
 // or another refusal's number and place.
-#[derive(Drop)]
+#[derive(Clone, Copy)]
 pub enum PlanAnswer {
     Plan {
         intervals: u32,

@@ -1,4 +1,6 @@
 // Writing price lists in bytes.
+#![tactic(auto)]
+
 mod prices;
 
 pub use prices::write_prices;

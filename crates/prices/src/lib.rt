@@ -1,4 +1,6 @@
 // Prices of intervals: raising them, and the smallest ones that fit shares.
+#![tactic(auto)]
+
 mod ranges;
 mod smallest;
 

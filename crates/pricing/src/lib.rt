@@ -1,4 +1,6 @@
 // The second half of the check: whether the prices fit a plan.
+#![tactic(auto)]
+
 mod cheapest;
 mod pricing;
 

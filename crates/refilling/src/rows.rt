@@ -12,7 +12,7 @@ use model::{MAX_BOUNDS, MAX_JOBS};
 
 // How far an interval is filled. Nothing must cross the bound `uncrossed`, so that a job that is due after it can take no cycles here. Nothing
 // is left of the jobs in `finished`, and only those in `rest` are still to be asked.
-#[derive(Drop)]
+#[derive(Clone, Copy)]
 pub struct Row {
     pub uncrossed: usize,
     pub finished: JobSet,

@@ -1,4 +1,6 @@
 // Jobs by their room, the smallest first, and the list of them.
+#![tactic(auto)]
+
 mod lists;
 mod order;
 

@@ -1,4 +1,6 @@
 // How long the buffers must be: refusals 12 to 14.
+#![tactic(auto)]
+
 ghost use Rattle.std.specs.Prelude.{◌≡◌, ◌+◌, ◌-◌, ◌≤◌, min};
 ghost use Rattle.model.specs.Limits.{max_jobs, max_intervals};
 ghost use Rattle.model.specs.Sites.{Site};
@@ -7,7 +9,7 @@ ghost use Rattle.rooms.specs.WantedRooms.{OpenIn, WantedRooms};
 use job_sets::{SET_WORDS, count_all};
 
 // The lengths wanted: bytes of the plan and of the prices, and shares.
-#[derive(Drop)]
+#[derive(Clone, Copy)]
 pub struct Rooms {
     pub plan: usize,
     pub prices: usize,

@@ -1,4 +1,6 @@
 // Rounds that repeat: from the bytes of a task table to a job table over the least common multiple of the periods.
+#![tactic(auto)]
+
 mod operation;
 
 pub use operation::{RoundsAnswer, rounds};

@@ -12,7 +12,7 @@ use tasks::MAX_MULTIPLE;
 
 // The length of the job table that was written, in bytes, and the multiple after which the round repeats; or the
 // refusal's number and place.
-#[derive(Drop)]
+#[derive(Clone, Copy)]
 pub enum RoundsAnswer {
     LaidOut { length: u32, multiple: u32 },
     Refused { number: u32, place: u32 },

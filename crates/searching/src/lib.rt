@@ -1,4 +1,6 @@
 // The search for an interval with room.
+#![tactic(auto)]
+
 mod reached;
 mod room;
 

@@ -10,7 +10,7 @@ use model::{MAX_INTERVALS, MAX_JOBS};
 // other jobs. The target is an interval with room, MAX_INTERVALS where none was found. The jobs stand in an array beside
 // this, and in another one each but the first has an interval, its source, where it has a share. Numbers of jobs and of
 // intervals fit a byte, and arrays of bytes are cleared sooner.
-#[derive(Drop)]
+#[derive(Clone, Copy)]
 pub struct Found {
     pub count: usize,
     pub start: usize,

@@ -18,7 +18,7 @@ use parameters::alter_levels;
 use reading::Reading;
 
 // The band counts from 1; zeros for load 0.
-#[derive(Drop)]
+#[derive(Clone, Copy)]
 pub enum SettingAnswer {
     Set { band: u32, extra: u64, gap: u64 },
     Refused { number: u32, place: u32 },

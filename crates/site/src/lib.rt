@@ -1,5 +1,7 @@
 // Reading a site: its levels, its jobs and its handover marks, altered by its parameters: refusals 1 to 10, 31, 32 and 34 to 36. Every
 // operation that works on levels and jobs starts here.
+#![tactic(auto)]
+
 ghost use Rattle.std.specs.Prelude.{◌≡◌, List, ℕ, ◌<◌, ◌≤◌, get_or, replicate};
 ghost use Rattle.model.specs.Limits.{max_jobs, max_bounds, max_marks};
 ghost use Rattle.model.specs.Outcome.{answer, and_then};
@@ -22,7 +24,7 @@ use parameters::{alter_jobs, alter_levels};
 use reading::Reading;
 
 // Whether tables or a site were read, or the refusal's number and place.
-#[derive(Drop)]
+#[derive(Clone, Copy)]
 pub enum SiteReading {
     Read,
     Refused { number: u32, place: u32 },
@@ -30,7 +32,7 @@ pub enum SiteReading {
 
 // What stands beside the lent arrays once levels and jobs were read, as they are given: the entries of the level table, how many there
 // are, and how many jobs.
-#[derive(Drop)]
+#[derive(Clone, Copy)]
 pub(crate) struct GivenTables {
     pub reading: SiteReading,
     pub frequencies: [u64; MAX_LEVELS],
@@ -41,7 +43,7 @@ pub(crate) struct GivenTables {
 
 // What stands beside the lent arrays once both were altered: the working points and the top frequency of the processor, and how many
 // jobs there are.
-#[derive(Drop)]
+#[derive(Clone, Copy)]
 pub struct TablePair {
     pub reading: SiteReading,
     pub working: PointTable,
@@ -50,7 +52,7 @@ pub struct TablePair {
 }
 
 // The same once a site was read, with the number of its bounds.
-#[derive(Drop)]
+#[derive(Clone, Copy)]
 pub struct SiteTable {
     pub reading: SiteReading,
     pub working: PointTable,

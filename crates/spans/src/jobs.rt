@@ -11,7 +11,7 @@ use job_sets::{JobSet, none, with};
 use model::MAX_JOBS;
 
 // The nearest deadline, or none.
-#[derive(Drop)]
+#[derive(Clone, Copy)]
 pub enum NearestDeadline {
     At(u32),
     None,

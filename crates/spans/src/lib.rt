@@ -1,4 +1,6 @@
 // What touches a span of ticks, over plain arrays: jobs, steps of a plan, and the nearest deadline.
+#![tactic(auto)]
+
 mod jobs;
 mod lists;
 mod steps;

@@ -13,7 +13,7 @@ use model::{MAX_DEADLINE, MAX_JOBS, Parameters};
 use site::{SiteReading, TablePair, read_tables};
 
 // The spare may be negative.
-#[derive(Drop)]
+#[derive(Clone, Copy)]
 pub enum SpareAnswer {
     Spare(i64),
     Refused { number: u32, place: u32 },

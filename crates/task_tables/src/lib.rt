@@ -1,4 +1,6 @@
 // Reading task tables from bytes, and the least common multiple of the periods.
+#![tactic(auto)]
+
 mod multiple;
 mod task_table;
 

@@ -1,9 +1,10 @@
 // The vocabulary of tasks: what a task is, and the limits of their table by name.
 // What the words mean is defined in specs/, and the laws on the definitions are proved in proofs/.
+#![tactic(auto)]
 
 // A task releases a job at its phase and every period after it. Each job may run up to the task's deadline after its
 // release, for the task's number of cycles.
-#[derive(Drop)]
+#[derive(Clone, Copy)]
 pub struct Task {
     pub phase: u64,
     pub period: u64,

@@ -11,7 +11,7 @@ use test_support::written;
 
 // Whether a board's table is read, its working frequencies with that of idling first and zeros past the last, the check's
 // refusal, and where the board ends in the line.
-#[derive(Drop)]
+#[derive(Clone, Copy)]
 pub(crate) struct Board {
     pub read: bool,
     pub frequencies: [u64; MAX_POINTS],

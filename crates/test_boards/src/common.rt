@@ -5,7 +5,7 @@ use model::MAX_POINTS;
 
 // Whether a board is read, the working frequencies and the refusal of the first that is, and whether all others that are read
 // have the same working frequencies, and the same answer.
-#[derive(Drop)]
+#[derive(Clone, Copy)]
 pub(crate) struct Common {
     pub read: bool,
     pub frequencies: [u64; MAX_POINTS],

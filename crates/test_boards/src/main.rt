@@ -8,6 +8,8 @@
 // A table's numbers are the count, and then the windows and the cycles, the marks, or the frequencies and the voltages. A
 // plan's have 16 bits: N, S, the cells, and each step's cycles as a lower and an upper half. A price list's are N and then
 // bytes: four for each interval's end, and the prices.
+#![tactic(auto)]
+
 mod board;
 mod case;
 mod common;

@@ -6,7 +6,7 @@ use audit::CheckAnswer;
 use test_support::show;
 
 // The number and place of a refusal, zeros where the plan is accepted.
-#[derive(Drop)]
+#[derive(Clone, Copy)]
 pub struct Refusal {
     pub number: u32,
     pub place: u32,

@@ -6,6 +6,8 @@
 // A table's numbers are the count, and then the frequencies and the voltages, the windows and the cycles, or the marks. A
 // plan's have 16 bits: N, S, the cells, and each step's cycles as a lower and an upper half. A price list's are N and then
 // bytes: four for each interval's end, and the prices.
+#![tactic(auto)]
+
 mod case;
 
 use case::case;

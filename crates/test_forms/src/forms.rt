@@ -7,7 +7,7 @@ use test_search::mixes::power_of;
 use test_search::table::{COLUMN, JobColumns, LevelColumns, at_most, with_idle_entry};
 
 // What the sites of a group have in common.
-#[derive(Drop)]
+#[derive(Clone, Copy)]
 pub enum Form {
     // So many jobs, with any windows.
     Any(u32),

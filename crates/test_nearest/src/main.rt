@@ -7,6 +7,8 @@
 // The word is list, or plan where each room is tried by planning too, and what planning answers is printed behind the list, for each job
 // twice: for the set whose job has the cycles of its room more, and for the set whose job has one cycle more than that. Such a case has a
 // margin of 0, since the cycles of the room come on top of those with the margin.
+#![tactic(auto)]
+
 mod case;
 mod printed;
 mod tried;

@@ -10,7 +10,7 @@ use test_support::text::MAX_NUMBERS;
 use test_support::{show, written};
 
 // How many bytes the plan and the price list have, and how many are lent to ordering.
-#[derive(Drop)]
+#[derive(Clone, Copy)]
 pub struct Lengths {
     pub ordered: u32,
     pub plan: u32,

@@ -21,6 +21,8 @@
 // What stands in the file stdout was worked out from documents 01 and 02, without this project's code: refusals by going through
 // their conditions in order, and plans by trying all ways to share out the cycles of the jobs, of which exactly one is of least
 // energy in each site that is planned here.
+#![tactic(auto)]
+
 mod ask;
 mod by_hand;
 mod case;

@@ -14,7 +14,7 @@ use test_support::{show, written};
 pub(crate) const WRITTEN_ROOM: usize = 128;
 
 // The parameters of planning and those of the questions after it, and how much of each buffer is lent.
-#[derive(Drop)]
+#[derive(Clone, Copy)]
 pub struct Request {
     pub planning: Parameters,
     pub asking: Parameters,

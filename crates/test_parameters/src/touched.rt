@@ -11,7 +11,7 @@ use touching::{NearestDeadline, TouchingAnswer};
 pub(crate) const LIST_ROOM: usize = 16;
 
 // The span, how many ticks are kept free and what margin there is, and how many numbers of each list are lent.
-#[derive(Drop)]
+#[derive(Clone, Copy)]
 pub struct Question {
     pub free: u32,
     pub margin: u32,

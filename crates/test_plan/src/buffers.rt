@@ -7,7 +7,7 @@ pub(crate) const PRICE_ROOM: usize = 680;
 pub(crate) const SHARE_ROOM: usize = 8_656;
 
 // How long a part of each buffer is: in bytes, and in numbers for the shares.
-#[derive(Drop)]
+#[derive(Clone, Copy)]
 pub struct Lengths {
     pub plan: usize,
     pub prices: usize,

@@ -6,6 +6,8 @@
 // marks. A table's numbers are the count, and then the frequencies and the voltages, the windows and the cycles, or the marks.
 // The word says what is printed besides. It is steps where the plan of least energy is unique: the steps in cell order
 // and the prices. It is prices where all plans of least energy have the same smallest prices, and figure otherwise.
+#![tactic(auto)]
+
 mod buffers;
 mod case;
 mod print;

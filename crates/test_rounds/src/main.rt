@@ -3,6 +3,8 @@
 // buffer is as it was, past the job table or whole; and the jobs that are read from exactly the bytes written.
 // The cases are the lines of the file stdin: a name, how many bytes of the buffer and how many of the task table are lent,
 // and the table's numbers: the count, the phase and the period of each task, and then the deadline and the cycles of each.
+#![tactic(auto)]
+
 mod case;
 mod print;
 

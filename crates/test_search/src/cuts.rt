@@ -9,7 +9,7 @@ use std::num::{wrapping_add_u64, wrapping_sub_u64};
 
 // A cut of each job: its shares of the intervals, the interval that starts at its release, and the set of its other open
 // intervals.
-#[derive(Drop)]
+#[derive(Clone, Copy)]
 pub struct Cuts {
     pub shares: [u64; MOST_JOBS],
     pub firsts: [u8; MOST_JOBS],
@@ -17,13 +17,13 @@ pub struct Cuts {
 }
 
 // The cut that comes next, or that none is left.
-#[derive(Drop)]
+#[derive(Clone, Copy)]
 pub struct NextCuts {
     pub found: bool,
     pub cuts: Cuts,
 }
 
-#[derive(Drop)]
+#[derive(Clone, Copy)]
 struct NextCut {
     found: bool,
     shares: u64,

@@ -8,7 +8,7 @@ use crate::table::{COLUMN, LevelColumns, at_most};
 use model::{MAX_FREQUENCY, MAX_VOLTAGE};
 
 // An energy. A denominator of 0 says that there is none.
-#[derive(Drop)]
+#[derive(Clone, Copy)]
 pub struct Fraction {
     pub numerator: u64,
     pub denominator: u64,
@@ -17,7 +17,7 @@ pub struct Fraction {
 // The most that stands in the 16 bits of a draw.
 const MOST_DRAW: u32 = 65_535;
 
-#[derive(Drop)]
+#[derive(Clone, Copy)]
 struct Point {
     frequency: u64,
     power: u64,

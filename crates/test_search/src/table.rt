@@ -11,7 +11,7 @@ pub const MOST_JOBS: usize = 4;
 
 // The first entry may be an idle entry: frequency 0, and its draw in the place of the voltage. Entries past the count are not
 // used.
-#[derive(Drop)]
+#[derive(Clone, Copy)]
 pub struct LevelColumns {
     pub count: u32,
     pub frequencies: [u32; COLUMN],
@@ -19,7 +19,7 @@ pub struct LevelColumns {
 }
 
 // The windows are release and deadline of each job in turn.
-#[derive(Drop)]
+#[derive(Clone, Copy)]
 pub struct JobColumns {
     pub count: u32,
     pub windows: [u32; COLUMN],
@@ -27,7 +27,7 @@ pub struct JobColumns {
 }
 
 // Entries past the count are not used.
-#[derive(Drop)]
+#[derive(Clone, Copy)]
 pub struct MarkColumn {
     pub count: u32,
     pub ticks: [u32; COLUMN],

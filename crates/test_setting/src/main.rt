@@ -1,6 +1,8 @@
 // Settings at the ends of the bands and past the limits, and the working levels of tables in which levels are dropped; the
 // same for tables with an idle entry.
 // A level table in bytes: the count, the frequencies and the voltages, 16 bits each, the lower byte first.
+#![tactic(auto)]
+
 ghost use Rattle.std.specs.Prelude.{◌≤◌};
 
 mod idle;

@@ -4,6 +4,8 @@
 // The cases are the lines of the file stdin: a name, the length of the plan buffer that is lent, and after a word each the numbers of a
 // level table, of a job table and of a mark table; where the mark table is left out, there are no marks. A table's numbers are the count,
 // and then the frequencies and the voltages, the windows and the cycles, or the marks. The buffers for prices and shares are long enough.
+#![tactic(auto)]
+
 mod case;
 mod printed;
 

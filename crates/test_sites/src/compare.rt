@@ -11,7 +11,7 @@ use test_support::encode::ROOM;
 use walking::StepAnswer;
 
 // Whether a plan came out, whether everything agrees with the search, and the plan's exact energy, multiplied out.
-#[derive(Drop)]
+#[derive(Clone, Copy)]
 pub(crate) struct Outcome {
     pub planned: bool,
     pub agrees: bool,

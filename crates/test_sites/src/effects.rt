@@ -8,14 +8,14 @@ use test_search::table::{JobColumns, LevelColumns, MarkColumn, no_marks};
 use test_support::show;
 
 // Whether marks cut an interval of a site, and whether the search finds the same least energy without them.
-#[derive(Drop)]
+#[derive(Clone, Copy)]
 struct Effect {
     cut: bool,
     same: bool,
 }
 
 // For how many sites of a group that holds.
-#[derive(Drop)]
+#[derive(Clone, Copy)]
 struct Effects {
     cut: u64,
     same: u64,

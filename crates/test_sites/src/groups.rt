@@ -12,7 +12,7 @@ use test_support::show;
 pub(crate) const SITES: u64 = 80;
 
 // What a group's sites come to.
-#[derive(Drop)]
+#[derive(Clone, Copy)]
 struct Tally {
     planned: u64,
     agreeing: u64,

@@ -6,6 +6,8 @@
 // check accepts the plan with the figure that planning answered.
 // A group of sites with marks has a second line: in how many of them the marks cut an interval, and for how many the search
 // finds the same least energy without the marks.
+#![tactic(auto)]
+
 mod compare;
 mod effects;
 mod groups;

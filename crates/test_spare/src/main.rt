@@ -2,6 +2,8 @@
 // The cases are the lines of the file stdin: a name, the start and the end of a window, the word levels and the numbers
 // of a level table, the word jobs and the numbers of a job table. A table's numbers are the count, and then the
 // frequencies and the voltages, or the windows and the cycles.
+#![tactic(auto)]
+
 mod case;
 
 use case::case;

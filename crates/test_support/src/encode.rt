@@ -9,7 +9,7 @@ use crate::text::{digit, next, number};
 pub const ROOM: usize = 1024;
 
 // How many bytes a table has, and where its numbers end in the text.
-#[derive(Drop)]
+#[derive(Clone, Copy)]
 pub struct Encoded {
     pub length: usize,
     pub end: usize,
@@ -63,7 +63,7 @@ fn has_marks(line: &[u8], place: usize) -> bool {
 }
 
 // How many bytes each of a site's tables has, and where their numbers end in the text.
-#[derive(Drop)]
+#[derive(Clone, Copy)]
 pub struct SiteLengths {
     pub levels: usize,
     pub jobs: usize,
@@ -96,7 +96,7 @@ pub fn encode_site(
 }
 
 // How many bytes each of the tables has that a plan is checked with, and where their numbers end in the text.
-#[derive(Drop)]
+#[derive(Clone, Copy)]
 pub struct TableLengths {
     pub levels: usize,
     pub jobs: usize,

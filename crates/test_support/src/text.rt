@@ -48,7 +48,7 @@ pub fn number(line: &[u8], place: usize) -> u32 {
 pub const MAX_NUMBERS: usize = 9;
 
 // Numbers with zeros past the last, and where they end in the text.
-#[derive(Drop)]
+#[derive(Clone, Copy)]
 pub struct Numbers {
     pub values: [u32; MAX_NUMBERS],
     pub end: usize,

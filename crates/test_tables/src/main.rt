@@ -3,6 +3,8 @@
 // The cases are the lines of the file stdin: kind and name, how many bytes are read, the width of the numbers, the count,
 // and the numbers, which are the frequencies and then the voltages, the windows and then the cycles, or the marks. The lines
 // `first` and `second` ask for a built-in table.
+#![tactic(auto)]
+
 mod built_in;
 mod case;
 mod read;

@@ -6,6 +6,8 @@
 // are no marks. A call has a name, the start and the end of a span, and how many numbers of each list are lent.
 // A job table's numbers are the count, and then the windows and the cycles, a mark table's the count and then the marks. A
 // plan's have 16 bits: N, S, the cells, and each step's cycles as a lower and an upper half.
+#![tactic(auto)]
+
 mod call;
 mod print;
 mod site;

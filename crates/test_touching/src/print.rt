@@ -6,7 +6,7 @@ use test_support::show;
 use touching::NearestDeadline;
 
 // How long a part of each list is.
-#[derive(Drop)]
+#[derive(Clone, Copy)]
 pub struct Lengths {
     pub open_jobs: usize,
     pub inside_jobs: usize,

@@ -28,7 +28,7 @@ use spans::{
 };
 
 // The lengths of the three lists that were written, and the nearest deadline; or the refusal's number and place.
-#[derive(Drop)]
+#[derive(Clone, Copy)]
 pub enum TouchingAnswer {
     Touching {
         open_jobs: u32,

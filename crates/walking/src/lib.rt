@@ -1,4 +1,6 @@
 // Walking a plan: its steps, decoded from its bytes, and a reading from which they are taken one after another.
+#![tactic(auto)]
+
 mod steps;
 mod walk;
 

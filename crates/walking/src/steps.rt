@@ -8,7 +8,7 @@ use model::MAX_JOBS;
 use reading::{number16, number32};
 
 // A step gives a job some cycles in an interval.
-#[derive(Drop)]
+#[derive(Clone, Copy)]
 pub struct Step {
     pub interval: usize,
     pub job: usize,
@@ -16,7 +16,7 @@ pub struct Step {
 }
 
 // What stands at a position of a plan: a step, the end, or that the bytes are no plan.
-#[derive(Drop)]
+#[derive(Clone, Copy)]
 pub enum StepAnswer {
     Step(Step),
     End,

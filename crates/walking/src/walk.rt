@@ -9,14 +9,14 @@ ghost use Rattle.walking.specs.Readings.{started, taken};
 use crate::steps::{StepAnswer, answer_at, number_after};
 
 // A plan's bytes, and the number of the step that is taken next.
-#[derive(Drop)]
+#[derive(Clone, Copy)]
 pub struct StepReading<'a> {
     pub plan: &'a [u8],
     pub next: usize,
 }
 
 // What was taken from a reading, and the reading after it.
-#[derive(Drop)]
+#[derive(Clone, Copy)]
 pub struct Taken<'a> {
     pub answer: StepAnswer,
     pub rest: StepReading<'a>,

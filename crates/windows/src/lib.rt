@@ -1,4 +1,6 @@
 // Windows of a job table: the earliest overfull one.
+#![tactic(auto)]
+
 mod overfull;
 mod sums;
 

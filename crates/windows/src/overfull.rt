@@ -9,14 +9,14 @@ use job_sets::{JobSet, SET_WORDS};
 use model::{MAX_BOUNDS, MAX_JOBS};
 
 // The earliest overfull window, if there is one.
-#[derive(Drop)]
+#[derive(Clone, Copy)]
 pub enum Overfull {
     Window { start: u64, end: u64 },
     Fits,
 }
 
 // What the window test found, and how often it added a job's cycles to a sum.
-#[derive(Drop)]
+#[derive(Clone, Copy)]
 pub struct WindowTest {
     pub found: Overfull,
     pub additions: usize,
@@ -24,7 +24,7 @@ pub struct WindowTest {
 
 // What the windows from one start gave: the number of the bound at which the first overfull one ends, MAX_BOUNDS where there is
 // none, and how often a job's cycles were added.
-#[derive(Drop)]
+#[derive(Clone, Copy)]
 pub struct EndTest {
     pub end: usize,
     pub additions: usize,

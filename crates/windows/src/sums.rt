@@ -7,7 +7,7 @@ use job_sets::JobSet;
 use model::MAX_JOBS;
 
 // A sum of the cycles of jobs, and how many jobs were added.
-#[derive(Drop)]
+#[derive(Clone, Copy)]
 pub struct CycleSum {
     pub cycles: u64,
     pub additions: usize,

@@ -1,4 +1,6 @@
 // Writing numbers and plans in bytes.
+#![tactic(auto)]
+
 mod numbers;
 mod plan;
 
