@@ -1,0 +1,34 @@
+-- `checking::check_site` meets its contract: what the first half refuses is refused, and otherwise the second goes on with what it left.
+-- Assumes nothing.
+use mathlib.Core.Path.{refl, sym, ◌∙◌}
+use lib.ListN.{replicate}
+use borrow.Author.Rules.{rules}
+use Rattle.model.specs.Limits.{max_intervals}
+use Rattle.job_records.proofs.SetsHave.{no-jobs}
+use Rattle.audit.proofs.SecondHalf.{refused_accepted, check_refused, check_continued}
+use Rattle.audit.proofs.checking.check_site.Goals as goal
+
+pub fit_site-first-requires : goal.fit_site-first-requires
+fit_site-first-requires c =
+    record { holds_some = c.requires.0; no_jobs = (no-jobs, refl {a = replicate max_intervals 0}, c.requires.1) }
+
+pub check_prices-requires : goal.check_prices-requires
+check_prices-requires c =
+    let (site, valid, holds) = c.requires.0 in
+    (site, c.fit_site-first.ensures.left _ c.first-in-Fits-1.given.1 site valid holds)
+
+pub returns-in-Refused : goal.returns-in-Refused
+returns-in-Refused c = record {
+  value = λ site valid holds.
+      check_refused site _ _ _ _ (sym c.first-1.given.1 ∙ c.fit_site-first.ensures.judged site valid holds);
+  by_index = λ energy. refused_accepted;
+}
+
+pub returns-in-Fits : goal.returns-in-Fits
+returns-in-Fits c =
+    let answered = c.fit_site-first.ensures in
+    let fits = c.first-in-Fits-1.given.1 in record {
+      value = λ site valid holds.
+          rw (check_continued site _ _ _ (sym fits ∙ answered.judged site valid holds)) (c.check_prices.ensures site (answered.left _ fits site valid holds));
+      by_index = λ energy accepted. answered.seen _ fits;
+    }

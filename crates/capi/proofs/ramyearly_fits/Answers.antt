@@ -1,0 +1,11 @@
+-- `ramyearly_fits` meets its contract: each case of the answer becomes its struct. Assumes nothing.
+use Rattle.capi.proofs.Cases.{plan_fits, plan_refused}
+use mathlib.Core.Path.{◌∙◌, sym}
+use borrow.Author.Rules.{rules}
+use Rattle.capi.proofs.ramyearly_fits.Goals as goal
+
+pub returns-in-Fits : goal.returns-in-Fits
+returns-in-Fits c = plan_fits _ _ _ _ _ _ (sym c.answer-1.given.1 ∙ c.fits2.ensures)
+
+pub returns-in-Refused : goal.returns-in-Refused
+returns-in-Refused c = plan_refused _ _ _ _ _ _ _ (sym c.answer-in-Refused-1.given.1 ∙ c.fits2.ensures)

@@ -1,0 +1,10 @@
+-- `ramyearly_order` meets its contract: each case of the answer becomes its struct. Assumes nothing.
+use Rattle.capi.proofs.Cases.{order_ordered, order_refused}
+use borrow.Author.Rules.{rules}
+use Rattle.capi.proofs.ramyearly_order.Goals as goal
+
+pub returns-in-Ordered : goal.returns-in-Ordered
+returns-in-Ordered c = order_ordered _ _ _ _ _ _ _ _ _ (rw c.answer-1.given.1 at c.order-answer.ensures)
+
+pub returns-in-Refused : goal.returns-in-Refused
+returns-in-Refused c = order_refused _ _ _ _ _ _ _ _ _ _ (rw c.answer-in-Refused-1.given.1 at c.order-answer.ensures)

@@ -1,0 +1,33 @@
+-- `ramyearly_plan` meets its contract: each case of planning's answer becomes its struct. Assumes nothing.
+use mathlib.Core.Path.{◌≡◌, refl}
+use mathlib.Core.List.{List}
+use Prim.Native.Nat.{ℕ}
+use mir.Syntax.{w64}
+use mir.Val.{SFits}
+use mir.Facts.{to_z-of_z}
+use borrow.Author.Rules.{rules}
+use Rattle.model.specs.declared.Parameters.{Parameters}
+use Rattle.planning.specs.declared.operation.PlanAnswer.{PlanAnswer}
+use Rattle.planning.specs.MadePlans.{Buffers}
+use Rattle.planning.specs.PlanAnswers.{PlanContract}
+use Rattle.capi.specs.declared.PlanResult.{PlanResult}
+use Rattle.capi.specs.Results.{plan_result, PlanCall}
+use Rattle.capi.proofs.ramyearly_plan.Goals as goal
+
+-- the struct of the case that the answer is
+returned : (level_bytes job_bytes mark_bytes : List ℕ) (parameters : Parameters) (before after : Buffers) {answered : PlanAnswer}
+    → PlanContract level_bytes job_bytes mark_bytes parameters before after answered → (found : PlanAnswer) (result : PlanResult) → answered ≡ found
+    → result ≡ plan_result found → PlanCall level_bytes job_bytes mark_bytes parameters before after result
+returned level_bytes job_bytes mark_bytes parameters before after contract found result same is =
+    record { answered = found; result_is = is; contract = rw same at contract }
+
+pub returns-in-Plan : goal.returns-in-Plan
+returns-in-Plan c = returned _ _ _ _ _ _ c.plan-answer.ensures _ _ c.answer-1.given.1 refl
+
+pub returns-in-Overfull : goal.returns-in-Overfull
+returns-in-Overfull c =
+    let fits : SFits w64 c.answer-in-Overfull-1.given.0.1.1.0 = search rules in
+    rw (to_z-of_z fits) (returned _ _ _ _ _ _ c.plan-answer.ensures _ _ c.answer-in-Overfull-1.given.1 refl)
+
+pub returns-in-Refused : goal.returns-in-Refused
+returns-in-Refused c = returned _ _ _ _ _ _ c.plan-answer.ensures _ _ c.answer-in-Refused-1.given.1 refl

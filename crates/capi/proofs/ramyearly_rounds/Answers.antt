@@ -1,0 +1,10 @@
+-- `ramyearly_rounds` meets its contract: each case of the answer becomes its struct. Assumes nothing.
+use Rattle.capi.proofs.Cases.{rounds_laid_out, rounds_refused}
+use borrow.Author.Rules.{rules}
+use Rattle.capi.proofs.ramyearly_rounds.Goals as goal
+
+pub returns-in-LaidOut : goal.returns-in-LaidOut
+returns-in-LaidOut c = rounds_laid_out _ _ _ _ _ (rw c.answer-1.given.1 at c.rounds-answer.ensures)
+
+pub returns-in-Refused : goal.returns-in-Refused
+returns-in-Refused c = rounds_refused _ _ _ _ _ (rw c.answer-in-Refused-1.given.1 at c.rounds-answer.ensures)

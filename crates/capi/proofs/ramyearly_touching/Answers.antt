@@ -1,0 +1,15 @@
+-- `ramyearly_touching` meets its contract: each case of the answer becomes its struct. Assumes nothing.
+use Rattle.capi.proofs.Cases.{touching_touched, touching_refused}
+use borrow.Author.Rules.{rules}
+use Rattle.capi.proofs.ramyearly_touching.Goals as goal
+
+pub returns-in-Touching : goal.returns-in-Touching
+returns-in-Touching c =
+    touching_touched _ _ _ _ _ _ _ _ _ _ _ _ _ _ c.deadline_number.ensures
+    (rw c.answer-1.given.1 at
+    c.touching-answer.ensures)
+
+pub returns-in-Refused : goal.returns-in-Refused
+returns-in-Refused c =
+    touching_refused _ _ _ _ _ _ _ _ _ _ _
+    (rw c.answer-in-Refused-1.given.1 at c.touching-answer.ensures)

@@ -1,0 +1,16 @@
+-- `energy_figure` meets its contract. The loop's invariant: the figure is that of the bands passed, and small
+-- (proofs/BandTables.antt). Assumes nothing.
+use Prim.Native.Nat.{◌+◌, ◌-◌, ◌<◌, ◌≤◌}
+use native.Mathlib.Omega.{arith}
+use lib.ListN.{take}
+use Rattle.levels.specs.PointTables.{points_of}
+use Rattle.levels.proofs.Frequencies.{table_some}
+use Rattle.energy.proofs.BandTables.{FigureUpTo, power_high, frequency_steps, power_steps, ends_high, energy_few, figure_none, figure_more, figure_all}
+use Rattle.energy.proofs.energy_figure.Given as goal
+
+abbrev pub invariant-loop-k : goal.invariant-loop-k
+invariant-loop-k l =
+    (l.k ≤ l.last) × FigureUpTo (points_of l.working) (take l.bounds l.times) l.loads l.k l.figure
+
+abbrev pub decreases-loop-k : goal.decreases-loop-k
+decreases-loop-k l = l.last - l.k

@@ -1,0 +1,77 @@
+use mathlib.Core.Path.{◌≡◌, ◌∙◌, ap}
+use mathlib.Core.Logic.{⊎_elim}
+use Prim.Native.Nat.{◌-◌, ◌≤◌}
+use native.Mathlib.Omega.{arith}
+use Rattle.model.specs.Limits.{max_intervals, max_jobs}
+use Rattle.model.specs.Steps.{step_at}
+use Rattle.walking.specs.declared.steps.Step.{Step}
+use Rattle.fitting.specs.Sums.{tally_of}
+use Rattle.fitting.proofs.Tallies.{tally_none, tally_more, tally_past, tally_whole, cycles_room}
+use Rattle.fitting.proofs.sums.add_steps.Goals as goal
+
+pub step_count-count-requires : goal.step_count-count-requires
+step_count-count-requires c = c.requires.plan_len
+
+pub loop-s-init : goal.loop-s-init
+loop-s-init c = let zeros = c.requires.sums_value in (omega arith, zeros.0 ∙ tally_none max_jobs _ _, zeros.1 ∙ tally_none max_intervals _ _)
+
+pub decode_step-step-requires : goal.decode_step-step-requires
+decode_step-step-requires c = (c.requires.plan_len, omega arith)
+
+pub offset_bounds-sums-job : goal.offset_bounds-sums-job
+offset_bounds-sums-job c = omega arith
+
+pub bounds-sums-job : goal.bounds-sums-job
+bounds-sums-job c = omega arith
+
+pub overflow_add-sums : goal.overflow_add-sums
+overflow_add-sums c =
+    record {
+      fits =
+          cycles_room _ (λ place. (c.shared_slice_known-1.given place).fits) max_jobs
+          _ _ _ _ _ c.loop-s.invariant.1 (omega arith) (omega arith) c.decode_step-step.ensures.3;
+    }
+
+pub bounds-sums-job-in-loop-s : goal.bounds-sums-job-in-loop-s
+bounds-sums-job-in-loop-s c = omega arith
+
+pub offset_bounds-loads-interval : goal.offset_bounds-loads-interval
+offset_bounds-loads-interval c = omega arith
+
+pub bounds-loads-interval : goal.bounds-loads-interval
+bounds-loads-interval c = omega arith
+
+pub overflow_add-loads : goal.overflow_add-loads
+overflow_add-loads c =
+    record {
+      fits =
+          cycles_room _ (λ place. (c.shared_slice_known-1.given place).fits) max_intervals
+          _ _ _ _ _ c.loop-s.invariant.2 (omega arith) (omega arith) c.decode_step-step.ensures.3;
+    }
+
+pub bounds-loads-interval-then-interval-lt-MAX_INTERVALS : goal.bounds-loads-interval-then-interval-lt-MAX_INTERVALS
+bounds-loads-interval-then-interval-lt-MAX_INTERVALS c = omega arith
+
+pub overflow_add-s : goal.overflow_add-s
+overflow_add-s c = omega arith
+
+pub loop-s-smaller : goal.loop-s-smaller
+loop-s-smaller c = omega arith
+
+pub loop-s-preserved : goal.loop-s-preserved
+loop-s-preserved c =
+    let inv = c.loop-s.invariant in
+    let decoded = c.decode_step-step.ensures.0 in
+    let interval = ap (λ (t : Step). t.interval) decoded in
+    let cycles = ap (λ (t : Step). t.cycles) decoded in (
+      omega arith,
+      tally_more max_jobs _ _ _ _ _ _ inv.1 (ap (λ (t : Step). t.job) decoded) cycles (omega arith),
+      ⊎_elim (λ w. w.3 ∙ tally_more max_intervals _ _ _ _ _ _ inv.2 interval cycles w.0.taken)
+          (λ w. w.1 ∙ tally_past max_intervals _ _ _ _ _ inv.2 interval w.0.left) c.if-interval-lt-MAX_INTERVALS.branch,
+    )
+
+pub returns : goal.returns
+returns c = (
+  tally_whole max_jobs _ _ _ _ _ (omega arith) (omega arith) c.loop-s.invariant.1,
+  tally_whole max_intervals _ _ _ _ _ (omega arith) (omega arith) c.loop-s.invariant.2,
+)

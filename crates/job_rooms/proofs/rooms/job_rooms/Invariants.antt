@@ -1,0 +1,28 @@
+-- `rooms::job_rooms` meets its contract. The loop's invariant: the starts so far are taken (proofs/RoomSteps.antt). Assumes nothing.
+use mathlib.Core.Path.{◌≡◌, sym, ◌∙◌, refl}
+use mathlib.Core.Logic.{⊎_elim}
+use mathlib.Core.List.{List}
+use mathlib.Core.Option.{none}
+use Prim.Native.Nat.{ℕ, ◌-◌, ◌≤◌}
+use native.Mathlib.Numerals.{add-one}
+use lib.ListN.{length-replicate}
+use borrow.Author.Tests.{not-false}
+use Rattle.model.specs.declared.Job.{Job}
+use Rattle.model.specs.Limits.{max_intervals, max_bounds}
+use Rattle.model.specs.Windows.{earliest_overfull}
+use Rattle.job_sets.specs.JobSets.{in_both}
+use Rattle.job_sets.specs.IntervalSets.{set_in}
+use Rattle.job_rooms.specs.RoomArrays.{RoomArrays}
+use Rattle.job_rooms.proofs.RoomSteps.{Taken, taken_none, capacity_fits, all_few, ends_small, can_lower, can-settle, taken_over, taken_on, taken_all}
+use native.Mathlib.Omega.{arith}
+use Rattle.job_rooms.proofs.rooms.job_rooms.Given as goal
+
+abbrev pub invariant-loop-start : goal.invariant-loop-start
+invariant-loop-start l =
+    (l.start ≤ l.intervals)
+    × ((jobs : List Job) (bounds : List ℕ) → RoomArrays jobs bounds l.times l.cycles l.sets l.last l.count l.intervals → earliest_overfull l.top jobs ≡ none
+    → Taken l.top jobs bounds l.last l.cycles l.start l.from l.due l.spares l.rooms)
+
+abbrev pub decreases-loop-start : goal.decreases-loop-start
+decreases-loop-start l =
+    l.intervals - l.start

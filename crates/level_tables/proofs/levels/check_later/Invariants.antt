@@ -1,0 +1,25 @@
+-- `levels::check_later` meets its contract. The loop's invariant: no entry passed has a fault, and `before` is the
+-- entry before entry `i` (proofs/CheckedLevels.antt). What the reading then answers is in proofs/ByEntry.antt
+-- of the crate reading. Assumes nothing.
+use mathlib.Core.Path.{◌≡◌, ◌∙◌, sym, ap}
+use Prim.Native.Nat.{ℕ, ◌+◌, ◌-◌, ◌≤◌, ◌<◌}
+use native.Mathlib.Omega.{arith}
+use borrow.Author.Count.{below_more}
+use Rattle.model.specs.declared.Level.{Level}
+use Rattle.model.specs.Levels.{fault_of_level}
+use Rattle.model.specs.LevelTables.{table_fault}
+use Rattle.model.proofs.Entries.{length_list_of}
+use Rattle.reading.proofs.ByEntry.{reading_stops, reading_passes}
+use Rattle.level_tables.specs.Tables.{levels_in}
+use Rattle.level_tables.proofs.CheckedLevels.{entry_in, later_fault}
+use Rattle.level_tables.proofs.levels.check_later.Given as goal
+
+abbrev pub invariant-loop-i : goal.invariant-loop-i
+invariant-loop-i l =
+    (l.first < l.i)
+    × (l.i ≤ l.count)
+    × (l.before ≡ entry_in l.count l.frequencies l.voltages (l.i - 1))
+    × ((k : ℕ) → k < l.i → table_fault (levels_in l.count l.frequencies l.voltages) k ≡ 0)
+
+abbrev pub decreases-loop-i : goal.decreases-loop-i
+decreases-loop-i l = l.count - l.i

@@ -1,0 +1,82 @@
+use mathlib.Core.Path.{◌≡◌, sym, ◌∙◌, ap}
+use mathlib.Core.Logic.{⊎_elim}
+use Prim.Native.Nat.{◌+◌, ◌-◌, ◌<◌, ◌≤◌}
+use native.Mathlib.Omega.{arith}
+use lib.ListN.{length}
+use borrow.Author.Tests.{not-true, not-false}
+use Rattle.levels.specs.declared.points.PointTable.{PointTable}
+use Rattle.levels.specs.PointTables.{point_table, table_of, points_of}
+use Rattle.levels.proofs.PointTables.{length_points_of, point-in}
+use Rattle.levels.proofs.Keeping.{kept, kept_none, kept_all, kept_count, kept_dropped, kept_point}
+use Rattle.levels.proofs.working.working_points.Goals as goal
+use Rattle.levels.proofs.working.working_points.Goals.{Joined-not-dropped, Start}
+
+-- the table at hand
+abbrev all : (start : Start) → PointTable
+all start = table_of c.args.count c.args.frequencies.now c.args.powers.now
+
+pub loop-i-init : goal.loop-i-init
+loop-i-init c =
+    let none : c.no_points-table.result ≡ point_table (kept (points_of (all (goal.at.loop-i-init c).Start)) 0) = c.no_points-table.ensures ∙ ap point_table (kept_none _) in
+    (omega arith, kept_count _ _ _ (omega arith) none, none)
+
+pub dropped-requires : goal.dropped-requires
+dropped-requires c = record { small_points = c.requires; b_lt_count = omega arith }
+
+pub offset_bounds-frequencies-i : goal.offset_bounds-frequencies-i
+offset_bounds-frequencies-i c = omega arith
+
+pub bounds-frequencies-i : goal.bounds-frequencies-i
+bounds-frequencies-i c = omega arith
+
+pub offset_bounds-table-at : goal.offset_bounds-table-at
+offset_bounds-table-at c = omega arith
+
+pub bounds-table-at : goal.bounds-table-at
+bounds-table-at c = omega arith
+
+pub offset_bounds-powers-i : goal.offset_bounds-powers-i
+offset_bounds-powers-i c = omega arith
+
+pub bounds-powers-i : goal.bounds-powers-i
+bounds-powers-i c = omega arith
+
+pub offset_bounds-table-at-then-not-dropped : goal.offset_bounds-table-at-then-not-dropped
+offset_bounds-table-at-then-not-dropped c = omega arith
+
+pub bounds-table-at-then-not-dropped : goal.bounds-table-at-then-not-dropped
+bounds-table-at-then-not-dropped c = omega arith
+
+pub overflow_add-table : goal.overflow_add-table
+overflow_add-table c = omega arith
+
+pub overflow_add-i : goal.overflow_add-i
+overflow_add-i c = omega arith
+
+pub loop-i-smaller : goal.loop-i-smaller
+loop-i-smaller c = omega arith
+
+-- what the table has after this turn
+filled : (c : Joined-not-dropped)
+    → c.if-not-dropped.table ≡ point_table (kept (points_of (all c.before.before.before.before.before)) (c.loop-i.i + 1))
+filled c =
+    let table = all c.before.before.before.before.before in
+    let inside : c.loop-i.i < length (points_of table) = omega (arith, length_points_of table) in
+    ⊎_elim
+    (λ w.
+    w.3
+    ∙ kept_point _ _ inside _ c.loop-i.invariant.2 _ (omega (arith, length_points_of table)) (sym (point-in table _ (omega arith)))
+    (sym c.dropped.ensures ∙ not-true _ w.0.taken))
+    (λ w. w.1 ∙ kept_dropped _ _ inside _ c.loop-i.invariant.2 (sym c.dropped.ensures ∙ not-false _ w.0.left))
+    c.if-not-dropped.branch
+
+pub loop-i-preserved : goal.loop-i-preserved
+loop-i-preserved c =
+    let inside : c.loop-i.i + 1 ≤ length (points_of (all (goal.at.loop-i-preserved c).Start)) =
+    omega (arith, length_points_of (all (goal.at.loop-i-preserved c).Start)) in
+    (omega arith, kept_count _ _ _ inside (filled (goal.at.loop-i-preserved c).Joined-not-dropped), filled (goal.at.loop-i-preserved c).Joined-not-dropped)
+
+pub returns : goal.returns
+returns c =
+    c.loop-i.invariant.2
+    ∙ ap point_table (kept_all _ _ (omega (arith, length_points_of (all (goal.at.returns c).Start))))

@@ -1,0 +1,32 @@
+-- `working::working_up_to` meets its contract. It rests on `alter_levels` (proofs/KeptLevels.antt of the crate parameters) and on
+-- `working_levels`. Assumes nothing.
+use mathlib.Core.Path.{◌≡◌, ◌∙◌}
+use borrow.Author.Rules.{rules}
+use Rattle.model.specs.Outcome.{answer}
+use Rattle.model.specs.SiteParameters.{alter_levels}
+use Rattle.level_tables.specs.Tables.{levels_in}
+use Rattle.level_tables.proofs.Read.{levels_count}
+use Rattle.parameters.proofs.KeptLevels.{levels_kept, kept_valid, levels_limited}
+use Rattle.levels.proofs.working.working_up_to.Goals as goal
+use Rattle.levels.proofs.working.working_up_to.Goals.{In-Entries}
+
+pub alter_levels-reading-requires : goal.alter_levels-reading-requires
+alter_levels-reading-requires c = levels_count _ _ _ c.requires
+
+-- the entries up to the highest running level are the first that stand in the arrays
+kept : (c : In-Entries)
+    → alter_levels c.args.highest
+    (levels_in c.args.count c.args.frequencies.now c.args.voltages.now)
+    ≡ answer (levels_in c.reading-1.given.0.0 c.args.frequencies.now c.args.voltages.now)
+kept c = levels_kept _ _ _ _ _ (c.alter_levels-reading.ensures _) _ c.reading-1.given.1
+
+pub working_levels-requires : goal.working_levels-requires
+working_levels-requires c =
+    kept_valid _ _ _ _ _ (c.alter_levels-reading.ensures _) c.requires _ c.reading-1.given.1
+
+pub returns-in-Refused : goal.returns-in-Refused
+returns-in-Refused c =
+    c.no_points.ensures ∙ rw (levels_limited _ _ _ _ _ (c.alter_levels-reading.ensures _) _ _ c.enum_told-1.given.1)
+
+pub returns-in-Entries : goal.returns-in-Entries
+returns-in-Entries c = c.working_levels.ensures ∙ rw (kept (goal.at.returns-in-Entries c).In-Entries)

@@ -1,0 +1,22 @@
+-- `writer::put_decimal` meets its contract: the digits that `io::decimal` makes are the number's text (proofs/Decimals.antt).
+-- Assumes nothing.
+use mathlib.Core.Path.{◌∙◌}
+use Prim.Native.Nat.{◌≤◌}
+use native.Mathlib.Omega.{arith}
+use borrow.Author.Rules.{rules}
+use Rattle.listing_lines.proofs.AppendedText.{appended_as}
+use Rattle.listing_lines.proofs.Decimals.{fewest_digits, twenty_digits}
+use Rattle.listing_lines.proofs.writer.put_decimal.Goals as goal
+use Rattle.listing_lines.proofs.writer.put_decimal.Goals.{After-put_bytes-arg-1}
+
+few : (c : After-put_bytes-arg-1) → c.decimal-count.result ≤ 20
+few c = twenty_digits _ _ c.decimal-count.ensures.1.0 (search rules)
+
+pub put_bytes-requires : goal.put_bytes-requires
+put_bytes-requires c = omega (arith, few (goal.at.put_bytes-requires c).After-put_bytes-arg-1, c.decimal-count.ensures.0.1)
+
+pub returns : goal.returns
+returns c =
+    appended_as _ _ c.put_bytes.ensures _ _
+    (c.decimal-count.ensures.1.1 ∙ fewest_digits _ _ c.decimal-count.ensures.1.0)
+    (omega (arith, few (goal.at.returns c).After-put_bytes-arg-1, c.decimal-count.ensures.0.1))

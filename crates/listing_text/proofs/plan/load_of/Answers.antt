@@ -1,0 +1,50 @@
+use mathlib.Core.Path.{◌≡◌}
+use Prim.Native.Nat.{ℕ, ◌+◌, ◌-◌, ◌*◌, ◌≤◌}
+use native.Mathlib.Omega.{arith}
+use Rattle.model.specs.Sum.{sum}
+use Rattle.model.specs.Plans.{shares_in}
+use Rattle.model.proofs.Sum.{sum_next}
+use Rattle.listing_text.proofs.plan.load_of.Goals as goal
+
+-- after the last share
+whole : (share : ℕ → ℕ) (load n count : ℕ) → load ≡ sum n share → n ≤ count → count ≤ n → load ≡ sum count share
+whole share load n count is low high = let e : count ≡ n = omega arith in rw e is
+
+pub loop-j-init : goal.loop-j-init
+unfolding sum
+loop-j-init c = omega arith
+
+pub overflow_mul-load : goal.overflow_mul-load
+overflow_mul-load c = omega arith
+
+pub overflow_add-load : goal.overflow_add-load
+overflow_add-load c = omega arith
+
+pub offset_bounds-shares-interval : goal.offset_bounds-shares-interval
+offset_bounds-shares-interval c = omega arith
+
+pub bounds-shares-interval : goal.bounds-shares-interval
+bounds-shares-interval c = omega arith
+
+pub overflow_cast-load : goal.overflow_cast-load
+overflow_cast-load c = let a = c.args in omega (arith, c.shared_slice_known-1.given (a.interval * a.jobs + c.loop-j.j))
+
+pub overflow_add-load-in-loop-j : goal.overflow_add-load-in-loop-j
+overflow_add-load-in-loop-j c = let a = c.args in omega (arith, c.shared_slice_known-1.given (a.interval * a.jobs + c.loop-j.j))
+
+pub overflow_add-j : goal.overflow_add-j
+overflow_add-j c = omega arith
+
+pub loop-j-smaller : goal.loop-j-smaller
+loop-j-smaller c = omega arith
+
+pub loop-j-preserved : goal.loop-j-preserved
+loop-j-preserved c =
+    let a = c.args in (
+      omega (arith, sum_next c.loop-j.j (shares_in a.jobs a.shares.now a.interval)),
+      omega arith,
+      omega (arith, c.shared_slice_known-1.given (a.interval * a.jobs + c.loop-j.j)),
+    )
+
+pub returns : goal.returns
+returns c = whole _ _ _ _ c.loop-j.invariant.0 (omega arith) (omega arith)

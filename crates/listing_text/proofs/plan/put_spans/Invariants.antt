@@ -1,0 +1,26 @@
+-- `plan::put_spans` meets its contract. The loop's invariant: the lines of the first `i` intervals are put.
+-- Assumes nothing.
+use mathlib.Core.Path.{refl}
+use Prim.Native.Nat.{suc, ◌-◌, ◌*◌, ◌≤◌}
+use native.Mathlib.Nat.{mul-le-mul_right}
+use native.Mathlib.Omega.{arith}
+use Rattle.model.specs.Entries.{joined}
+use Rattle.model.specs.Sum.{sum}
+use Rattle.model.specs.Plans.{shares_in}
+use Rattle.levels.specs.PointTables.{points_of}
+use Rattle.listing_lines.specs.PlanText.{span_line, span_lines}
+use Rattle.listing_lines.specs.Appending.{span_room, Appended}
+use Rattle.listing_text.specs.ShownPlans.{bounds_in, prices_in}
+use Rattle.listing_lines.proofs.AppendedText.{same_room, next_most, appended_as, pieces_none, pieces_next, pieces_whole}
+use Rattle.listing_text.proofs.ShownSpans.{span_ready, span_shown}
+use Rattle.listing_text.proofs.plan.put_spans.Given as goal
+
+abbrev pub invariant-loop-i : goal.invariant-loop-i
+invariant-loop-i l =
+    (l.i ≤ l.intervals)
+    × Appended l.initial.text l.place
+    (joined l.i (λ k. span_line (points_of l.working) (bounds_in l.times k) (bounds_in l.times (suc k)) (sum l.jobs (shares_in l.jobs l.shares k)) (prices_in l.intervals l.prices k)))
+    (span_room * l.i) l.text l.next
+
+abbrev pub decreases-loop-i : goal.decreases-loop-i
+decreases-loop-i l = l.intervals - l.i

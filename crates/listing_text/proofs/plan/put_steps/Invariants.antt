@@ -1,0 +1,20 @@
+-- `plan::put_steps` meets its contract. The loop's invariant: the steps of the first `i` intervals are put.
+-- Assumes nothing.
+use Prim.Native.Nat.{◌-◌, ◌*◌, ◌≤◌}
+use native.Mathlib.Nat.{mul-le-mul_left, mul-le-mul_right}
+use native.Mathlib.Omega.{arith}
+use Rattle.model.specs.Entries.{encode_each, joined}
+use Rattle.model.specs.Plans.{shares_in}
+use Rattle.writing.specs.StepList.{steps_in}
+use Rattle.listing_lines.specs.PlanText.{step_line}
+use Rattle.listing_lines.specs.Appending.{step_room, Appended}
+use Rattle.listing_lines.proofs.AppendedText.{same_room, next_most, pieces_none, pieces_next, pieces_whole}
+use Rattle.listing_lines.proofs.LineTexts.{all_lines}
+use Rattle.listing_text.proofs.plan.put_steps.Given as goal
+
+abbrev pub invariant-loop-i : goal.invariant-loop-i
+invariant-loop-i l =
+    (l.i ≤ l.intervals) × Appended l.initial.text l.place (joined l.i (λ k. encode_each step_line (steps_in l.jobs (shares_in l.jobs l.shares) k))) (step_room * l.jobs * l.i) l.text l.next
+
+abbrev pub decreases-loop-i : goal.decreases-loop-i
+decreases-loop-i l = l.intervals - l.i

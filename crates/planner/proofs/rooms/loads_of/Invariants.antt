@@ -1,0 +1,21 @@
+-- `rooms::loads_of` meets its contract. The loop's invariant: the loads of the first `i` intervals are stored. Assumes nothing.
+use mathlib.Core.Path.{◌≡◌, refl, ◌∙◌}
+use Prim.Native.Nat.{ℕ, ◌+◌, ◌-◌, ◌*◌, ◌<◌, ◌≤◌}
+use native.Mathlib.Omega.{arith}
+use lib.ListN.{length, length-set}
+use lib.Seq.{get_or-set_other}
+use borrow.Author.Count.{below_none}
+use Rattle.model.specs.Limits.{max_intervals, max_deadline, max_frequency}
+use Rattle.workloads.specs.Arrays.{numbers_in}
+use Rattle.workloads.proofs.StoredNumbers.{stored_more}
+use Rattle.planner.proofs.rooms.loads_of.Given as goal
+
+abbrev pub invariant-loop-i : goal.invariant-loop-i
+invariant-loop-i l =
+    (l.i ≤ l.intervals)
+    × (length l.room ≡ max_intervals)
+    × ((k : ℕ) → k < l.i → numbers_in l.room k + numbers_in l.initial.room k ≡ numbers_in l.size k * l.frequency)
+    × ((k : ℕ) → l.i ≤ k → numbers_in l.room k ≡ numbers_in l.initial.room k)
+
+abbrev pub decreases-loop-i : goal.decreases-loop-i
+decreases-loop-i l = l.intervals - l.i

@@ -1,0 +1,47 @@
+-- `placing::place_short` meets its contract (proofs/ShortPlaced.antt). Assumes nothing.
+use Rattle.workloads.specs.Workloads.{Workload}
+use Rattle.workloads.specs.Arrays.{workload_with}
+use Rattle.workloads.proofs.SharesTable.{kept_trans}
+use Rattle.refilling.specs.RefilledTables.{CanRefill, RefilledTables}
+use Rattle.planning.proofs.ShortPlaced.{can_refill, placed_again}
+use Rattle.planning.proofs.placing.place_short.Goals as goal
+use Rattle.planning.proofs.placing.place_short.Goals.{After-place-arg-4-1, After-refill-arg-2-1, After-slice_known-3-1}
+
+-- what is to be placed
+abbrev workload : (c : After-place-arg-4-1) → Workload
+workload c =
+    let a = c.args in
+    workload_with a.cycles.now a.jobs a.intervals a.bands a.first.now a.last.now a.size.now a.frequency.now
+
+pub place-requires : goal.place-requires
+place-requires c =
+    let known = c.requires in record { sound_workload = known.0; ranges_fit = known.1.0; jobs_in_bounds = known.1.1.0; cycles_len = known.1.1.1.0.0; by_index = (λ i j inside has. ((known.1.1.1.1.0.open_are i j inside).0 has).0); loads_value = known.1.1.1.1.1 }
+
+-- what was placed can be filled anew
+refills : (c : After-refill-arg-2-1) → CanRefill (workload c.before.before.before.before.before) c.args.«open».now c.place.new.1.1.1.1.1.1.1.1.1.0
+    c.place.new.1.1.1.1.1.1.1.1.1.1.0 c.place.new.1.1.1.1.1.1.1.1.1.1.1.1.0
+refills c =
+    let known = c.requires in
+    can_refill known.0 c.place.ensures.0 known.1.1.1.1.0 known.1.1.1.0.0 known.1.1.1.0.1 c.place.ensures.2
+
+pub refill-requires : goal.refill-requires
+refill-requires c =
+    (workload (goal.at.refill-requires c).After-place-arg-4-1, refills (goal.at.refill-requires c).After-refill-arg-2-1)
+
+refilled : (c : After-slice_known-3-1)
+    → RefilledTables (workload c.before.before.before.before.before.before.before.before) c.place.last.1.1.1.1.1.1.1.1.1.0 c.place.last.1.1.1.1.1.1.1.1.1.1.0
+    c.refill.new.1.1.1.1.1.1.0 c.refill.new.1.1.1.1.1.1.1.0
+refilled c = c.refill.ensures (workload c.before.before.before.before.before.before.before.before) (refills c.before.before.before)
+
+pub shape_of-shares : goal.shape_of-shares
+shape_of-shares c =
+    (kept_trans c.place.ensures.1 (refilled (goal.at.shape_of-shares c).After-slice_known-3-1).kept).same_length
+
+pub returns : goal.returns
+returns c =
+    let tables = refilled (goal.at.returns c).After-slice_known-3-1 in (
+      placed_again c.requires.sound_workload c.place.ensures.0 tables,
+      kept_trans c.place.ensures.1 tables.kept,
+      tables.holding,
+      tables.refilled.few,
+    )

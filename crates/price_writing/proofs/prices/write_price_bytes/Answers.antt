@@ -1,0 +1,64 @@
+use mathlib.Core.Path.{◌≡◌}
+use mathlib.Core.List.{List}
+use Prim.Native.Nat.{ℕ, suc, ◌+◌, ◌*◌, ◌-◌, ◌%◌, ◌<◌, ◌≤◌}
+use native.Mathlib.Omega.{arith}
+use lib.ListN.{length, get_or, set}
+use lib.Seq.{sets}
+use Rattle.model.specs.Bytes.{bytes_of}
+use Rattle.model.proofs.Bytes.{length_bytes_of}
+use Rattle.price_writing.specs.PriceListBytes.{price_bytes}
+use Rattle.writing.proofs.NumberStores.{numbers_none, length_numbers, numbers_next, numbers_whole}
+use Rattle.price_writing.proofs.prices.write_price_bytes.Goals as goal
+use Rattle.price_writing.proofs.prices.write_price_bytes.Goals.{After-way_told-1, At-loop-i}
+
+one_byte : (out : List ℕ) (start i price : ℕ) → price < 255 → set out (start + i) (price + 1) ≡ sets out (start + 1 * i) (bytes_of 1 (suc price))
+unfolding bytes_of
+one_byte out start i price small =
+    let place : start + 1 * i ≡ start + i = omega arith in
+    let byte : suc price % 256 ≡ price + 1 = omega arith in
+    rw (place, byte)
+
+-- what is written keeps the buffer's length
+long : (c : At-loop-i) → length c.loop-i.out ≡ length c.args.out.now
+long c = length_numbers (bytes_of 1) 1 (length_bytes_of 1) _ _ _ _ _ c.loop-i.invariant.1
+
+-- a price fits its byte
+small : (c : After-way_told-1) → let a = c.args in get_or a.prices.now c.loop-i.i 0 < 255
+small c = c.requires.by_index _ c.loop-i-test.true
+
+pub loop-i-init : goal.loop-i-init
+loop-i-init c = (omega arith, numbers_none (bytes_of 1) 1 (length_bytes_of 1) _ _ _)
+
+pub bounds-prices-i : goal.bounds-prices-i
+bounds-prices-i c = omega arith
+
+pub overflow_add-out : goal.overflow_add-out
+overflow_add-out c = omega (arith, small (goal.at.overflow_add-out c).After-way_told-1)
+
+pub overflow_mul-out : goal.overflow_mul-out
+overflow_mul-out c = omega arith
+
+pub overflow_add-out-in-loop-i : goal.overflow_add-out-in-loop-i
+overflow_add-out-in-loop-i c = omega arith
+
+pub overflow_add-out-in-loop-i-2 : goal.overflow_add-out-in-loop-i-2
+overflow_add-out-in-loop-i-2 c = omega arith
+
+pub bounds-out-intervals : goal.bounds-out-intervals
+bounds-out-intervals c = omega (arith, long (goal.at.bounds-out-intervals c).At-loop-i)
+
+pub overflow_add-i : goal.overflow_add-i
+overflow_add-i c = omega arith
+
+pub loop-i-smaller : goal.loop-i-smaller
+loop-i-smaller c = omega arith
+
+pub loop-i-preserved : goal.loop-i-preserved
+loop-i-preserved c =
+    (omega arith, numbers_next (bytes_of 1) 1 (length_bytes_of 1) _ _ _ _ _ _ c.loop-i.invariant.1 (one_byte _ _ _ _ (small (goal.at.loop-i-preserved c).After-way_told-1)))
+
+pub shape_of-out : goal.shape_of-out
+shape_of-out c = long (goal.at.shape_of-out c).At-loop-i
+
+pub returns : goal.returns
+returns c = numbers_whole (bytes_of 1) 1 (length_bytes_of 1) _ _ _ _ _ _ c.loop-i.invariant.1 c.loop-i.invariant.0 c.loop-i-test.false

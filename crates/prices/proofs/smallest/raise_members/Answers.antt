@@ -1,0 +1,43 @@
+use mathlib.Core.Path.{◌≡◌, sym, ◌∙◌}
+use mathlib.Core.Bool.{true}
+use mathlib.Core.Logic.{⊎_elim}
+use Prim.Native.Nat.{◌<◌}
+use native.Mathlib.Omega.{arith}
+use borrow.Author.Tests.{not-true, not-false}
+use Rattle.model.specs.Limits.{max_jobs}
+use Rattle.job_sets.specs.JobSets.{is_member, member_count}
+use Rattle.job_sets.proofs.JobSets.{count_without}
+use Rattle.prices.proofs.MemberRaises.{RaisedSoFar, raises_start, raises_store, raises_pass, raises_end, least-member}
+use Rattle.prices.proofs.smallest.raise_members.Goals as goal
+use Rattle.prices.proofs.smallest.raise_members.Goals.{After-way_told-1}
+
+pub loop-rest-init : goal.loop-rest-init
+loop-rest-init c = raises_start c.requires
+
+-- within the loop the least of the rest is a member
+found : (c : After-way_told-1) → (c.least-job.result < max_jobs) × (is_member c.loop-rest.rest c.least-job.result ≡ true)
+found c = least-member c.loop-rest.rest c.least-job.ensures (sym c.is_empty.ensures ∙ not-true _ c.loop-rest-test.true-raw)
+
+pub bounds-highest-job : goal.bounds-highest-job
+bounds-highest-job c = (found (goal.at.bounds-highest-job c).After-way_told-1).0
+
+pub bounds-highest-job-then-highest-job : goal.bounds-highest-job-then-highest-job
+bounds-highest-job-then-highest-job c = (found (goal.at.bounds-highest-job-then-highest-job c).After-way_told-1).0
+
+pub without-rest-requires : goal.without-rest-requires
+without-rest-requires c = (found (goal.at.without-rest-requires c).After-way_told-1).0
+
+pub loop-rest-smaller : goal.loop-rest-smaller
+loop-rest-smaller c =
+    rw c.without-rest.ensures (omega (arith, count_without c.loop-rest.rest c.least-job.result (found (goal.at.loop-rest-smaller c).After-way_told-1).1))
+
+pub loop-rest-preserved : goal.loop-rest-preserved
+loop-rest-preserved c =
+    let so_far = c.loop-rest.invariant in
+    rw c.without-rest.ensures
+    (⊎_elim (λ w. rw w.1 (raises_store so_far (found (goal.at.loop-rest-preserved c).After-way_told-1).1 (found (goal.at.loop-rest-preserved c).After-way_told-1).0 w.0.taken))
+    (λ w. rw w.1 (raises_pass so_far (found (goal.at.loop-rest-preserved c).After-way_told-1).1 (found (goal.at.loop-rest-preserved c).After-way_told-1).0 w.0.left))
+    c.if-highest-job.branch)
+
+pub returns : goal.returns
+returns c = raises_end c.loop-rest.invariant (sym c.is_empty.ensures ∙ not-false _ c.loop-rest-test.false-raw)

@@ -1,0 +1,41 @@
+use mathlib.Core.Path.{◌≡◌, ◌∙◌}
+use Prim.Native.Nat.{◌-◌, ◌≤◌}
+use native.Mathlib.Omega.{arith}
+use Rattle.model.specs.Limits.{max_points}
+use Rattle.model.specs.Entries.{list_of}
+use Rattle.pricing.specs.SecondHalf.{cheaper_set}
+use Rattle.pricing.proofs.PricedSets.{cheaper_none, cheaper_more, filled_to, filled_none, filled_more, filled_all}
+use Rattle.pricing.proofs.cheapest.cheaper_sets.Goals as goal
+
+pub loop-price-init : goal.loop-price-init
+loop-price-init c = (omega arith, c.none-union.ensures ∙ cheaper_none c.args.t1, rw c.none-union.ensures (filled_none c.args.t1))
+
+pub offset_bounds-cheaper-price : goal.offset_bounds-cheaper-price
+offset_bounds-cheaper-price c = omega arith
+
+pub bounds-cheaper-price : goal.bounds-cheaper-price
+bounds-cheaper-price c = omega arith
+
+pub offset_bounds-priced-price : goal.offset_bounds-priced-price
+offset_bounds-priced-price c = omega arith
+
+pub bounds-priced-price : goal.bounds-priced-price
+bounds-priced-price c = omega arith
+
+pub overflow_add-price : goal.overflow_add-price
+overflow_add-price c = omega arith
+
+pub loop-price-smaller : goal.loop-price-smaller
+loop-price-smaller c = omega arith
+
+pub loop-price-preserved : goal.loop-price-preserved
+loop-price-preserved c =
+    let inv = c.loop-price.invariant in
+    let priced = c.args.t1 in (
+      omega arith,
+      c.either-union.ensures ∙ rw inv.1 (cheaper_more priced c.loop-price.price _ (omega (arith, c.well_formed.0))),
+      filled_more priced _ _ _ inv.2 inv.1 (omega arith),
+    )
+
+pub returns : goal.returns
+returns c = filled_all c.args.t1 _ _ c.loop-price.invariant.2 c.loop-price-test.false

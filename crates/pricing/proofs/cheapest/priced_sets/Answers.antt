@@ -1,0 +1,58 @@
+use mathlib.Core.Path.{◌≡◌}
+use Prim.Native.Nat.{◌-◌, ◌≤◌, ◌<◌}
+use native.Mathlib.Omega.{arith}
+use lib.ListN.{get_or}
+use Rattle.model.specs.Limits.{max_points}
+use Rattle.pricing.specs.SecondHalf.{priced_sets}
+use Rattle.pricing.proofs.PricedSets.{priced_none, priced_more}
+use Rattle.pricing.proofs.cheapest.priced_sets.Goals as goal
+use Rattle.pricing.proofs.cheapest.priced_sets.Goals.{After-price-1}
+
+pub loop-i-init : goal.loop-i-init
+loop-i-init c = (omega arith, rw c.none-nobody.ensures (priced_none c.args.sets.now c.args.numbers.now))
+
+pub overflow_add-i : goal.overflow_add-i
+overflow_add-i c = omega arith
+
+pub offset_bounds-numbers-i : goal.offset_bounds-numbers-i
+offset_bounds-numbers-i c = omega arith
+
+pub bounds-numbers-i : goal.bounds-numbers-i
+bounds-numbers-i c = omega arith
+
+-- the price of this turn's interval
+inside : (c : After-price-1)
+    → get_or c.args.numbers.now c.loop-i.i 0 < max_points
+inside c = c.requires.1 c.loop-i.i (omega arith)
+
+pub offset_bounds-priced-price : goal.offset_bounds-priced-price
+offset_bounds-priced-price c = omega (arith, inside (goal.at.offset_bounds-priced-price c).After-price-1)
+
+pub bounds-priced-price : goal.bounds-priced-price
+bounds-priced-price c = inside (goal.at.bounds-priced-price c).After-price-1
+
+pub set_at-requires : goal.set_at-requires
+set_at-requires c = omega arith
+
+pub offset_bounds-priced-price-in-loop-i : goal.offset_bounds-priced-price-in-loop-i
+offset_bounds-priced-price-in-loop-i c = omega (arith, inside (goal.at.offset_bounds-priced-price-in-loop-i c).After-price-1)
+
+pub bounds-priced-price-in-loop-i : goal.bounds-priced-price-in-loop-i
+bounds-priced-price-in-loop-i c = inside (goal.at.bounds-priced-price-in-loop-i c).After-price-1
+
+pub overflow_add-i-in-loop-i : goal.overflow_add-i-in-loop-i
+overflow_add-i-in-loop-i c = omega arith
+
+pub loop-i-smaller : goal.loop-i-smaller
+loop-i-smaller c = omega arith
+
+pub loop-i-preserved : goal.loop-i-preserved
+loop-i-preserved c =
+    let a = c.args in (
+      omega arith,
+      rw (c.either.ensures, c.set_at.ensures)
+          (priced_more a.sets.now a.numbers.now _ _ _ c.loop-i.invariant.1 (inside (goal.at.loop-i-preserved c).After-price-1)),
+    )
+
+pub returns : goal.returns
+returns c = let last : c.args.bounds - 1 ≡ c.loop-i.i = omega arith in rw last c.loop-i.invariant.1

@@ -1,0 +1,21 @@
+-- `pricing::check_fits` meets its contract. The loop's invariant: no interval passed has a fault (proofs/PriceFaults.antt).
+-- Assumes nothing.
+use mathlib.Core.Path.{◌≡◌, sym, ◌∙◌}
+use Prim.Native.Nat.{ℕ, ◌-◌, ◌≤◌, ◌<◌}
+use native.Mathlib.Omega.{arith}
+use lib.ListN.{get_or}
+use borrow.Author.Count.{below_none, below_more}
+use Rattle.levels.specs.PointTables.{points_of}
+use Rattle.levels.proofs.Frequencies.{frequency_high}
+use Rattle.fitting.proofs.BoundsIn.{bounds_rise, length_small}
+use Rattle.fitting.proofs.Verdicts.{verdict_stops, verdict_passes}
+use Rattle.pricing.specs.SecondHalf.{price_fault_in}
+use Rattle.pricing.proofs.PriceFaults.{band_fault}
+use Rattle.pricing.proofs.pricing.check_fits.Given as goal
+
+abbrev pub invariant-loop-i : goal.invariant-loop-i
+invariant-loop-i l =
+    (l.i ≤ l.bounds - 1) × ((k : ℕ) → k < l.i → price_fault_in (points_of l.working) l.times l.loads l.numbers k ≡ 0)
+
+abbrev pub decreases-loop-i : goal.decreases-loop-i
+decreases-loop-i l = l.bounds - l.i

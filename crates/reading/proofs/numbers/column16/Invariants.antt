@@ -1,0 +1,19 @@
+-- `numbers::column16` meets its contract. The loop's invariant: the first `i` numbers are filled, zeros after them
+-- (proofs/Column.antt). Assumes nothing.
+use mathlib.Core.Path.{◌≡◌, ◌∙◌, ap}
+use Prim.Native.Nat.{◌+◌, ◌*◌, ◌-◌, ◌≤◌}
+use native.Mathlib.Omega.{arith}
+use lib.ListN.{length}
+use Rattle.model.specs.Bytes.{number16}
+use Rattle.reading.specs.Column.{column_of}
+use Rattle.reading.specs.Tables.{SmallNumbers}
+use Rattle.reading.proofs.Column.{length_column, column_none, column_more, column_whole}
+use Rattle.reading.proofs.SmallNumbers.{small_none, small_more}
+use Rattle.reading.proofs.numbers.column16.Given as goal
+
+abbrev pub invariant-loop-i : goal.invariant-loop-i
+invariant-loop-i l =
+    (l.i ≤ l.count) × (l.numbers ≡ column_of 8 l.i (λ k. number16 l.bytes (l.place + 2 * k))) × SmallNumbers l.numbers
+
+abbrev pub decreases-loop-i : goal.decreases-loop-i
+decreases-loop-i l = l.count - l.i

@@ -1,0 +1,43 @@
+use mathlib.Core.Path.{◌≡◌}
+use Prim.Native.Nat.{◌-◌}
+use native.Mathlib.Omega.{arith}
+use lib.ListN.{length}
+use Rattle.spans.proofs.StepStores.{CellsPut, put_none, length_put, put_whole, put_room, put_next}
+use Rattle.spans.proofs.steps.write_steps.Goals as goal
+use Rattle.spans.proofs.steps.write_steps.Goals.{At-loop-i}
+
+-- what is written keeps the list's length
+long : (c : At-loop-i) → length c.loop-i.list ≡ length c.args.list.now
+long c = length_put _ _ _ _ _ _ c.requires.1 _ _ _ c.loop-i.invariant
+
+pub loop-i-init : goal.loop-i-init
+loop-i-init c = put_none _ _ _ _ _ _
+
+pub set_within-set-requires : goal.set_within-set-requires
+set_within-set-requires c = omega arith
+
+pub overflow_mul-i : goal.overflow_mul-i
+overflow_mul-i c = omega arith
+
+pub write_members-next-requires : goal.write_members-next-requires
+write_members-next-requires c =
+    (omega arith, put_room _ _ _ _ _ _ c.requires.1 _ _ _ c.loop-i.invariant c.loop-i-test.true _ c.set_within-set.ensures)
+
+pub overflow_add-i : goal.overflow_add-i
+overflow_add-i c = omega arith
+
+pub loop-i-smaller : goal.loop-i-smaller
+loop-i-smaller c = omega arith
+
+pub loop-i-preserved : goal.loop-i-preserved
+loop-i-preserved c =
+    let called = c.write_members-next in
+    put_next _ _ _ _ _ _ c.requires.1 _ _ _ c.loop-i.invariant c.loop-i-test.true _ c.set_within-set.ensures
+    _ _ called.ensures.0 called.ensures.1
+
+pub shape_of-list : goal.shape_of-list
+shape_of-list c = long (goal.at.shape_of-list c).At-loop-i
+
+pub returns : goal.returns
+returns c =
+    put_whole _ _ _ _ _ _ c.requires.1 _ _ _ c.loop-i.invariant c.loop-i-test.false

@@ -1,0 +1,54 @@
+-- `operation::touching_bounds` meets its contract: the jobs and their bounds stand in the arrays that are lent and made
+-- (proofs/TouchedArrays.antt), and the rest is what `list_touched` keeps.
+-- Assumes nothing.
+use mathlib.Core.Path.{refl}
+use native.Mathlib.Omega.{arith}
+use borrow.Author.Rules.{rules}
+use Rattle.job_tables.proofs.Read.{jobs_count}
+use Rattle.job_records.proofs.SetsHave.{no-jobs}
+use Rattle.touching.proofs.TouchingOutcomes.{refused_answers, same-answers}
+use Rattle.touching.proofs.TouchedArrays.{deadlines_high, times_rise, numbers_few, steps_refused, steps_passed}
+use Rattle.touching.proofs.operation.touching_bounds.Goals as goal
+
+pub bound_numbers-requires : goal.bound_numbers-requires
+bound_numbers-requires c =
+    let (valid, (bounds, held)) = c.requires in
+    (jobs_count _ _ _ _ valid, times_rise _ _ _ _ valid held, refl)
+
+pub bound_numbers-requires-2 : goal.bound_numbers-requires-2
+bound_numbers-requires-2 c =
+    let (valid, (bounds, held)) = c.requires in
+    (jobs_count _ _ _ _ valid, times_rise _ _ _ _ valid held, refl)
+
+pub open_sets-requires : goal.open_sets-requires
+open_sets-requires c =
+    let (valid, (bounds, held)) = c.requires in
+    let few = numbers_few _ _ _ _ valid held c.bound_numbers.ensures c.bound_numbers-2.ensures in
+    record { jobs_le_max_jobs = (jobs_count _ _ _ _ valid, refl); by_index = few }
+
+pub check_steps-checked-requires : goal.check_steps-checked-requires
+check_steps-checked-requires c =
+    let (valid, (bounds, held)) = (entry (releasing (goal.at.check_steps-checked-requires c).After-bound_numbers-2)).requires in
+    (jobs_count _ _ _ _ valid, (times_rise _ _ _ _ valid held).few, no-jobs)
+
+pub returns-in-Refused : goal.returns-in-Refused
+returns-in-Refused c = λ bounds held.
+    refused_answers _ _
+    (steps_refused _ _ _ _ c.requires.valid_jobs held
+    c.bound_numbers.ensures c.bound_numbers-2.ensures c.open_sets.ensures
+    _ _ c.check_steps-checked.ensures.value _ _ _ _ _ c.checked-1.given.1)
+
+pub list_touched-requires : goal.list_touched-requires
+list_touched-requires c =
+    let (valid, (bounds, held)) = (entry (releasing (numbering (goal.at.list_touched-requires c).After-open_sets))).requires in
+    let few = (times_rise _ _ _ _ valid held).few in
+    (jobs_count _ _ _ _ valid, omega (arith, c.interval_count.ensures), deadlines_high _ _ _ _ valid)
+
+pub returns : goal.returns
+returns c = λ bounds held.
+    same-answers
+    (steps_passed _ _ _ _ c.requires.valid_jobs held
+    c.bound_numbers.ensures c.bound_numbers-2.ensures c.open_sets.ensures
+    _ _ c.check_steps-checked.ensures.value _ _ _ _ c.enum_told-1.given.1 c.check_steps-checked.ensures.cells_seen
+    _ c.interval_count.ensures)
+    c.list_touched.ensures

@@ -1,0 +1,146 @@
+use mathlib.Core.Path.{◌≡◌, sym, ◌∙◌}
+use mathlib.Core.Bool.{true}
+use mathlib.Core.Logic.{⊎_elim}
+use mathlib.Core.List.{List}
+use Prim.Native.Nat.{ℕ, ◌-◌, ◌≤◌}
+use native.Mathlib.Numerals.{add-one}
+use native.Mathlib.Omega.{arith}
+use borrow.Author.Tests.{not-true, not-false}
+use Rattle.model.specs.declared.Job.{Job}
+use Rattle.model.specs.Limits.{max_intervals}
+use Rattle.model.specs.Intervals.{bound_at}
+use Rattle.job_sets.specs.JobSets.{in_both}
+use Rattle.job_sets.specs.IntervalSets.{set_in}
+use Rattle.windows.specs.WindowTests.{TestArrays, EndTested}
+use Rattle.windows.proofs.StartSteps.{is_release, Passed, passed_none, no-release, some_release, passed_over, added_within, added_until, additions_few, passed_on, found_here, passed_all}
+use Rattle.windows.proofs.overfull.earliest_overfull.Goals as goal
+use Rattle.windows.proofs.overfull.earliest_overfull.Goals.{After-both, After-struct_known-1, At-loop-start, Start, Then-not-is_empty}
+
+-- the intervals are few
+few : (c : Start) → c.args.intervals ≤ max_intervals
+few c = let (jobs, bounds, arrays) = c.requires.by_index in omega (arith, arrays.counted, arrays.few)
+
+pub loop-start-init : goal.loop-start-init
+loop-start-init c = (omega arith, λ jobs bounds arrays. rw c.all-from.ensures (passed_none arrays _))
+
+pub set_at-here-requires : goal.set_at-here-requires
+set_at-here-requires c = omega (arith, c.loop-start-test.true, few (goal.at.set_at-here-requires c).Start)
+
+-- the jobs released at the start
+here-are : (c : After-both)
+    → c.both.result ≡ in_both (set_in c.args.sets.now c.loop-start.start) c.loop-start.from
+here-are c = rw (← c.set_at-here.ensures) c.both.ensures
+
+-- what is passed, of the jobs that are known
+passed : (c : At-loop-start)
+    → let (jobs, bounds, arrays) = c.requires.by_index in
+    Passed c.args.top jobs bounds c.loop-start.start c.loop-start.from c.loop-start.additions
+passed c = let (jobs, bounds, arrays) = c.requires.by_index in c.loop-start.invariant.1 jobs bounds arrays
+
+pub overfull_end-test-requires : goal.overfull_end-test-requires
+overfull_end-test-requires c =
+    let (jobs, bounds, arrays) = c.requires.by_index in
+    record { by_index = (jobs, bounds, arrays, (passed (goal.at.overfull_end-test-requires c).At-loop-start).released); top_le_max_frequency = (c.requires.top_le_max_frequency, c.loop-start-test.true) }
+
+-- the start is a release
+released : (c : Then-not-is_empty)
+    → let a = c.args in
+    (jobs : List Job) (bounds : List ℕ) → TestArrays jobs bounds a.times.now a.cycles.now a.sets.now a.intervals
+    → is_release jobs bounds c.loop-start.start ≡ true
+released c = λ jobs bounds arrays.
+    some_release arrays _ _ c.loop-start-test.true _ _ (c.loop-start.invariant.1 jobs bounds arrays)
+    (rw (← here-are c.before.before) (sym c.is_empty.ensures ∙ not-true _ c.if-not-is_empty.true-raw))
+
+-- its windows are tested
+tested : (c : After-struct_known-1)
+    → let a = c.args in
+    (jobs : List Job) (bounds : List ℕ) → TestArrays jobs bounds a.times.now a.cycles.now a.sets.now a.intervals
+    → EndTested a.top jobs bounds c.loop-start.start c.overfull_end-test.result.end c.overfull_end-test.result.additions
+tested c = λ jobs bounds arrays.
+    c.overfull_end-test.ensures jobs bounds arrays (c.loop-start.invariant.1 jobs bounds arrays).released
+
+pub overflow_add-additions : goal.overflow_add-additions
+overflow_add-additions c =
+    let (jobs, bounds, arrays) = c.requires.by_index in
+    omega (
+      arith,
+      additions_few arrays c.args.top,
+      added_within arrays _ _ c.loop-start-test.true _ _ (passed (goal.at.overflow_add-additions c).At-loop-start)
+          (released (goal.at.overflow_add-additions c).Then-not-is_empty jobs bounds arrays) _ _ (tested (goal.at.overflow_add-additions c).After-struct_known-1 jobs bounds arrays),
+    )
+
+pub offset_bounds-times-start : goal.offset_bounds-times-start
+offset_bounds-times-start c =
+    omega (arith, c.loop-start-test.true, few (goal.at.offset_bounds-times-start c).Start)
+
+pub bounds-times-start : goal.bounds-times-start
+bounds-times-start c =
+    omega (arith, c.loop-start-test.true, few (goal.at.bounds-times-start c).Start)
+
+pub offset_bounds-times-end : goal.offset_bounds-times-end
+offset_bounds-times-end c = omega (arith, c.if-end-lt-MAX_BOUNDS.true)
+
+pub bounds-times-end : goal.bounds-times-end
+bounds-times-end c = c.if-end-lt-MAX_BOUNDS.true
+
+pub returns-then-end-lt-MAX_BOUNDS : goal.returns-then-end-lt-MAX_BOUNDS
+returns-then-end-lt-MAX_BOUNDS c = λ jobs bounds arrays.
+    let is = released (goal.at.returns-then-end-lt-MAX_BOUNDS c).Then-not-is_empty jobs bounds arrays in
+    let hit = c.if-end-lt-MAX_BOUNDS.true in
+    let inside = c.loop-start-test.true in
+    let before = c.loop-start.invariant.1 jobs bounds arrays in
+    let here = tested (goal.at.returns-then-end-lt-MAX_BOUNDS c).After-struct_known-1 jobs bounds arrays in
+    let found = found_here arrays _ _ inside _ _ before is _ _ here hit in
+    let (after, last) = here.inside hit in
+    record {
+      found_is =
+          rw (
+            found,
+            arrays.times_are c.loop-start.start (omega (arith, inside, arrays.counted)),
+            arrays.times_are c.overfull_end-test.result.end (omega (arith, last, after)),
+          );
+      additions_most = added_within arrays _ _ inside _ _ before is _ _ here;
+      additions_are = λ None-found. let z : ◌≡◌ {A = ℕ} 0 1 = cc (sym found ∙ None-found) in absurd (omega (arith, z));
+      additions_until = λ w e.
+          let starts : bound_at bounds c.loop-start.start ≡ w.start = cc (sym found ∙ e) in
+          let ends : bound_at bounds c.overfull_end-test.result.end ≡ w.end = cc (sym found ∙ e) in
+          rw (← starts, ← ends) (added_until arrays _ _ inside _ _ before is _ _ here hit);
+    }
+
+pub overflow_add-start : goal.overflow_add-start
+overflow_add-start c =
+    omega (arith, c.loop-start-test.true, few (goal.at.overflow_add-start c).Start)
+
+pub loop-start-smaller : goal.loop-start-smaller
+loop-start-smaller c = omega (arith, c.loop-start-test.true)
+
+pub loop-start-preserved : goal.loop-start-preserved
+loop-start-preserved c =
+(
+      omega (arith, c.loop-start-test.true),
+      λ jobs bounds arrays.
+          let before = c.loop-start.invariant.1 jobs bounds arrays in
+          rw (add-one c.loop-start.start, c.less-from.ensures, c.set_at-here.ensures)
+          (⊎_elim
+          (λ w.
+          rw w.4
+          (passed_on arrays _ _ c.loop-start-test.true _ _ before (released (record { before = (goal.at.loop-start-preserved c).After-is_empty; if1 = w.0 }) jobs bounds arrays) _ _
+          (w.1.ensures jobs bounds arrays before.released) w.3.left))
+          (λ w.
+          rw w.1
+          (passed_over arrays _ _ c.loop-start-test.true _ _ before
+          (no-release arrays _ _ c.loop-start-test.true _ _ before
+          (rw (← here-are (goal.at.loop-start-preserved c).After-both) (sym c.is_empty.ensures ∙ not-false _ w.0.left)))))
+          c.if-not-is_empty.branch),
+    )
+
+pub returns : goal.returns
+returns c = λ jobs bounds arrays.
+    let inv = c.loop-start.invariant in
+    let (fits, added) = passed_all arrays _ _ _ _ (omega (arith, c.loop-start-test.false, inv.0)) (inv.1 jobs bounds arrays) in
+    record {
+      found_is = rw fits;
+      additions_most = omega (arith, added);
+      additions_are = λ None-found. added;
+      additions_until = λ w e. let z : ◌≡◌ {A = ℕ} 0 1 = cc (sym fits ∙ e) in absurd (omega (arith, z));
+    }
