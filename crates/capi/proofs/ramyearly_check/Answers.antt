@@ -5,7 +5,7 @@ use borrow.Author.Rules.{rules}
 use Rattle.capi.proofs.ramyearly_check.Goals as goal
 
 pub returns-in-Accepted : goal.returns-in-Accepted
-returns-in-Accepted c = check_accepted _ _ _ _ _ _ _ (sym c.answer-1.given.1 ∙ c.check-answer.ensures)
+returns-in-Accepted c = check_accepted _ _ _ _ _ _ _ (sym c.in-Accepted.is ∙ c.check-answer.ensures)
 
 pub returns-in-Refused : goal.returns-in-Refused
-returns-in-Refused c = check_refused _ _ _ _ _ _ _ _ (sym c.answer-in-Refused-1.given.1 ∙ c.check-answer.ensures)
+returns-in-Refused c = check_refused _ _ _ _ _ _ _ _ (sym c.in-Refused.is ∙ c.check-answer.ensures)

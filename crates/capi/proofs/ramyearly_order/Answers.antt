@@ -4,7 +4,7 @@ use borrow.Author.Rules.{rules}
 use Rattle.capi.proofs.ramyearly_order.Goals as goal
 
 pub returns-in-Ordered : goal.returns-in-Ordered
-returns-in-Ordered c = order_ordered _ _ _ _ _ _ _ _ _ (rw c.answer-1.given.1 at c.order-answer.ensures)
+returns-in-Ordered c = order_ordered _ _ _ _ _ _ _ _ _ (rw c.in-Ordered.is at c.order-answer.ensures)
 
 pub returns-in-Refused : goal.returns-in-Refused
-returns-in-Refused c = order_refused _ _ _ _ _ _ _ _ _ _ (rw c.answer-in-Refused-1.given.1 at c.order-answer.ensures)
+returns-in-Refused c = order_refused _ _ _ _ _ _ _ _ _ _ (rw c.in-Refused.is at c.order-answer.ensures)

@@ -22,12 +22,12 @@ returned level_bytes job_bytes mark_bytes parameters before after contract found
     record { answered = found; result_is = is; contract = rw same at contract }
 
 pub returns-in-Plan : goal.returns-in-Plan
-returns-in-Plan c = returned _ _ _ _ _ _ c.plan-answer.ensures _ _ c.answer-1.given.1 refl
+returns-in-Plan c = returned _ _ _ _ _ _ c.plan-answer.ensures _ _ c.in-Plan.is refl
 
 pub returns-in-Overfull : goal.returns-in-Overfull
 returns-in-Overfull c =
     let fits : SFits w64 c.answer-in-Overfull-1.given.0.1.1.0 = search rules in
-    rw (to_z-of_z fits) (returned _ _ _ _ _ _ c.plan-answer.ensures _ _ c.answer-in-Overfull-1.given.1 refl)
+    rw (to_z-of_z fits) (returned _ _ _ _ _ _ c.plan-answer.ensures _ _ c.in-Overfull.is refl)
 
 pub returns-in-Refused : goal.returns-in-Refused
-returns-in-Refused c = returned _ _ _ _ _ _ c.plan-answer.ensures _ _ c.answer-in-Refused-1.given.1 refl
+returns-in-Refused c = returned _ _ _ _ _ _ c.plan-answer.ensures _ _ c.in-Refused.is refl

@@ -4,7 +4,7 @@ use borrow.Author.Rules.{rules}
 use Rattle.capi.proofs.ramyearly_rounds.Goals as goal
 
 pub returns-in-LaidOut : goal.returns-in-LaidOut
-returns-in-LaidOut c = rounds_laid_out _ _ _ _ _ (rw c.answer-1.given.1 at c.rounds-answer.ensures)
+returns-in-LaidOut c = rounds_laid_out _ _ _ _ _ (rw c.in-LaidOut.is at c.rounds-answer.ensures)
 
 pub returns-in-Refused : goal.returns-in-Refused
-returns-in-Refused c = rounds_refused _ _ _ _ _ (rw c.answer-in-Refused-1.given.1 at c.rounds-answer.ensures)
+returns-in-Refused c = rounds_refused _ _ _ _ _ (rw c.in-Refused.is at c.rounds-answer.ensures)

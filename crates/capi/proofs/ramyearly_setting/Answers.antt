@@ -10,7 +10,7 @@ pub overflow_cast-result : goal.overflow_cast-result
 overflow_cast-result c = omega (arith, gap_small _ _ _ _ _ _ _ (sym c.answer-1.given.1 ∙ c.setting-answer.ensures))
 
 pub returns-in-Set : goal.returns-in-Set
-returns-in-Set c = setting_set _ _ _ _ _ _ _ (sym c.answer-1.given.1 ∙ c.setting-answer.ensures)
+returns-in-Set c = setting_set _ _ _ _ _ _ _ (sym c.in-Set.is ∙ c.setting-answer.ensures)
 
 pub returns-in-Refused : goal.returns-in-Refused
-returns-in-Refused c = setting_refused _ _ _ _ _ _ (sym c.answer-in-Refused-1.given.1 ∙ c.setting-answer.ensures)
+returns-in-Refused c = setting_refused _ _ _ _ _ _ (sym c.in-Refused.is ∙ c.setting-answer.ensures)

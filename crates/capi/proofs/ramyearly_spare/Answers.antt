@@ -9,7 +9,7 @@ use Rattle.capi.proofs.ramyearly_spare.Goals as goal
 
 pub returns-in-Spare : goal.returns-in-Spare
 returns-in-Spare c = let fits : SFits w64 c.answer-1.given.0.0 = search rules in
-    rw (to_z-of_z fits) (spare_found _ _ _ _ _ _ (sym c.answer-1.given.1 ∙ c.spare-answer.ensures))
+    rw (to_z-of_z fits) (spare_found _ _ _ _ _ _ (sym c.in-Spare.is ∙ c.spare-answer.ensures))
 
 pub returns-in-Refused : goal.returns-in-Refused
-returns-in-Refused c = spare_refused _ _ _ _ _ _ _ (sym c.answer-in-Refused-1.given.1 ∙ c.spare-answer.ensures)
+returns-in-Refused c = spare_refused _ _ _ _ _ _ _ (sym c.in-Refused.is ∙ c.spare-answer.ensures)

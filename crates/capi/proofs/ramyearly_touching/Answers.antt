@@ -6,10 +6,10 @@ use Rattle.capi.proofs.ramyearly_touching.Goals as goal
 pub returns-in-Touching : goal.returns-in-Touching
 returns-in-Touching c =
     touching_touched _ _ _ _ _ _ _ _ _ _ _ _ _ _ c.deadline_number.ensures
-    (rw c.answer-1.given.1 at
+    (rw c.in-Touching.is at
     c.touching-answer.ensures)
 
 pub returns-in-Refused : goal.returns-in-Refused
 returns-in-Refused c =
     touching_refused _ _ _ _ _ _ _ _ _ _ _
-    (rw c.answer-in-Refused-1.given.1 at c.touching-answer.ensures)
+    (rw c.in-Refused.is at c.touching-answer.ensures)

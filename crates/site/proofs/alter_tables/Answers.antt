@@ -11,11 +11,11 @@ alter_levels-limited-requires c =
 
 pub altered_tables-requires : goal.altered_tables-requires
 altered_tables-requires c =
-    record { valid_given = c.requires; voltages_value = levels_kept _ _ _ _ _ (c.alter_levels-limited.ensures _) _ c.limited-in-Entries-1.given.1 }
+    record { valid_given = c.requires; voltages_value = levels_kept _ _ _ _ _ (c.alter_levels-limited.ensures _) _ c.in-Entries.is }
 
 pub returns-in-Refused : goal.returns-in-Refused
 returns-in-Refused c = λ given valid holds.
-    highest_refused valid holds _ _ _ (levels_limited _ _ _ _ _ (c.alter_levels-limited.ensures _) _ _ c.limited-1.given.1) c.refused_tables.ensures
+    highest_refused valid holds _ _ _ (levels_limited _ _ _ _ _ (c.alter_levels-limited.ensures _) _ _ c.in-Refused.is) c.refused_tables.ensures
 
 pub returns-in-Entries : goal.returns-in-Entries
 returns-in-Entries c = c.altered_tables.ensures

@@ -37,10 +37,10 @@ bounds-frequencies-kept c = omega (arith, (kept (goal.at.bounds-frequencies-kept
 
 pub returns-in-Refused : goal.returns-in-Refused
 returns-in-Refused c = λ given valid holds.
-    altering_refused valid holds _ _ c.requires.voltages_value _ _ (refused_altering c.alter_jobs-altered.ensures _ _ c.altered-1.given.1) c.refused_tables.ensures
+    altering_refused valid holds _ _ c.requires.voltages_value _ _ (refused_altering c.alter_jobs-altered.ensures _ _ c.in-Refused.is) c.refused_tables.ensures
 
 pub returns-in-Entries : goal.returns-in-Entries
 returns-in-Entries c = λ given valid holds.
     let found = c.alter_jobs-altered.ensures in
-    both_altered valid holds _ _ c.requires.voltages_value _ (found.held _ c.altered-in-Entries-1.given.1) (found.cycles_past _ c.altered-in-Entries-1.given.1) refl refl
+    both_altered valid holds _ _ c.requires.voltages_value _ (found.held _ c.in-Entries.is) (found.cycles_past _ c.in-Entries.is) refl refl
     c.working_levels-working.ensures refl

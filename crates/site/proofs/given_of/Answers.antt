@@ -8,11 +8,11 @@ use Rattle.site.proofs.given_of.Goals as goal
 pub returns-in-Refused : goal.returns-in-Refused
 returns-in-Refused c = λ level_bytes read.
     let decoded = c.decode_jobs-reading.ensures in
-    jobs_refused level_bytes _ _ read _ _ (jobs_decoded_refused _ _ _ _ _ decoded _ _ c.reading-1.given.1) c.refused_given.ensures
+    jobs_refused level_bytes _ _ read _ _ (jobs_decoded_refused _ _ _ _ _ decoded _ _ c.in-Refused.is) c.refused_given.ensures
 
 pub returns-in-Entries : goal.returns-in-Entries
 returns-in-Entries c = λ level_bytes read.
     let decoded = c.decode_jobs-reading.ensures in
-    let counted = c.reading-in-Entries-1.given.1 in
+    let counted = c.in-Entries.is in
     both_read level_bytes _ _ read (jobs_decoded _ _ _ _ _ decoded _ counted) refl refl (decoded_deadlines_padded _ _ _ _ _ decoded _ counted)
     (decoded_padded _ _ _ _ _ decoded _ counted)

@@ -14,9 +14,9 @@ site_of-requires c =
 
 pub returns-in-Refused : goal.returns-in-Refused
 returns-in-Refused c = λ given valid holds.
-    parameters_refused _ given _ _ _ (refused-tables (c.alter_tables-tables.ensures given valid holds) _ _ c.reading-1.given.1) c.refused_site.ensures
+    parameters_refused _ given _ _ _ (refused-tables (c.alter_tables-tables.ensures given valid holds) _ _ c.in-Refused.is) c.refused_site.ensures
 
 pub returns-in-Read : goal.returns-in-Read
 returns-in-Read c = λ given valid holds.
-    let (tables, is, held) = held_tables (c.alter_tables-tables.ensures given valid holds) c.enum_told-1.given.1 in
+    let (tables, is, held) = held_tables (c.alter_tables-tables.ensures given valid holds) c.in-Read.is in
     parameters_then _ given _ tables is (c.site_of.ensures tables _ held)

@@ -6,8 +6,8 @@ use Rattle.site.proofs.read_given.Goals as goal
 
 pub returns-in-Refused : goal.returns-in-Refused
 returns-in-Refused c =
-    levels_refused _ _ _ _ (levels_read_refused _ _ c.read_levels-table.ensures _ _ c.reading-1.given.1) c.refused_given.ensures
+    levels_refused _ _ _ _ (levels_read_refused _ _ c.read_levels-table.ensures _ _ c.in-Refused.is) c.refused_given.ensures
 
 pub returns-in-Entries : goal.returns-in-Entries
 returns-in-Entries c =
-    c.given_of.ensures _ (levels_read _ _ c.read_levels-table.ensures _ c.reading-in-Entries-1.given.1)
+    c.given_of.ensures _ (levels_read _ _ c.read_levels-table.ensures _ c.in-Entries.is)

@@ -10,10 +10,10 @@ given_site-requires c =
 
 pub returns-in-Refused : goal.returns-in-Refused
 returns-in-Refused c =
-    site_refused _ _ (site_refused_first _ _ _ _ _ _ (refused-given c.read_given-given.ensures _ _ c.reading-1.given.1))
+    site_refused _ _ (site_refused_first _ _ _ _ _ _ (refused-given c.read_given-given.ensures _ _ c.in-Refused.is))
     c.refused_site.ensures
 
 pub returns-in-Read : goal.returns-in-Read
 returns-in-Read c =
-    let (given, is, holds) = held_given c.read_given-given.ensures c.enum_told-1.given.1 in
+    let (given, is, holds) = held_given c.read_given-given.ensures c.in-Read.is in
     rw (site_after _ _ _ _ given is) (c.given_site.ensures given (given_valid _ _ given is) holds)

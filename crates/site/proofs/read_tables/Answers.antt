@@ -10,10 +10,10 @@ alter_tables-requires c =
 
 pub returns-in-Refused : goal.returns-in-Refused
 returns-in-Refused c =
-    tables_refused _ _ (tables_refused_first _ _ _ _ _ (refused-given c.read_given-given.ensures _ _ c.reading-1.given.1))
+    tables_refused _ _ (tables_refused_first _ _ _ _ _ (refused-given c.read_given-given.ensures _ _ c.in-Refused.is))
     c.refused_tables.ensures
 
 pub returns-in-Read : goal.returns-in-Read
 returns-in-Read c =
-    let (given, is, holds) = held_given c.read_given-given.ensures c.enum_told-1.given.1 in
+    let (given, is, holds) = held_given c.read_given-given.ensures c.in-Read.is in
     rw (tables_after _ _ _ given is) (c.alter_tables.ensures given (given_valid _ _ given is) holds)

@@ -8,12 +8,12 @@ use borrow.Author.Rules.{rules}
 use Rattle.capi.proofs.nearest_job.ramyearly_nearest.Goals as goal
 
 pub returns-in-Listed : goal.returns-in-Listed
-returns-in-Listed c = returned _ _ _ _ _ c.nearest-answer.ensures _ _ c.answer-1.given.1 refl
+returns-in-Listed c = returned _ _ _ _ _ c.nearest-answer.ensures _ _ c.in-Listed.is refl
 
 pub returns-in-Overfull : goal.returns-in-Overfull
 returns-in-Overfull c =
     let fits : SFits w64 c.answer-in-Overfull-1.given.0.1.1.0 = search rules in
-    rw (to_z-of_z fits) (returned _ _ _ _ _ c.nearest-answer.ensures _ _ c.answer-in-Overfull-1.given.1 refl)
+    rw (to_z-of_z fits) (returned _ _ _ _ _ c.nearest-answer.ensures _ _ c.in-Overfull.is refl)
 
 pub returns-in-Refused : goal.returns-in-Refused
-returns-in-Refused c = returned _ _ _ _ _ c.nearest-answer.ensures _ _ c.answer-in-Refused-1.given.1 refl
+returns-in-Refused c = returned _ _ _ _ _ c.nearest-answer.ensures _ _ c.in-Refused.is refl

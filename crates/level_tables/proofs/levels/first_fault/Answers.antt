@@ -33,10 +33,10 @@ power_of-requires c =
 
 pub returns-then-power_of-idle_power : goal.returns-then-power_of-idle_power
 returns-then-power_of-idle_power c =
-    too_much c.args.idle-power c.power_of.result _ _ c.level_fault-number.ensures c.if-number-ne0.false c.power_of.ensures
+    too_much c.args.idle_power c.power_of.result _ _ c.level_fault-number.ensures c.if-number-ne0.false c.power_of.ensures
     (omega arith)
 
 pub returns : goal.returns
 returns c =
-    low-enough c.args.idle-power c.power_of.result _ _ c.level_fault-number.ensures c.if-number-ne0.false c.power_of.ensures
+    low-enough c.args.idle_power c.power_of.result _ _ c.level_fault-number.ensures c.if-number-ne0.false c.power_of.ensures
     (omega arith)

@@ -25,7 +25,7 @@ returns-in-Entries c =
     _ _ _ _ _
     c.number16-count.ensures.0 (omega arith) c.column16-frequencies.ensures.0 c.column16-voltages.ensures.0 c.check_levels-reading.ensures
     _
-    c.enum_told-1.given.1
+    c.in-Entries.is
     ∙ ap level_table (levels_whole _ (omega arith) (omega arith) (omega arith) (omega arith))
 
 pub returns-in-Refused : goal.returns-in-Refused
@@ -37,5 +37,5 @@ returns-in-Refused c =
     c.number16-count.ensures.0 (omega arith) c.column16-frequencies.ensures.0 c.column16-voltages.ensures.0 c.check_levels-reading.ensures
     _
     _
-    c.reading-1.given.1
+    c.in-Refused.is
     ∙ levels_whole _ (omega arith) (omega arith) (omega arith) (omega arith))

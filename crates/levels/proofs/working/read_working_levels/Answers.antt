@@ -22,7 +22,7 @@ working_up_to-requires c = levels_valid _ _ (answered (goal.at.working_up_to-req
 
 pub returns-in-Refused : goal.returns-in-Refused
 returns-in-Refused c =
-    c.no_points.ensures ∙ rw (levels_read_refused _ _ c.read_levels-table.ensures _ _ c.enum_told-1.given.1)
+    c.no_points.ensures ∙ rw (levels_read_refused _ _ c.read_levels-table.ensures _ _ c.in-Refused.is)
 
 pub returns-in-Entries : goal.returns-in-Entries
 returns-in-Entries c = c.working_up_to.ensures ∙ rw (answered (goal.at.returns-in-Entries c).After-voltages-in-Entries-1)

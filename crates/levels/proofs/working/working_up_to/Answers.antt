@@ -26,7 +26,7 @@ working_levels-requires c =
 
 pub returns-in-Refused : goal.returns-in-Refused
 returns-in-Refused c =
-    c.no_points.ensures ∙ rw (levels_limited _ _ _ _ _ (c.alter_levels-reading.ensures _) _ _ c.enum_told-1.given.1)
+    c.no_points.ensures ∙ rw (levels_limited _ _ _ _ _ (c.alter_levels-reading.ensures _) _ _ c.in-Refused.is)
 
 pub returns-in-Entries : goal.returns-in-Entries
 returns-in-Entries c = c.working_levels.ensures ∙ rw (kept (goal.at.returns-in-Entries c).In-Entries)

@@ -24,7 +24,7 @@ running_count-requires c = levels_count _ _ _ (levels_valid _ _ (answered (goal.
 pub returns-in-Refused : goal.returns-in-Refused
 unfolding as_given
 returns-in-Refused c =
-    rw (levels_read_refused _ _ c.read_levels-table.ensures _ _ c.enum_told-1.given.1)
+    rw (levels_read_refused _ _ c.read_levels-table.ensures _ _ c.in-Refused.is)
 
 pub returns-in-Entries : goal.returns-in-Entries
 unfolding as_given

@@ -12,9 +12,9 @@ plan_site-requires c =
     (site, sites_are_valid _ _ _ _ site is, holds)
 
 pub returns-in-Refused : goal.returns-in-Refused
-returns-in-Refused c = refused_contract _ _ _ _ _ _ _ (refused-site c.read_site-site.ensures _ _ c.reading-1.given.1)
+returns-in-Refused c = refused_contract _ _ _ _ _ _ _ (refused-site c.read_site-site.ensures _ _ c.in-Refused.is)
 
 pub returns-in-Read : goal.returns-in-Read
 returns-in-Read c =
-    let (site, is, holds) = held_site c.read_site-site.ensures c.enum_told-1.given.1 in
+    let (site, is, holds) = held_site c.read_site-site.ensures c.in-Read.is in
     site_contract _ _ _ _ site is (c.plan_site.ensures site (sites_are_valid _ _ _ _ site is) holds)

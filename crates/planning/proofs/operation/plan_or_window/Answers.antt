@@ -73,9 +73,9 @@ pub returns-in-Window : goal.returns-in-Window
 returns-in-Window c = λ site held holds.
     let fits : SFits w64 c.window_spare-spare.result = search rules in
     window_found site _ _ _ _ (sym holds.top_is)
-    (sym (tested (goal.at.returns-in-Window c).After-earliest_overfull-test site held).found_is ∙ c.found-1.given.1)
+    (sym (tested (goal.at.returns-in-Window c).After-earliest_overfull-test site held).found_is ∙ c.in-Window.is)
     _ (to_z-of_z fits ∙ rw holds.jobs_are at c.window_spare-spare.ensures)
 
 pub returns-in-Fits : goal.returns-in-Fits
 returns-in-Fits c = λ site held holds.
-    c.plan_fitting.ensures site (fitting (goal.at.returns-in-Fits c).After-earliest_overfull-test site held holds c.enum_told-1.given.1)
+    c.plan_fitting.ensures site (fitting (goal.at.returns-in-Fits c).After-earliest_overfull-test site held holds c.in-Fits.is)

@@ -17,14 +17,14 @@ answered : (c : After-voltages-in-Entries-1)
     → read_levels c.args.levels.now
     ≡ answer
     (levels_in c.reading-in-Entries-1.given.0.0 c.read_levels-table.result.frequencies c.read_levels-table.result.voltages)
-answered c = levels_read _ _ c.read_levels-table.ensures _ c.reading-in-Entries-1.given.1
+answered c = levels_read _ _ c.read_levels-table.ensures _ c.in-Entries.is
 
 pub setting_up_to-requires : goal.setting_up_to-requires
 setting_up_to-requires c = levels_valid _ _ (answered (goal.at.setting_up_to-requires c).After-voltages-in-Entries-1)
 
 pub returns-in-Refused : goal.returns-in-Refused
 returns-in-Refused c =
-    levels_refused _ _ _ _ _ _ (levels_read_refused _ _ c.read_levels-table.ensures _ _ c.reading-1.given.1)
+    levels_refused _ _ _ _ _ _ (levels_read_refused _ _ c.read_levels-table.ensures _ _ c.in-Refused.is)
 
 pub returns-in-Entries : goal.returns-in-Entries
 returns-in-Entries c =

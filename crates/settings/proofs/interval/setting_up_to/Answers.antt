@@ -18,15 +18,15 @@ kept : (c : In-Entries)
     → alter_levels c.args.highest
     (levels_in c.args.count c.args.frequencies.now c.args.voltages.now)
     ≡ answer (levels_in c.reading-in-Entries-1.given.0.0 c.args.frequencies.now c.args.voltages.now)
-kept c = levels_kept _ _ _ _ _ (c.alter_levels-reading.ensures _) _ c.reading-in-Entries-1.given.1
+kept c = levels_kept _ _ _ _ _ (c.alter_levels-reading.ensures _) _ c.in-Entries.is
 
 pub setting_in-requires : goal.setting_in-requires
 setting_in-requires c =
-    kept_valid _ _ _ _ _ (c.alter_levels-reading.ensures _) c.requires _ c.reading-in-Entries-1.given.1
+    kept_valid _ _ _ _ _ (c.alter_levels-reading.ensures _) c.requires _ c.in-Entries.is
 
 pub returns-in-Refused : goal.returns-in-Refused
 returns-in-Refused c =
-    rw (levels_limited _ _ _ _ _ (c.alter_levels-reading.ensures _) _ _ c.reading-1.given.1)
+    rw (levels_limited _ _ _ _ _ (c.alter_levels-reading.ensures _) _ _ c.in-Refused.is)
 
 pub returns-in-Entries : goal.returns-in-Entries
 returns-in-Entries c = c.setting_in.ensures ∙ rw (kept (goal.at.returns-in-Entries c).In-Entries)
