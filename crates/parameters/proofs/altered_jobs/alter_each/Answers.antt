@@ -12,17 +12,9 @@ use Rattle.reading.specs.Column.{column_of}
 use Rattle.job_tables.proofs.Read.{jobs_count, sound_in}
 use Rattle.parameters.proofs.AlteredJobs.{first_then, none_altered, next_altered, later_number, altered_number, altered_padded}
 use Rattle.parameters.proofs.AlteredJobs.{altering_refused, altered_at, job_refused, jobs_held}
+use Rattle.parameters.proofs.altered_jobs.alter_each.Invariants.{Altering}
 use Rattle.parameters.proofs.altered_jobs.alter_each.Goals as goal
-use Rattle.parameters.proofs.altered_jobs.alter_each.Goals.{After-altered_fault-number, After-earlier-deadline, After-with_margin-needed, At-loop-j, In-loop-j, Start}
-
--- Up to job j no job has a fault, and the arrays hold the altered jobs; from there on they are as they were.
-record Altering (releases deadlines₀ cycles₀ : List ℕ) (count free margin : ℕ) (deadlines cycles : List ℕ) (j : ℕ) : Type 0 where
-  pub upto : j ≤ count
-  pub sound : (k : ℕ) → k < j → altered_fault (altered_at count free margin releases deadlines₀ cycles₀ k) ≡ 0
-  pub deadlines-are : deadlines
-      ≡ column_of max_jobs count (first_then j (λ k. (altered_at count free margin releases deadlines₀ cycles₀ k).deadline) (λ k. get_or deadlines₀ k 0))
-  pub cycles_are : cycles
-      ≡ column_of max_jobs count (first_then j (λ k. (altered_at count free margin releases deadlines₀ cycles₀ k).cycles) (λ k. get_or cycles₀ k 0))
+use Rattle.parameters.proofs.altered_jobs.alter_each.Goals.{After-altered_fault-number, At-loop-j, In-loop-j, Start}
 
 few : (c : Start) → c.args.count ≤ max_jobs
 few c = jobs_count _ _ _ _ c.requires.valid_arrays.valid
@@ -55,27 +47,26 @@ pub bounds-cycles-j : goal.bounds-cycles-j
 bounds-cycles-j c = omega (arith, few (goal.at.bounds-cycles-j c).Start)
 
 -- its deadline and its cycles, as the arrays still have them, and as they are found
-new-deadline : (c : After-earlier-deadline) → c.earlier-deadline.result ≡ (altered c.before.before.before.before).deadline
+new-deadline : (c : After-altered_fault-number) → c.earlier-deadline.result ≡ (altered c.before.before.before.before.before.before.before.before.before.before.before).deadline
 unfolding altered_job
 new-deadline c =
     c.earlier-deadline.ensures
     ∙ ap (λ (n : ℕ). n - c.args.free)
-    (later_number c.args.count (few c.before.before.before.before.before) _ _ _ c.loop-j.j c.loop-j-test.true c.loop-j.invariant.deadlines-are)
+    (later_number c.args.count (few c.before.before.before.before.before.before.before.before.before.before.before.before) _ _ _ c.loop-j.j c.loop-j-test.true c.loop-j.invariant.deadlines-are)
 
 given-cycles : (c : In-loop-j) → get_or c.loop-j.cycles c.loop-j.j 0 ≡ get_or c.args.cycles.now c.loop-j.j 0
 given-cycles c =
     later_number c.args.count (few c.before.before) _ _ _ c.loop-j.j c.loop-j-test.true c.loop-j.invariant.cycles_are
 
-new-cycles : (c : After-with_margin-needed) → c.with_margin-needed.result ≡ (altered c.before.before.before.before.before.before.before).cycles
+new-cycles : (c : After-altered_fault-number) → c.with_margin-needed.result ≡ (altered c.before.before.before.before.before.before.before.before.before.before.before).cycles
 unfolding altered_job
 new-cycles c =
-    c.with_margin-needed.ensures ∙ ap (λ (n : ℕ). n + margin_on c.args.margin n) (given-cycles c.before.before.before.before.before.before)
+    c.with_margin-needed.ensures ∙ ap (λ (n : ℕ). n + margin_on c.args.margin n) (given-cycles c.before.before.before.before.before.before.before.before.before.before)
 
 -- the number found in this turn is its fault
-here : (c : After-altered_fault-number) → c.altered_fault-number.result ≡ altered_fault (altered c.before.before.before.before.before.before.before.before.before.before)
+here : (c : After-altered_fault-number) → c.altered_fault-number.result ≡ altered_fault (altered c.before.before.before.before.before.before.before.before.before.before.before)
 unfolding altered_job
-here c =
-    c.altered_fault-number.ensures ∙ ap altered_fault (rw (new-deadline c.before.before.before.before.before.before, new-cycles c.before.before.before))
+here c = c.altered_fault-number.ensures ∙ ap altered_fault (rw (new-deadline c, new-cycles c))
 
 pub with_margin-needed-requires : goal.with_margin-needed-requires
 with_margin-needed-requires c =
@@ -121,8 +112,8 @@ loop-j-preserved c =
     record {
       upto = omega arith;
       sound = below_more _ _ inv.sound (sym (here (goal.at.loop-j-preserved c).After-altered_fault-number) ∙ c.if-number-ne0.false);
-      deadlines-are = next_altered _ (few (goal.at.loop-j-preserved c).Start) _ _ _ _ _ c.loop-j-test.true inv.deadlines-are (new-deadline (goal.at.loop-j-preserved c).After-earlier-deadline);
-      cycles_are = next_altered _ (few (goal.at.loop-j-preserved c).Start) _ _ _ _ _ c.loop-j-test.true inv.cycles_are (new-cycles (goal.at.loop-j-preserved c).After-with_margin-needed);
+      deadlines-are = next_altered _ (few (goal.at.loop-j-preserved c).Start) _ _ _ _ _ c.loop-j-test.true inv.deadlines-are (new-deadline (goal.at.loop-j-preserved c).After-altered_fault-number);
+      cycles_are = next_altered _ (few (goal.at.loop-j-preserved c).Start) _ _ _ _ _ c.loop-j-test.true inv.cycles_are (new-cycles (goal.at.loop-j-preserved c).After-altered_fault-number);
     }
 
 pub returns : goal.returns

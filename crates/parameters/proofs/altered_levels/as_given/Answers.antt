@@ -15,8 +15,8 @@ use Rattle.parameters.proofs.altered_levels.as_given.Goals.{After-frequencies-in
 answered : (c : After-frequencies-in-Entries-1)
     → read_levels c.args.levels.now
     ≡ answer
-    (levels_in c.reading-1.given.0.0 c.read_levels-table.result.frequencies c.read_levels-table.result.voltages)
-answered c = levels_read _ _ c.read_levels-table.ensures _ c.reading-1.given.1
+    (levels_in c.in-Entries.count c.read_levels-table.result.frequencies c.read_levels-table.result.voltages)
+answered c = levels_read _ _ c.read_levels-table.ensures _ c.in-Entries.is
 
 pub running_count-requires : goal.running_count-requires
 running_count-requires c = levels_count _ _ _ (levels_valid _ _ (answered (goal.at.running_count-requires c).After-frequencies-in-Entries-1))
