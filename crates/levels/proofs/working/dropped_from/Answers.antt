@@ -29,12 +29,14 @@ point_at-requires c = omega arith
 
 pub drops-requires : goal.drops-requires
 drops-requires c =
-    in_order _ _ _ _ (omega arith) (omega arith) (omega arith) _ _ _
-    c.point_at-lower.ensures c.point_at-point.ensures c.point_at.ensures c.requires.small_points
+    let order =
+        in_order _ _ _ _ (omega arith) (omega arith) (omega arith) _ _ _
+        c.point_at-lower.ensures c.point_at-point.ensures c.point_at.ensures c.requires.small_points in
+    record { ordered = order.0; ordered_2 = order.1 }
 
 -- the table at hand
-abbrev all : (start : Start) → PointTable
-all start = table_of c.args.count c.args.frequencies.now c.args.powers.now
+abbrev all : (c : Start) → PointTable
+all c = table_of c.args.count c.args.frequencies.now c.args.powers.now
 
 -- what this turn's test answers
 here : (c : After-drops)
@@ -54,8 +56,7 @@ pub loop-c-smaller : goal.loop-c-smaller
 loop-c-smaller c = omega arith
 
 pub loop-c-preserved : goal.loop-c-preserved
-loop-c-preserved c =
-(
+loop-c-preserved c = (
       omega arith,
       omega arith,
       below_more _ _ c.loop-c.invariant.2 (sym (here (goal.at.loop-c-preserved c).After-drops) ∙ c.if-drops.false),

@@ -14,8 +14,8 @@ use Rattle.levels.proofs.working.read_working_levels.Goals.{After-voltages-in-En
 answered : (c : After-voltages-in-Entries-1)
     → read_levels c.args.levels.now
     ≡ answer
-    (levels_in c.reading-1.given.0.0 c.read_levels-table.result.frequencies c.read_levels-table.result.voltages)
-answered c = levels_read _ _ c.read_levels-table.ensures _ c.reading-1.given.1
+    (levels_in c.in-Entries.count c.read_levels-table.result.frequencies c.read_levels-table.result.voltages)
+answered c = levels_read _ _ c.read_levels-table.ensures _ c.in-Entries.is
 
 pub working_up_to-requires : goal.working_up_to-requires
 working_up_to-requires c = levels_valid _ _ (answered (goal.at.working_up_to-requires c).After-voltages-in-Entries-1)

@@ -12,8 +12,8 @@ use Rattle.levels.proofs.working.working_points.Goals as goal
 use Rattle.levels.proofs.working.working_points.Goals.{Joined-not-dropped, Start}
 
 -- the table at hand
-abbrev all : (start : Start) → PointTable
-all start = table_of c.args.count c.args.frequencies.now c.args.powers.now
+abbrev all : (c : Start) → PointTable
+all c = table_of c.args.count c.args.frequencies.now c.args.powers.now
 
 pub loop-i-init : goal.loop-i-init
 loop-i-init c =

@@ -17,12 +17,12 @@ alter_levels-reading-requires c = levels_count _ _ _ c.requires
 kept : (c : In-Entries)
     → alter_levels c.args.highest
     (levels_in c.args.count c.args.frequencies.now c.args.voltages.now)
-    ≡ answer (levels_in c.reading-1.given.0.0 c.args.frequencies.now c.args.voltages.now)
-kept c = levels_kept _ _ _ _ _ (c.alter_levels-reading.ensures _) _ c.reading-1.given.1
+    ≡ answer (levels_in c.in-Entries.kept c.args.frequencies.now c.args.voltages.now)
+kept c = levels_kept _ _ _ _ _ (c.alter_levels-reading.ensures _) _ c.in-Entries.is
 
 pub working_levels-requires : goal.working_levels-requires
 working_levels-requires c =
-    kept_valid _ _ _ _ _ (c.alter_levels-reading.ensures _) c.requires _ c.reading-1.given.1
+    kept_valid _ _ _ _ _ (c.alter_levels-reading.ensures _) c.requires _ c.in-Entries.is
 
 pub returns-in-Refused : goal.returns-in-Refused
 returns-in-Refused c =

@@ -37,6 +37,6 @@ insert_marks-requires c =
 pub returns : goal.returns
 returns c = λ cycles.
     let most = few (goal.at.returns c).After-way_told-1 in
-    let place = ap (λ (i : ℕ). get_or c.bounds_of-bounds.new.1.1.1.0 i 0) c.interval_count.ensures in
+    let place = ap (λ (i : ℕ). get_or c.bounds_of-bounds.new.times i 0) c.interval_count.ensures in
     marked_held c.args.count c.args.releases.now c.args.deadlines.now cycles c.requires.by_index
     (c.bounds_of-bounds.ensures cycles) (omega arith) _ refl place c.insert_marks.ensures

@@ -42,7 +42,7 @@ abbrev workload : (c : After-holders-1) → Workload
 workload c =
     let a = c.args in
     workload_with a.cycles.now a.site.jobs c.interval_count-intervals.result (a.site.working.count - 1)
-    a.first.now a.last.now c.sizes.new.1.1.0 a.site.working.frequencies
+    a.first.now a.last.now c.sizes.new.lengths a.site.working.frequencies
 
 -- it is that of each site that stands in what the function is lent
 made_of : (c : After-holders-1) (site : Site)
@@ -57,7 +57,7 @@ place_short-requires c =
     let made = made_of (goal.at.place_short-requires c).After-holders-1 site held in record { sound_workload = made.sound; ranges_fit = workload_fits held.valid made can.fitting.fits; jobs_in_bounds = (rooms held.valid made can.long).0; cycles_len = (cycles_length held, all_cycles_few held.valid made can.fitting.fits); open_sets = open-sets held.valid made held.open_are; loads_value = (refl, refl, refl) }
 
 -- some prices fit what is placed
-can-price : (c : After-numbers-2-1) → CanPrice (workload c.before.before.before.before.before.before.before.before) c.place_short.new.1.1.1.1.1.1.1.1.1.0 c.place_short.new.1.1.1.1.1.1.1.1.1.1.0
+can-price : (c : After-numbers-2-1) → CanPrice (workload c.before.before.before.before.before.before.before.before) c.place_short.new.shares c.place_short.new.loads
 can-price c =
     let (site, can) = (entry c.before.before.before.before.before.before.before.before.before.before.before.before.before.before).requires in
     let held = can.fitting.in_arrays in
@@ -70,14 +70,14 @@ smallest_prices-requires c =
 smallest : (c : After-write_plan-arg-1)
     → let work = workload c.before.before.before.before.before.before.before.before.before.before.before in
     SmallestPriced (problem_in work) (shares_in work.jobs c.place_short.last.1.1.1.1.1.1.1.1.1.0)
-    (numbers_in c.smallest_prices.new.1.1.1.1.1.1.1.1.1.0)
+    (numbers_in c.smallest_prices.new.prices)
 smallest c =
     c.smallest_prices.ensures.0 (workload c.before.before.before.before.before.before.before.before.before.before.before).cycles _ (can-price c.before.before.before) c.place_short.ensures.2
 
 -- few cells have a share
 short : (c : After-numbers-2-1)
     → let work = workload c.before.before.before.before.before.before.before.before in
-    let shares = shares_in work.jobs c.place_short.new.1.1.1.1.1.1.1.1.1.0 in
+    let shares = shares_in work.jobs c.place_short.new.shares in
     sum work.intervals (λ i. sum work.jobs (λ j. only_if (ltb 0 (shares i j)) 1)) ≤ work.jobs + work.intervals - 1
 short c = c.place_short.ensures.3
 

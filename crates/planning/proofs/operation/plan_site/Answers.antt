@@ -36,7 +36,7 @@ in_arrays : (c : After-plan_or_window-arg-3-1) (site : Site) → ValidSite site
     → let a = (entry c).args in
     HoldsSite site a.site a.releases.now a.deadlines.now a.cycles.now a.times.now
     → InArrays site a.site a.cycles.now a.times.now c.before.before.before.before.before.before.before.before.before.before.before.before.bound-numbers.new.1.1.1.1.0
-    c.bound_numbers-2.new.1.1.1.1.0 c.open_sets.new.1.1.1.0
+    c.bound_numbers-2.new.numbers c.open_sets.new.sets
 in_arrays c site valid holds =
     site_in_arrays valid holds c.before.before.before.before.before.before.before.before.before.before.before.before.bound-numbers.ensures c.bound_numbers-2.ensures c.open_sets.ensures
 

@@ -18,8 +18,8 @@ place-requires c =
     let known = c.requires in record { sound_workload = known.0; ranges_fit = known.1.0; jobs_in_bounds = known.1.1.0; cycles_len = known.1.1.1.0.0; by_index = (λ i j inside has. ((known.1.1.1.1.0.open_are i j inside).0 has).0); loads_value = known.1.1.1.1.1 }
 
 -- what was placed can be filled anew
-refills : (c : After-refill-arg-2-1) → CanRefill (workload c.before.before.before.before.before) c.args.«open».now c.place.new.1.1.1.1.1.1.1.1.1.0
-    c.place.new.1.1.1.1.1.1.1.1.1.1.0 c.place.new.1.1.1.1.1.1.1.1.1.1.1.1.0
+refills : (c : After-refill-arg-2-1) → CanRefill (workload c.before.before.before.before.before) c.args.«open».now c.place.new.shares
+    c.place.new.loads c.place.new.holders
 refills c =
     let known = c.requires in
     can_refill known.0 c.place.ensures.0 known.1.1.1.1.0 known.1.1.1.0.0 known.1.1.1.0.1 c.place.ensures.2
@@ -30,7 +30,7 @@ refill-requires c =
 
 refilled : (c : After-slice_known-3-1)
     → RefilledTables (workload c.before.before.before.before.before.before.before.before) c.place.last.1.1.1.1.1.1.1.1.1.0 c.place.last.1.1.1.1.1.1.1.1.1.1.0
-    c.refill.new.1.1.1.1.1.1.0 c.refill.new.1.1.1.1.1.1.1.0
+    c.refill.new.shares c.refill.new.holders
 refilled c = c.refill.ensures (workload c.before.before.before.before.before.before.before.before) (refills c.before.before.before)
 
 pub shape_of-shares : goal.shape_of-shares
