@@ -9,7 +9,7 @@ use Rattle.levels.specs.PointTables.{point_table, table_of, points_of}
 use Rattle.levels.proofs.PointTables.{length_points_of, point-in}
 use Rattle.levels.proofs.Keeping.{kept, kept_none, kept_all, kept_count, kept_dropped, kept_point}
 use Rattle.levels.proofs.working.working_points.Goals as goal
-use Rattle.levels.proofs.working.working_points.Goals.{Joined-not-dropped, Start}
+use Rattle.levels.proofs.working.working_points.Goals.{then-not-dropped, else-not-dropped, Joined-not-dropped, Start}
 
 -- the table at hand
 abbrev all : (c : Start) → PointTable
@@ -62,13 +62,13 @@ filled : (c : Joined-not-dropped)
 filled c =
     let table = all c.before.before.before.before.before in
     let inside : c.loop-i.i < length (points_of table) = omega (arith, length_points_of table) in
-    ⊎_elim
-    (λ w.
-    w.3
-    ∙ kept_point _ _ inside _ c.loop-i.invariant.2 _ (omega (arith, length_points_of table)) (sym (point-in table _ (omega arith)))
-    (sym c.dropped.ensures ∙ not-true _ w.0.taken))
-    (λ w. w.1 ∙ kept_dropped _ _ inside _ c.loop-i.invariant.2 (sym c.dropped.ensures ∙ not-false _ w.0.left))
-    c.if-not-dropped.branch
+    elim c.if-not-dropped.branch [
+      then-not-dropped w ↦
+          w.table-is
+          ∙ kept_point _ _ inside _ c.loop-i.invariant.2 _ (omega (arith, length_points_of table)) (sym (point-in table _ (omega arith)))
+          (sym c.dropped.ensures ∙ w.if-not-dropped.true)
+    | else-not-dropped w ↦ w.table-is ∙ kept_dropped _ _ inside _ c.loop-i.invariant.2 (sym c.dropped.ensures ∙ w.if-not-dropped.false)
+    ]
 
 pub loop-i-preserved : goal.loop-i-preserved
 loop-i-preserved c =

@@ -14,7 +14,7 @@ loop-i-init c =
     let a = c.args in
     let held : HoldsTimes a.times.now a.count (take a.count a.times.now) =
     record { array = c.requires.times_value.0; counted = sym (times_taken c.requires.times_value.1 c.requires.times_value.0) } in
-    (omega arith, omega arith, rw (marks_none a.first a.last a.mark-count a.marks.now (take a.count a.times.now)) at held)
+    (omega arith, omega arith, rw (marks_none a.first a.last a.mark_count a.marks.now (take a.count a.times.now)) at held)
 
 pub overflow_sub-i : goal.overflow_sub-i
 overflow_sub-i c = omega arith
@@ -41,11 +41,11 @@ loop-i-preserved c =
     let held = c.loop-i.invariant.2 in (
       omega arith,
       omega arith,
-      rw (marks_more a.first a.last a.mark-count a.marks.now (take a.count a.times.now) c.loop-i.i (omega arith) (omega arith))
+      rw (marks_more a.first a.last a.mark_count a.marks.now (take a.count a.times.now) c.loop-i.i (omega arith) (omega arith))
           (holds_next held (omega arith) _ _ (insert_mark a.first a.last (get_or a.marks.now (c.loop-i.i - 1) 0)) c.insert_mark-bounds.ensures.0 c.insert_mark-bounds.ensures.1),
     )
 
 pub returns : goal.returns
 returns c =
     let a = c.args in
-    rw (marks_whole a.first a.last a.mark-count a.marks.now (take a.count a.times.now) c.loop-i.i (omega arith)) at c.loop-i.invariant.2
+    rw (marks_whole a.first a.last a.mark_count a.marks.now (take a.count a.times.now) c.loop-i.i (omega arith)) at c.loop-i.invariant.2

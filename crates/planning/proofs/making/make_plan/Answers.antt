@@ -87,7 +87,7 @@ write_plan-steps-requires c =
     let held = can.fitting.in_arrays in
     let made = made_of (goal.at.write_plan-steps-requires c).After-holders-1 site held in
     let tables = c.place_short.ensures.0 in
-    let holding = c.place_short.ensures.2 in record { jobs_le_max_jobs = (made.sound.jobs_most, made.sound.intervals_most, tables.stored.table-length); by_index = λ i below. record { held = λ j inside. holding.held i j below inside; held_past = λ j past. holding.held_past i j below past }; shares_in_bounds = omega (arith, can.long.plan-room, steps_few held.valid made _ _ _ tables (short (goal.at.write_plan-steps-requires c).After-numbers-2-1)) }
+    let holding = c.place_short.ensures.2 in record { jobs_le_max_jobs = (made.sound.jobs_most, made.sound.intervals_most, tables.stored.table-length); by_index = λ i below. record { held = λ j inside. holding.held i j below inside; held_past = λ j past. holding.held_past i j below past }; shares_in_bounds = omega (arith, can.long.plan_room, steps_few held.valid made _ _ _ tables (short (goal.at.write_plan-steps-requires c).After-numbers-2-1)) }
 
 pub write_prices-requires : goal.write_prices-requires
 write_prices-requires c =
