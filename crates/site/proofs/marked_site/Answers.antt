@@ -8,7 +8,7 @@ use Rattle.site.proofs.marked_site.Goals as goal
 pub site_of-requires : goal.site_of-requires
 site_of-requires c =
     let (given, valid, holds) = c.requires.valid_given in
-    let (tables, is, held) = held_tables (c.alter_tables-tables.ensures given valid holds) c.enum_told-1.given.1 in
+    let (tables, is, held) = held_tables (c.alter_tables-tables.ensures given valid holds) c.in-Read.is in
     let (processor, jobs) = altered_tables_valid _ given valid.levels valid.jobs tables is in
     record { times_value = (c.requires.times_value.0, pair_count held jobs, c.requires.times_value.1); by_index = pair_ordered held jobs }
 

@@ -5,7 +5,7 @@ use Rattle.site.proofs.read_site.Goals as goal
 
 pub given_site-requires : goal.given_site-requires
 given_site-requires c =
-    let (given, is, holds) = held_given c.read_given-given.ensures c.enum_told-1.given.1 in
+    let (given, is, holds) = held_given c.read_given-given.ensures c.in-Read.is in
     record { times_value = search rules; valid_given = (given, given_valid _ _ given is, holds) }
 
 pub returns-in-Refused : goal.returns-in-Refused

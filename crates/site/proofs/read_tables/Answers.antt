@@ -5,7 +5,7 @@ use Rattle.site.proofs.read_tables.Goals as goal
 
 pub alter_tables-requires : goal.alter_tables-requires
 alter_tables-requires c =
-    let (given, is, holds) = held_given c.read_given-given.ensures c.enum_told-1.given.1 in
+    let (given, is, holds) = held_given c.read_given-given.ensures c.in-Read.is in
     (given, given_valid _ _ given is, holds)
 
 pub returns-in-Refused : goal.returns-in-Refused

@@ -30,8 +30,8 @@ point_at-requires c = omega arith
 pub drops-requires : goal.drops-requires
 drops-requires c =
     let order =
-        in_order _ _ _ _ (omega arith) (omega arith) (omega arith) _ _ _
-        c.point_at-lower.ensures c.point_at-point.ensures c.point_at.ensures c.requires.small_points in
+    in_order _ _ _ _ (omega arith) (omega arith) (omega arith) _ _ _
+    c.point_at-lower.ensures c.point_at-point.ensures c.point_at.ensures c.requires.small_points in
     record { ordered = order.0; ordered_2 = order.1 }
 
 -- the table at hand
@@ -57,10 +57,10 @@ loop-c-smaller c = omega arith
 
 pub loop-c-preserved : goal.loop-c-preserved
 loop-c-preserved c = (
-      omega arith,
-      omega arith,
-      below_more _ _ c.loop-c.invariant.2 (sym (here (goal.at.loop-c-preserved c).After-drops) ∙ c.if-drops.false),
-    )
+  omega arith,
+  omega arith,
+  below_more _ _ c.loop-c.invariant.2 (sym (here (goal.at.loop-c-preserved c).After-drops) ∙ c.if-drops.false),
+)
 
 pub returns : goal.returns
 returns c =

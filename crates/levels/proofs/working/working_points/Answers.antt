@@ -63,11 +63,11 @@ filled c =
     let table = all c.before.before.before.before.before in
     let inside : c.loop-i.i < length (points_of table) = omega (arith, length_points_of table) in
     elim c.if-not-dropped.branch [
-      then-not-dropped w ↦
+      | then-not-dropped w ↦
           w.table-is
           ∙ kept_point _ _ inside _ c.loop-i.invariant.2 _ (omega (arith, length_points_of table)) (sym (point-in table _ (omega arith)))
           (sym c.dropped.ensures ∙ w.if-not-dropped.true)
-    | else-not-dropped w ↦ w.table-is ∙ kept_dropped _ _ inside _ c.loop-i.invariant.2 (sym c.dropped.ensures ∙ w.if-not-dropped.false)
+      | else-not-dropped w ↦ w.table-is ∙ kept_dropped _ _ inside _ c.loop-i.invariant.2 (sym c.dropped.ensures ∙ w.if-not-dropped.false)
     ]
 
 pub loop-i-preserved : goal.loop-i-preserved

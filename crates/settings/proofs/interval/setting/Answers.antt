@@ -16,7 +16,7 @@ use Rattle.settings.proofs.interval.setting.Goals.{After-voltages-in-Entries-1}
 answered : (c : After-voltages-in-Entries-1)
     → read_levels c.args.levels.now
     ≡ answer
-    (levels_in c.reading-in-Entries-1.given.0.0 c.read_levels-table.result.frequencies c.read_levels-table.result.voltages)
+    (levels_in c.in-Entries.count c.read_levels-table.result.frequencies c.read_levels-table.result.voltages)
 answered c = levels_read _ _ c.read_levels-table.ensures _ c.in-Entries.is
 
 pub setting_up_to-requires : goal.setting_up_to-requires

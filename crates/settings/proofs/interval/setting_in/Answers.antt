@@ -31,7 +31,9 @@ returns-then-length-frequencies c = overloaded _ _ _ _ _ c.requires (omega arith
 
 pub setting_of-requires : goal.setting_of-requires
 setting_of-requires c =
-    working_fits _ _ _ _ _ c.requires (omega arith) (omega arith) c.if-length-frequencies.false _ c.working_levels.ensures
+    let fit =
+    working_fits _ _ _ _ _ c.requires (omega arith) (omega arith) c.if-length-frequencies.false _ c.working_levels.ensures in
+    record { small_points = fit.0; length_le_max_deadline = fit.1.0; fits = fit.1.1 }
 
 pub returns : goal.returns
 returns c =

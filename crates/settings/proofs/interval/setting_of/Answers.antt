@@ -11,7 +11,7 @@ pub returns-then-load-eq0 : goal.returns-then-load-eq0
 returns-then-load-eq0 c = setting_idle _ _ _ c.if-load-eq0.true
 
 -- both ends of the band stand in the table
-inside : (c : After-band_of-k) → (c.band_of-k.result + 1 < c.args.t1.count) × (c.args.t1.count ≤ 9)
+inside : (c : After-band_of-k) → (c.band_of-k.result + 1 < c.args.working.count) × (c.args.working.count ≤ 9)
 inside c =
     (band_inside _ c.requires.small_points.1 _ _ _ c.band_of-k.ensures (omega arith) c.requires.fits, c.requires.small_points.0.few)
 

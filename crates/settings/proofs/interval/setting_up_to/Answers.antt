@@ -17,7 +17,7 @@ alter_levels-reading-requires c = levels_count _ _ _ c.requires
 kept : (c : In-Entries)
     → alter_levels c.args.highest
     (levels_in c.args.count c.args.frequencies.now c.args.voltages.now)
-    ≡ answer (levels_in c.reading-in-Entries-1.given.0.0 c.args.frequencies.now c.args.voltages.now)
+    ≡ answer (levels_in c.in-Entries.kept c.args.frequencies.now c.args.voltages.now)
 kept c = levels_kept _ _ _ _ _ (c.alter_levels-reading.ensures _) _ c.in-Entries.is
 
 pub setting_in-requires : goal.setting_in-requires
