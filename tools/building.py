@@ -4,6 +4,10 @@
 That is the listing program target/bin/listing, the archive target/staticlib/libcapi.a with the
 functions for C, and the same functions as a shared object, target/lib/libramyearly.so. The
 crates are proved first. Nothing is printed where nothing is to be done.
+
+With --proved-since SECONDS all of it is built, out of what rt ci has proved and built since that
+time (in seconds since 1970), so that no crate is proved again but the one of the archive. What rt ci
+did not make since then is proved and built as ever.
 """
 
 import contextlib
@@ -16,8 +20,9 @@ import subprocess
 import sys
 
 ROOT = os.path.dirname(os.path.dirname(os.path.realpath(__file__)))
-sys.path.insert(0, os.path.join(ROOT, "python"))
+sys.path[:0] = [os.path.join(ROOT, "python"), os.path.dirname(os.path.realpath(__file__))]
 
+import proved_libraries
 from ramyearly.errors import Trouble
 from ramyearly.terminal import NAME, say
 
@@ -28,6 +33,10 @@ SHARED_OBJECT = os.path.join(TARGET, "lib", "libramyearly.so")
 EXPORTS = os.path.join(ROOT, "tools", "exports.map")
 CRATES = os.path.join(ROOT, "crates")
 CRATE_LIST = os.path.join(ROOT, "crates.txt")
+# The crates of the program and of the archive, and what rt makes in them.
+PROGRAM_CRATE, ARCHIVE_CRATE = "listing", "capi"
+PROGRAM_OF_RT = os.path.join(CRATES, PROGRAM_CRATE, "out", PROGRAM_CRATE)
+ARCHIVE_OF_RT = os.path.join(CRATES, ARCHIVE_CRATE, "out", f"lib{ARCHIVE_CRATE}.a")
 LOG = os.path.join(TARGET, "ramyearly.log")
 LOCK = os.path.join(TARGET, "ramyearly.lock")
 RECORD = os.path.join(TARGET, "ramyearly.built")
@@ -48,8 +57,11 @@ def files_below(folder):
 
 def list_sources():
     """A line with size and time for each file that a build reads: every change of a file changes the text."""
-    files = list(files_below(CRATES))
-    files += [(path, os.stat(path)) for path in (CRATE_LIST, EXPORTS, os.path.realpath(__file__))]
+    # Not what rt makes, in the folder out of each crate.
+    made = re.compile(re.escape(CRATES) + "/[^/]*/out/")
+    files = [(path, status) for path, status in files_below(CRATES) if not made.match(path)]
+    read = CRATE_LIST, EXPORTS, os.path.realpath(__file__), os.path.realpath(proved_libraries.__file__)
+    files += [(path, os.stat(path)) for path in read]
     lines = (f"{path.removeprefix(ROOT)} {status.st_size} {status.st_mtime_ns}\n" for path, status in files)
     return "".join(sorted(lines))
 
@@ -66,8 +78,7 @@ def is_up_to_date(compare_toolchain):
     """Whether the last build ended well, what it made is still there, and it read the files of now.
 
     The record is removed when a build begins and written when all of it has passed, so that what a
-    stopped build left is never taken. The files that rt writes are no such mark: it links a program
-    before it runs it, and leaves one alone whose sources have not changed.
+    stopped build left is never taken.
     """
     try:
         with open(RECORD, encoding="utf-8", errors="surrogateescape") as file:
@@ -90,30 +101,9 @@ def write_record(version, sources):
 # How far a build is.
 
 
-def read_crate_list():
-    """For each crate of the repository the crates of the repository that it depends on."""
-    with open(CRATE_LIST, encoding="utf-8") as file:
-        lines = [line.partition("#")[0].partition(":") for line in file]
-    crates = {name.strip(): words.split() for name, colon, words in lines if colon}
-    return {name: [word for word in words if word in crates] for name, words in crates.items()}
-
-
 def proving_order(wanted, crates):
-    """Crates and all that they need, as rt goes through them: a crate stands one level above the highest it needs."""
-    levels, visited = {}, set()
-
-    def visit(name):
-        if name in visited:
-            return
-        visited.add(name)
-        needed = crates.get(name, [])
-        for other in needed:
-            visit(other)
-        levels[name] = max((levels.get(other, 0) + 1 for other in needed), default=0)
-
-    for name in wanted:
-        visit(name)
-    return sorted(levels, key=levels.get)
+    """Crates and all that they need, as rt goes through them where it is asked for one after another."""
+    return list(dict.fromkeys(name for crate in wanted for name in [*proved_libraries.all_below(crate, crates), crate]))
 
 
 def clear_line():
@@ -131,38 +121,36 @@ def announce(text):
 class Progress:
     """Shows how many crates are proved: a line that is rewritten on a terminal, a line for each crate elsewhere.
 
-    rt proves some crates side by side and speaks of each when all of them are done. So a terminal
-    shows the first crate that rt has not spoken of yet, and a log those that it has.
+    rt proves one crate after another, in this order, and does not speak of those that it finds proved.
     """
 
     def __init__(self, crates):
         self.crates = crates
-        self.proved = set()
+        self.current = None
+        self.shown = None
         self.rewrites = sys.stderr.isatty()
-        self.show()
+        self.show(crates[0])
 
     def read(self, line):
-        """Takes a line of rt's."""
-        found = re.match(r"rt: (\w+) proved \((unchanged)?", line)
-        if found:
-            self.count(found[1], is_new=not found[2])
+        """Takes a line of rt's: it begins with a crate, or has proved it."""
+        if found := re.match(r"rt: chose --jobs \d+ for (\w+)", line):
+            self.current = found[1] if found[1] in self.crates else None
+            self.show(self.current)
+        elif line.startswith("logic=proved") and self.current:
+            number = self.crates.index(self.current) + 1
+            if not self.rewrites:
+                say(f"proved crate {number} of {len(self.crates)}: {self.current}")
+            # Until rt speaks of a crate, the next one is what it goes on with.
+            self.show(self.crates[number] if number < len(self.crates) else None)
+            self.current = None
 
-    def count(self, crate, is_new=True):
-        if crate in self.proved or crate not in self.crates:
-            return
-        self.proved.add(crate)
-        # Crates that rt finds proved pass at once, and a log is no better for a line about each.
-        if is_new and not self.rewrites:
-            say(f"proved crate {len(self.proved)} of {len(self.crates)}: {crate}")
-        self.show()
-
-    def show(self):
-        left = [crate for crate in self.crates if crate not in self.proved]
-        if self.rewrites and left:
+    def show(self, crate):
+        if self.rewrites and crate and crate != self.shown:
             clear_line()
-            text = f"{NAME}: proving crate {len(self.proved) + 1} of {len(self.crates)}: {left[0]}"
+            text = f"{NAME}: proving crate {self.crates.index(crate) + 1} of {len(self.crates)}: {crate}"
             sys.stderr.write(text[: shutil.get_terminal_size().columns - 1])
             sys.stderr.flush()
+            self.shown = crate
 
 
 # Building.
@@ -185,14 +173,14 @@ def stopped_by_exception():
             signal.signal(number, signal.SIG_DFL)
 
 
-def run(words, lock, log, read=lambda line: None):
-    """Runs a command and answers whether it ended well. Its output goes to the log, and line by line to `read`.
+def run(words, lock, log, read=lambda line: None, folder=ROOT):
+    """Runs a command in a folder and answers whether it ended well. Its output goes to the log, and line by line to `read`.
 
     It has the lock too: where this process is killed, the lock is held until the command has ended
     as well. It is in a group of its own, to be ended with all that it started.
     """
     settings = {"stdin": subprocess.DEVNULL, "stdout": subprocess.PIPE, "stderr": subprocess.STDOUT}
-    with subprocess.Popen(words, cwd=ROOT, start_new_session=True, pass_fds=[lock], **settings) as process:
+    with subprocess.Popen(words, cwd=folder, start_new_session=True, pass_fds=[lock], **settings) as process:
         try:
             for line in process.stdout:
                 log.write(line)
@@ -211,25 +199,49 @@ def fail(what, who):
     raise Trouble(f"{what} not built; {os.path.relpath(LOG, ROOT)} has all that {who} said")
 
 
-def prove(rt, lock, log):
-    """Makes the listing program and the archive."""
-    if not os.access(PROGRAM, os.X_OK):
-        # rt goes by its stamp, and would not link anew a program that was removed.
-        with contextlib.suppress(FileNotFoundError):
-            os.remove(os.path.join(TARGET, "stamp", "listing"))
-    crates = read_crate_list()
-    # What the archive needs is proved with the program: rt check proves crates side by side, rt staticlib one by one.
-    wanted = ["listing", *crates.get("capi", [])]
-    steps = ["check", *wanted], ["staticlib", "capi"]
-    progress = Progress(proving_order(wanted, crates) + ["capi"])
+# Crate, what rt is asked for there, and what it makes. rt runs the program once.
+PROGRAM_STEP = PROGRAM_CRATE, "run", PROGRAM_OF_RT
+ARCHIVE_STEP = ARCHIVE_CRATE, "lib", ARCHIVE_OF_RT
+
+
+def prove(rt, steps, crates, lock, log):
+    """Has rt prove and build the program, the archive or both."""
+    progress = Progress(proving_order([crate for crate, _, _ in steps], crates))
     try:
-        is_done = all(run([rt, *words], lock, log, progress.read) for words in steps)
-        if is_done:
-            progress.count("capi")  # rt does not speak of it
+        for crate, verb, made in steps:
+            is_done = run([rt, verb], lock, log, progress.read, os.path.join(CRATES, crate)) and os.path.exists(made)
+            if not is_done:
+                break
     finally:
         clear_line()
-    if not (is_done and os.access(PROGRAM, os.X_OK) and os.path.exists(ARCHIVE)):
+    if not is_done:
         fail("the proved archive and the listing program were", "rt")
+
+
+def steps_left_by_rt_ci(rt, crates, lock, log, proved_since):
+    """Builds the archive over the libraries that rt ci has proved, and answers what is left for rt.
+
+    It leaves the program built, but no archive. What another rt made earlier is not taken, since rt ci
+    puts that back when it ends.
+    """
+    steps = [] if proved_libraries.is_made_since(PROGRAM_OF_RT, proved_since) else [PROGRAM_STEP]
+    if not proved_libraries.are_made_since(proved_since, ARCHIVE_CRATE, crates, CRATES):
+        return [*steps, ARCHIVE_STEP]
+    os.makedirs(os.path.dirname(ARCHIVE_OF_RT), exist_ok=True)
+    words = proved_libraries.words_to_build(rt, ARCHIVE_CRATE, crates, CRATES, ARCHIVE_OF_RT)
+    try:
+        is_built = run(words, lock, log, folder=os.path.join(CRATES, ARCHIVE_CRATE))
+    except OSError as error:
+        log.write(f"{words[0]}: {error.strerror}\n".encode())
+        is_built = False
+    return steps if is_built else [*steps, ARCHIVE_STEP]
+
+
+def put_in_place(made, path):
+    """Copies what rt has made to where it is looked for."""
+    os.makedirs(os.path.dirname(path), exist_ok=True)
+    shutil.copy(made, path + ".new")
+    os.replace(path + ".new", path)
 
 
 def link(compiler, lock, log):
@@ -266,45 +278,57 @@ def building_alone():
         yield file.fileno()
 
 
-def make_all(rt, compiler, lock):
+def make_all(rt, compiler, lock, proved_since):
     announce("building the proved archive and the listing program, which takes minutes the first time")
     with contextlib.suppress(FileNotFoundError):
         os.remove(RECORD)
     # Taken before the build, so that a file that changes meanwhile is not taken for one that was read.
     version, sources = ask_version(), list_sources()
+    crates = proved_libraries.read_crate_list(CRATE_LIST)
     with open(LOG, "wb", buffering=0) as log, stopped_by_exception():
-        prove(rt, lock, log)
+        steps = [PROGRAM_STEP, ARCHIVE_STEP]
+        if proved_since is not None:
+            steps = steps_left_by_rt_ci(rt, crates, lock, log, proved_since)
+        if steps:
+            prove(rt, steps, crates, lock, log)
+        put_in_place(PROGRAM_OF_RT, PROGRAM)
+        put_in_place(ARCHIVE_OF_RT, ARCHIVE)
         link(compiler, lock, log)
     write_record(version, sources)
 
 
-def build(compare_toolchain=False):
+def build(compare_toolchain=False, proved_since=None):
     """Makes what is not up to date; a Trouble says what stopped it.
 
     What another toolchain has proved and built is as good as ever for who uses it, so the command
     does not start rt at each call to ask for its version, and goes on working where rt is gone. The
-    tests and a release speak of the toolchain of now, and compare.
+    tests and a release speak of the toolchain of now, and compare. After rt ci all is made anew, so
+    that the gate tries what it has proved.
     """
     try:
-        if is_up_to_date(compare_toolchain):
+        if proved_since is None and is_up_to_date(compare_toolchain):
             return
         rt, compiler = find_commands()
         with building_alone() as lock:
             # Another call may have built all of it meanwhile.
-            if not is_up_to_date(compare_toolchain):
-                make_all(rt, compiler, lock)
+            if proved_since is not None or not is_up_to_date(compare_toolchain):
+                make_all(rt, compiler, lock, proved_since)
     except OSError as error:
         place = f"{error.filename}: " if error.filename else ""
         raise Trouble(f"the build stopped: {place}{error.strerror}") from error
 
 
 def main(arguments):
-    if arguments:
+    proved_since = None
+    if len(arguments) == 2 and arguments[0] == "--proved-since" and re.fullmatch(r"\d+", arguments[1]):
+        proved_since = int(arguments[1])
+    elif arguments:
         is_help = arguments in (["-h"], ["--help"])
-        print("usage: python3 tools/building.py\n\n" + __doc__, end="", file=sys.stdout if is_help else sys.stderr)
+        usage = "usage: python3 tools/building.py [--proved-since SECONDS]\n\n"
+        print(usage + __doc__, end="", file=sys.stdout if is_help else sys.stderr)
         return 0 if is_help else 2
     try:
-        build(compare_toolchain=True)
+        build(compare_toolchain=True, proved_since=proved_since)
     except Trouble as trouble:
         say(trouble)
         return 2
