@@ -33,17 +33,17 @@ some : (c : In-loop-new) → is_empty c.loop-new.new ≡ false
 some c = sym c.is_empty.ensures ∙ not-true _ c.loop-new-test.true-raw
 
 is-new : (c : After-way_told-1) → is_member c.loop-new.new c.least-job.result ≡ true
-is-new c = rw c.least-job.ensures (least_has c.loop-new.new (some c.before.before)).1
+is-new c = rw c.least-job.ensures (least_has c.loop-new.new (some c.before.before.before)).1
 
 small : (c : After-way_told-1) → c.least-job.result < max_jobs
-small c = rw c.least-job.ensures (least_has c.loop-new.new (some c.before.before)).0
+small c = rw c.least-job.ensures (least_has c.loop-new.new (some c.before.before.before)).0
 
 -- its window is among the intervals
 window : (c : After-way_told-1)
     → let a = c.args in
     (numbers_in a.first.now c.least-job.result < max_intervals) × (numbers_in a.last.now c.least-job.result ≤ max_intervals)
 window c =
-    scan_window c.requires.to_scan (at c.before.before.before.before) _ (is-new c)
+    scan_window c.requires.to_scan (at c.before.before.before.before.before) _ (is-new c)
 
 pub bounds-first-job : goal.bounds-first-job
 bounds-first-job c = small (goal.at.bounds-first-job c).After-way_told-1

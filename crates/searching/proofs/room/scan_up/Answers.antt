@@ -47,7 +47,7 @@ set_at-set-requires c = exists (goal.at.set_at-set-requires c).In-loop-high
 pub scan-found-requires : goal.scan-found-requires
 scan-found-requires c =
     let start = (goal.at.scan-found-requires c).At-loop-high.before in
-    let can = start.pre in
+    let can = start.requires in
     let to_search = can.to_search in
     let scanning = at (goal.at.scan-found-requires c).At-loop-high in
     record {
