@@ -1,5 +1,4 @@
 -- `reached::reach` meets its contract. Assumes nothing.
-use borrow.Author.Rules.{rules}
 use Rattle.searching.proofs.reached.reach.Goals as goal
 
 pub returns : goal.returns

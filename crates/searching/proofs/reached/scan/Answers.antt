@@ -1,16 +1,13 @@
 use mathlib.Core.Path.{◌≡◌, sym, subst, ◌∙◌}
 use mathlib.Core.Bool.{true, false}
-use Prim.Native.Nat.{ℕ, ◌<◌, ◌≤◌}
+use Prim.Native.Nat.{◌<◌, ◌≤◌}
 use native.Mathlib.Omega.{arith}
 use borrow.Author.Tests.{not-true, not-false}
 use Rattle.model.specs.Limits.{max_jobs, max_intervals}
-use Rattle.model.specs.Plans.{Shares}
-use Rattle.job_sets.specs.declared.JobSet.{JobSet}
-use Rattle.job_sets.specs.JobSets.{is_member, member_count, is_empty, without_job, in_both}
+use Rattle.job_sets.specs.JobSets.{is_member, is_empty, without_job}
 use Rattle.job_sets.proofs.JobSets.{count_without, least_has}
-use Rattle.workloads.specs.Placement.{Problem}
 use Rattle.workloads.specs.Arrays.{numbers_in}
-use Rattle.searching.specs.Reaching.{SearchState, state_of, with_windows, ToScan, ScanOf}
+use Rattle.searching.specs.Reaching.{SearchState, state_of, with_windows, ScanOf}
 use Rattle.searching.proofs.ScanSteps.{scan_small, scan_start, scan_end, scan_window, scan_room, scan_reach}
 use Rattle.searching.proofs.reached.scan.Goals as goal
 use Rattle.searching.proofs.reached.scan.Goals.{After-way_told-1, At-loop-new, In-loop-new}
