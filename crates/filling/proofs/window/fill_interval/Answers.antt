@@ -1,8 +1,6 @@
 -- `window::fill_interval` meets its contract (proofs/OwnIntervals.antt). Assumes nothing.
-use mathlib.Core.Logic.{⊎_elim}
 use Prim.Native.Nat.{ℕ, ◌+◌, ◌<◌, ◌≤◌}
 use native.Mathlib.Omega.{arith}
-use borrow.Author.Rules.{rules}
 use Rattle.model.specs.Limits.{max_intervals}
 use Rattle.workloads.specs.Workloads.{Workload}
 use Rattle.workloads.specs.Placement.{Open}
@@ -11,7 +9,7 @@ use Rattle.workloads.proofs.SharesTable.{kept_refl}
 use Rattle.filling.specs.OwnWindows.{CanFillRange}
 use Rattle.filling.proofs.OwnIntervals.{own_small, own_job, own_place, own_room, own_share, own_kept, own_filled}
 use Rattle.filling.proofs.window.fill_interval.Goals as goal
-use Rattle.filling.proofs.window.fill_interval.Goals.{After-row_known-1, After-slice_known-1}
+use Rattle.filling.proofs.window.fill_interval.Goals.{After-row_known-1, After-slice_known-1, then-free-turn, else-free-turn}
 
 -- the job is being placed
 abbrev Places : (c : After-slice_known-1) → (work : Workload) → (band : ℕ) → (prices lefts : ℕ → ℕ) → Type 0
@@ -37,12 +35,20 @@ returns-then-free-eq0 c = λ work band prices lefts can. (kept_refl _ _, can.tab
 
 -- the amount is at most what is left, and at most the room
 within : (c : After-row_known-1) → c.if-free-turn.amount ≤ c.args.turn.left
-within c = ⊎_elim (λ w. omega (arith, w.0.taken, w.1)) (λ w. omega (arith, w.1)) c.if-free-turn.branch
+within c =
+    elim c.if-free-turn.branch [
+      | then-free-turn w ↦ omega (arith, w.if-free-turn.true, w.amount-is)
+      | else-free-turn w ↦ omega (arith, w.amount-is)
+    ]
 
 most : (c : After-row_known-1)
     → let a = c.args in
     c.if-free-turn.amount ≤ numbers_in a.room.now a.interval
-most c = ⊎_elim (λ w. omega (arith, w.1)) (λ w. omega (arith, w.0.left, w.1)) c.if-free-turn.branch
+most c =
+    elim c.if-free-turn.branch [
+      | then-free-turn w ↦ omega (arith, w.amount-is)
+      | else-free-turn w ↦ omega (arith, w.if-free-turn.false, w.amount-is)
+    ]
 
 pub overflow_cast-amount : goal.overflow_cast-amount
 overflow_cast-amount c =
@@ -70,7 +76,10 @@ returns c = λ work band prices lefts can.
     let here = is_open_true (goal.at.returns c).After-slice_known-1 work can in
     let put = c.put.ensures in
     let some : 0 < c.if-free-turn.amount =
-    ⊎_elim (λ w. omega (arith, w.1, c.if-free-eq0.false)) (λ w. omega (arith, w.1, c.requires.left_nonzero)) c.if-free-turn.branch in (
+    elim c.if-free-turn.branch [
+      | then-free-turn w ↦ omega (arith, w.amount-is, c.if-free-eq0.false)
+      | else-free-turn w ↦ omega (arith, w.amount-is, c.requires.left_nonzero)
+    ] in (
       own_kept can.tables here some (within (goal.at.returns c).After-row_known-1) (most (goal.at.returns c).After-row_known-1) put.0 put.1,
       own_filled can.tables here some (within (goal.at.returns c).After-row_known-1) (most (goal.at.returns c).After-row_known-1) put.0 put.1,
     )

@@ -1,12 +1,11 @@
 use mathlib.Core.Path.{◌≡◌}
 use mathlib.Core.Bool.{true}
-use Prim.Native.Nat.{ℕ, ◌-◌, ◌*◌, ◌<◌}
+use Prim.Native.Nat.{ℕ, ◌*◌, ◌<◌}
 use native.Mathlib.Omega.{arith}
 use Rattle.job_sets.specs.JobSets.{is_member}
 use Rattle.workloads.specs.Arrays.{lent_windows, KeptPast}
 use Rattle.workloads.proofs.SharesTable.{kept_refl, kept_trans}
 use Rattle.filling.specs.Filling.{FillingTables}
-use Rattle.filling.specs.OwnWindows.{WindowsPassed}
 use Rattle.filling.proofs.JobMembers.{leaving_below}
 use Rattle.filling.proofs.window.fill_jobs.Goals as goal
 use Rattle.filling.proofs.window.fill_jobs.Goals.{After-fill_set-arg-in-loop-interval-3-1, At-loop-interval}

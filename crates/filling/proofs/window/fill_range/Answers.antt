@@ -1,10 +1,10 @@
-use Prim.Native.Nat.{ℕ, ◌+◌, ◌-◌, ◌*◌, ◌≤◌}
+use Prim.Native.Nat.{ℕ, ◌+◌, ◌*◌}
 use native.Mathlib.Omega.{arith}
 use Rattle.workloads.specs.Workloads.{Workload}
 use Rattle.workloads.specs.Arrays.{lent_jobs, KeptPast}
 use Rattle.workloads.proofs.SharesTable.{kept_refl, kept_trans}
 use Rattle.paths.specs.FilledTargets.{PlacingTables}
-use Rattle.filling.specs.OwnWindows.{CanFillRange, RangeFilled}
+use Rattle.filling.specs.OwnWindows.{CanFillRange}
 use Rattle.filling.proofs.window.fill_range.Goals as goal
 use Rattle.filling.proofs.window.fill_range.Goals.{At-loop-interval, In-loop-interval}
 
@@ -46,19 +46,18 @@ fill_interval-left-requires c =
 
 pub overflow_add-interval : goal.overflow_add-interval
 overflow_add-interval c =
-    omega (arith, c.loop-interval-test.true, (goal.at.overflow_add-interval c).Start.fits.end)
+    omega (arith, c.loop-interval-test.true, c.ranges.end)
 
 pub loop-interval-smaller : goal.loop-interval-smaller
 loop-interval-smaller c = omega (arith, c.loop-interval-test.true)
 
 pub loop-interval-preserved : goal.loop-interval-preserved
-loop-interval-preserved c =
-(
-      omega (arith, c.loop-interval.invariant.0),
-      λ work band prices lefts can.
-          let filled = c.fill_interval-left.ensures work band prices lefts (can_fill (goal.at.loop-interval-preserved c).In-loop-interval work band prices lefts can) in
-          (kept_trans (c.loop-interval.invariant.1 work band prices lefts can).0 filled.0, filled.1),
-    )
+loop-interval-preserved c = (
+  omega (arith, c.loop-interval.invariant.0),
+  λ work band prices lefts can.
+      let filled = c.fill_interval-left.ensures work band prices lefts (can_fill (goal.at.loop-interval-preserved c).In-loop-interval work band prices lefts can) in
+      (kept_trans (c.loop-interval.invariant.1 work band prices lefts can).0 filled.0, filled.1),
+)
 
 pub shape_of-shares : goal.shape_of-shares
 shape_of-shares c = (own (goal.at.shape_of-shares c).At-loop-interval).0.same_length

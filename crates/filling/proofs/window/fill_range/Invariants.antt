@@ -1,12 +1,7 @@
 -- `window::fill_range` meets its contract. The loop's invariant: the job is being placed, with `left` of its cycles left.
 -- Assumes nothing.
-use Prim.Native.Nat.{ℕ, ◌+◌, ◌-◌, ◌*◌, ◌≤◌}
-use native.Mathlib.Omega.{arith}
-use Rattle.workloads.specs.Workloads.{Workload}
-use Rattle.workloads.specs.Arrays.{lent_jobs, KeptPast}
-use Rattle.workloads.proofs.SharesTable.{kept_refl, kept_trans}
-use Rattle.paths.specs.FilledTargets.{PlacingTables}
-use Rattle.filling.specs.OwnWindows.{CanFillRange, RangeFilled}
+use Prim.Native.Nat.{◌-◌, ◌≤◌}
+use Rattle.filling.specs.OwnWindows.{RangeFilled}
 use Rattle.filling.proofs.window.fill_range.Given as goal
 
 abbrev pub invariant-loop-interval : goal.invariant-loop-interval

@@ -1,15 +1,14 @@
 use mathlib.Core.Path.{◌≡◌, refl, sym, ◌∙◌}
 use mathlib.Core.Bool.{true}
-use Prim.Native.Nat.{ℕ, ◌*◌, ◌<◌}
+use Prim.Native.Nat.{◌*◌, ◌<◌}
 use native.Mathlib.Omega.{arith}
 use borrow.Author.Tests.{not-true}
 use Rattle.model.specs.Limits.{max_jobs}
-use Rattle.job_sets.specs.JobSets.{is_member, member_count}
+use Rattle.job_sets.specs.JobSets.{is_member}
 use Rattle.job_sets.proofs.JobSets.{count_without, least_has}
 use Rattle.workloads.specs.Arrays.{lent_windows, KeptPast}
 use Rattle.workloads.proofs.SharesTable.{kept_refl, kept_trans}
 use Rattle.filling.specs.Filling.{FillingTables}
-use Rattle.filling.specs.OwnWindows.{WindowsPassed}
 use Rattle.filling.proofs.JobMembers.{rest_below}
 use Rattle.filling.proofs.window.fill_set.Goals as goal
 use Rattle.filling.proofs.window.fill_set.Goals.{After-least-job, At-loop-rest}
@@ -63,15 +62,14 @@ loop-rest-smaller c =
     rw c.without-rest.ensures (omega (arith, count_without c.loop-rest.rest _ (is_member_true (goal.at.loop-rest-smaller c).After-least-job)))
 
 pub loop-rest-preserved : goal.loop-rest-preserved
-loop-rest-preserved c =
-(
-      λ work band prices tables.
-          let (kept, filling) = c.loop-rest.invariant.0 work band prices tables in
-          let (kept_next, next) = c.fill_job.ensures work band prices c.loop-rest.left
-          (record { job_below = job_below (goal.at.loop-rest-preserved c).After-least-job; left_is = refl; tables = filling }) in
-          (kept_trans kept kept_next, next),
-      rest_below _ _ _ _ c.without-rest.ensures c.loop-rest.invariant.1,
-    )
+loop-rest-preserved c = (
+  λ work band prices tables.
+      let (kept, filling) = c.loop-rest.invariant.0 work band prices tables in
+      let (kept_next, next) = c.fill_job.ensures work band prices c.loop-rest.left
+      (record { job_below = job_below (goal.at.loop-rest-preserved c).After-least-job; left_is = refl; tables = filling }) in
+      (kept_trans kept kept_next, next),
+  rest_below _ _ _ _ c.without-rest.ensures c.loop-rest.invariant.1,
+)
 
 pub shape_of-shares : goal.shape_of-shares
 shape_of-shares c = (own (goal.at.shape_of-shares c).At-loop-rest).0.same_length

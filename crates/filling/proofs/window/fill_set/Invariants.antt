@@ -1,18 +1,10 @@
 -- `window::fill_set` meets its contract. The loop's invariant: some cycles are placed, and the rest of the set are jobs
 -- (proofs/JobMembers.antt). Assumes nothing.
-use mathlib.Core.Path.{◌≡◌, refl, sym, ◌∙◌}
+use mathlib.Core.Path.{◌≡◌}
 use mathlib.Core.Bool.{true}
-use Prim.Native.Nat.{ℕ, ◌*◌, ◌<◌}
-use native.Mathlib.Omega.{arith}
-use borrow.Author.Tests.{not-true}
-use Rattle.model.specs.Limits.{max_jobs}
+use Prim.Native.Nat.{ℕ, ◌<◌}
 use Rattle.job_sets.specs.JobSets.{is_member, member_count}
-use Rattle.job_sets.proofs.JobSets.{count_without, least_has}
-use Rattle.workloads.specs.Arrays.{lent_windows, KeptPast}
-use Rattle.workloads.proofs.SharesTable.{kept_refl, kept_trans}
-use Rattle.filling.specs.Filling.{FillingTables}
 use Rattle.filling.specs.OwnWindows.{WindowsPassed}
-use Rattle.filling.proofs.JobMembers.{rest_below}
 use Rattle.filling.proofs.window.fill_set.Given as goal
 
 abbrev pub invariant-loop-rest : goal.invariant-loop-rest

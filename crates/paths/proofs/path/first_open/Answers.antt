@@ -1,9 +1,7 @@
-use mathlib.Core.Path.{◌≡◌, sym, ◌∙◌}
-use mathlib.Core.Bool.{false, ◌&&◌}
-use mathlib.Core.Logic.{◌⊎◌, inl, inr, ⊎_elim}
-use Prim.Native.Nat.{ℕ, ◌-◌, ◌<◌, ◌≤◌}
+use mathlib.Core.Path.{sym, ◌∙◌}
+use mathlib.Core.Logic.{◌⊎◌, inl, inr}
+use Prim.Native.Nat.{ℕ, ◌<◌, ◌≤◌}
 use native.Mathlib.Omega.{arith}
-use lib.Dec.{leb, ltb}
 use borrow.Author.Count.{below_none, below_more}
 use borrow.Author.Tests.{le-leb, lt-leb, lt-ltb, le-ltb}
 use Rattle.model.specs.Limits.{max_jobs}
@@ -14,7 +12,7 @@ use Rattle.workloads.specs.Arrays.{numbers_in}
 use Rattle.searching.specs.Reaching.{with_windows}
 use Rattle.paths.specs.Paths.{first_open, SomeOpen}
 use Rattle.paths.proofs.path.first_open.Goals as goal
-use Rattle.paths.proofs.path.first_open.Goals.{After-way_told-1}
+use Rattle.paths.proofs.path.first_open.Goals.{After-way_told-1, then-first-job+else-here-last, else-first-job}
 
 pub overflow_cast-here : goal.overflow_cast-here
 overflow_cast-here c = omega (arith, c.requires.interval_below)
@@ -69,4 +67,7 @@ loop-interval-smaller c = omega (arith, fits (goal.at.loop-interval-smaller c).A
 pub loop-interval-preserved : goal.loop-interval-preserved
 loop-interval-preserved c =
     below_more _ _ c.loop-interval.invariant
-    (⊎_elim (λ w. rw (le-leb _ _ w.0.taken) (le-ltb _ _ w.2.left)) (λ w. rw (lt-leb _ _ w.left)) c.if-first-job.branch)
+    (elim c.if-first-job.branch [
+      | then-first-job+else-here-last w ↦ rw (le-leb _ _ w.if-first-job.true) (le-ltb _ _ w.if-here-last.false)
+      | else-first-job w ↦ rw (lt-leb _ _ w.if-first-job.false)
+    ])

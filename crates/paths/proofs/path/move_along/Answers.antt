@@ -13,21 +13,14 @@ use Rattle.paths.proofs.WalkSteps.{reaching_fits, path_falls}
 use Rattle.paths.proofs.Routes.{route_start, route_next}
 use Rattle.paths.proofs.MoveSteps.{MoveAt, move_start, move_listed, move_gap, move_place, move_fits, source_below, put_place, put_enough, put_length_holders, move_next, move_end}
 use Rattle.paths.proofs.path.move_along.Goals as goal
-use Rattle.paths.proofs.path.move_along.Goals.{After-slice_known-2-1, After-way_told-1, After-way_told-in-loop-s-1, At-loop-s}
-
--- that the amount can be moved, of the workload that is known
-abbrev known : (start : After-way_told-1)
-    → let a = c.args in
-    CanMove (lent_windows c.requires.0 a.jobs c.requires.1 c.requires.2) a.shares.now a.holders.now a.route.now
-    (state_of a.found a.reached.now a.source.now) a.amount
-known start = c.requires.3
+use Rattle.paths.proofs.path.move_along.Goals.{After-slice_known-2-1, At-loop-s}
 
 pub bounds-route-0 : goal.bounds-route-0
 bounds-route-0 c = omega arith
 
 pub overflow_cast-s : goal.overflow_cast-s
 overflow_cast-s c =
-    let can = known (goal.at.overflow_cast-s c).After-way_told-1 in
+    let can = c.requires.3 in
     let listed = move_listed can (move_start can (route_start can.routed)) in
     omega (arith, listed, (reaching_fits can.to_move.reaching can.sound.jobs_most).0)
 
@@ -38,28 +31,28 @@ loop-s-init c =
 -- where the move is, of the workload that is known
 at : (c : At-loop-s)
     → let a = c.args in
-    (c.loop-s.step ≤ (known c.before.before).routed.steps)
+    (c.loop-s.step ≤ c.requires.3.routed.steps)
     × MoveAt (lent_windows c.requires.0 a.jobs c.requires.1 c.requires.2) a.shares.now
     (state_of a.found a.reached.now a.source.now) a.amount c.loop-s.shares c.loop-s.holders c.loop-s.gap c.loop-s.s
-at c = c.loop-s.invariant.1 c.requires.0 c.requires.1 c.requires.2 c.args.found refl (known c.before.before)
+at c = c.loop-s.invariant.1 c.requires.0 c.requires.1 c.requires.2 c.args.found refl c.requires.3
 
 -- the number of the reached job fits the arrays
-below : (c : After-way_told-in-loop-s-1) → c.loop-s.s < max_jobs
+below : (c : At-loop-s) → c.loop-s.s < max_jobs
 below c =
-    let can = known c.before.before.before.before in
-    omega (arith, move_listed can (at c.before.before).1, (reaching_fits can.to_move.reaching can.sound.jobs_most).0)
+    let can = c.requires.3 in
+    omega (arith, move_listed can (at c).1, (reaching_fits can.to_move.reaching can.sound.jobs_most).0)
 
 pub bounds-reached-s : goal.bounds-reached-s
-bounds-reached-s c = below (goal.at.bounds-reached-s c).After-way_told-in-loop-s-1
+bounds-reached-s c = below (goal.at.bounds-reached-s c).At-loop-s
 
 pub overflow_cast-job : goal.overflow_cast-job
 overflow_cast-job c =
-    let can = known (goal.at.overflow_cast-job c).After-way_told-1 in
+    let can = c.requires.3 in
     omega (arith, (reaching_fits can.to_move.reaching can.sound.jobs_most).1 _ (move_listed can (at (goal.at.overflow_cast-job c).At-loop-s).1))
 
 pub put-requires : goal.put-requires
 put-requires c =
-    let can = known (goal.at.put-requires c).After-way_told-1 in
+    let can = c.requires.3 in
     let now-at = (at (goal.at.put-requires c).At-loop-s).1 in
     let listed = move_listed can now-at in record {
       job_in_bounds = (move_place can now-at listed, omega (arith, move_fits can now-at listed));
@@ -71,16 +64,16 @@ put-requires c =
     }
 
 pub bounds-source-s : goal.bounds-source-s
-bounds-source-s c = below (goal.at.bounds-source-s c).After-way_told-in-loop-s-1
+bounds-source-s c = below (goal.at.bounds-source-s c).At-loop-s
 
 pub overflow_cast-gap : goal.overflow_cast-gap
 overflow_cast-gap c =
-    let can = known (goal.at.overflow_cast-gap c).After-way_told-1 in
+    let can = c.requires.3 in
     omega (arith, source_below can (at (goal.at.overflow_cast-gap c).At-loop-s).1 c.loop-s-test.true, can.sound.intervals_most)
 
 pub take-requires : goal.take-requires
 take-requires c =
-    let can = known (goal.at.take-requires c).After-way_told-1 in
+    let can = c.requires.3 in
     let now-at = (at (goal.at.take-requires c).At-loop-s).1 in
     let more = c.loop-s-test.true in
     let put = c.put.ensures in record {
@@ -93,7 +86,8 @@ take-requires c =
     }
 
 -- the route goes on, to the first reached job that is open in the source
-goes_on : (c : After-way_told-in-loop-s-1) (work : Workload) (first last : List ℕ) (found : Found) → let a = c.args in
+goes_on : (c : At-loop-s) → 0 < c.loop-s.s → (work : Workload) (first last : List ℕ) (found : Found) →
+    let a = c.args in
     a.found.target ≡ found.target
     → (can : CanMove (lent_windows work a.jobs first last) a.shares.now a.holders.now a.route.now
     (state_of found a.reached.now a.source.now) a.amount)
@@ -101,42 +95,42 @@ goes_on : (c : After-way_told-in-loop-s-1) (work : Workload) (first last : List 
     × (numbers_in a.route.now (c.loop-s.step + 1)
     ≡ first_open (problem_in (lent_windows work a.jobs first last)) found.count (numbers_in a.reached.now)
     (numbers_in a.source.now c.loop-s.s))
-goes_on c work first last found is-target can =
+goes_on c more work first last found is-target can =
     let within = (c.loop-s.invariant.1 work first last found is-target can).0 in
-    route_next can.routed within c.loop-s.invariant.0 c.loop-s-test.true
+    route_next can.routed within c.loop-s.invariant.0 more
 
-goes-known : (c : After-way_told-in-loop-s-1)
+goes-known : (c : At-loop-s) → 0 < c.loop-s.s
     → let a = c.args in
-    (c.loop-s.step + 1 ≤ (known c.before.before.before.before).routed.steps)
+    (c.loop-s.step + 1 ≤ c.requires.3.routed.steps)
     × (numbers_in a.route.now (c.loop-s.step + 1)
     ≡ first_open (problem_in (lent_windows c.requires.0 a.jobs c.requires.1 c.requires.2)) a.found.count
     (numbers_in a.reached.now) (numbers_in a.source.now c.loop-s.s))
-goes-known c =
-    goes_on c c.requires.0 c.requires.1 c.requires.2 c.args.found refl (known c.before.before.before.before)
+goes-known c more =
+    goes_on c more c.requires.0 c.requires.1 c.requires.2 c.args.found refl c.requires.3
 
 -- the next number stands on the route
-next_fits : (c : After-way_told-in-loop-s-1) → c.loop-s.step + 1 < max_jobs
-next_fits c = omega (arith, (goes-known c).0, (known c.before.before.before.before).routed.few)
+next_fits : (c : At-loop-s) → 0 < c.loop-s.s → c.loop-s.step + 1 < max_jobs
+next_fits c more = omega (arith, (goes-known c more).0, c.requires.3.routed.few)
 
 -- and is smaller
-falls : (c : After-way_told-in-loop-s-1)
+falls : (c : At-loop-s) → 0 < c.loop-s.s
     → numbers_in c.args.route.now (c.loop-s.step + 1) < c.loop-s.s
-falls c =
-    let can = known c.before.before.before.before in
-    path_falls can.to_move.reaching c.loop-s-test.true (move_listed can (at c.before.before).1) (goes-known c).1
+falls c more =
+    let can = c.requires.3 in
+    path_falls can.to_move.reaching more (move_listed can (at c).1) (goes-known c more).1
 
 pub overflow_add-step : goal.overflow_add-step
-overflow_add-step c = omega (arith, next_fits (goal.at.overflow_add-step c).After-way_told-in-loop-s-1)
+overflow_add-step c = omega (arith, next_fits (goal.at.overflow_add-step c).At-loop-s c.loop-s-test.true)
 
 pub bounds-route-step : goal.bounds-route-step
-bounds-route-step c = next_fits (goal.at.bounds-route-step c).After-way_told-in-loop-s-1
+bounds-route-step c = next_fits (goal.at.bounds-route-step c).At-loop-s c.loop-s-test.true
 
 pub overflow_cast-s-in-loop-s : goal.overflow_cast-s-in-loop-s
 overflow_cast-s-in-loop-s c =
-    omega (arith, falls (goal.at.overflow_cast-s-in-loop-s c).After-way_told-in-loop-s-1, below (goal.at.overflow_cast-s-in-loop-s c).After-way_told-in-loop-s-1)
+    omega (arith, falls (goal.at.overflow_cast-s-in-loop-s c).At-loop-s c.loop-s-test.true, below (goal.at.overflow_cast-s-in-loop-s c).At-loop-s)
 
 pub loop-s-smaller : goal.loop-s-smaller
-loop-s-smaller c = falls (goal.at.loop-s-smaller c).After-way_told-in-loop-s-1
+loop-s-smaller c = falls (goal.at.loop-s-smaller c).At-loop-s c.loop-s-test.true
 
 pub loop-s-preserved : goal.loop-s-preserved
 loop-s-preserved c =
@@ -144,7 +138,7 @@ loop-s-preserved c =
     let take = c.take.ensures in (
       refl,
       λ work first last found is-target can.
-          let on = goes_on (goal.at.loop-s-preserved c).After-way_told-in-loop-s-1 work first last found is-target can in
+          let on = goes_on (goal.at.loop-s-preserved c).At-loop-s c.loop-s-test.true work first last found is-target can in
           let now-at = (c.loop-s.invariant.1 work first last found is-target can).1 in
           (on.0, move_next can now-at c.loop-s-test.true put.0 put.1 take.0 take.1 on.1),
     )
@@ -154,12 +148,12 @@ bounds-reached-0 c = omega arith
 
 pub overflow_cast-reached : goal.overflow_cast-reached
 overflow_cast-reached c =
-    let can = known (goal.at.overflow_cast-reached c).After-way_told-1 in
+    let can = c.requires.3 in
     omega (arith, (reaching_fits can.to_move.reaching can.sound.jobs_most).1 _ can.to_move.reaching.now.some)
 
 pub put-requires-2 : goal.put-requires-2
 put-requires-2 c =
-    let can = known (goal.at.put-requires-2 c).After-way_told-1 in
+    let can = c.requires.3 in
     let now-at = (at (goal.at.put-requires-2 c).At-loop-s).1 in
     let some = can.to_move.reaching.now.some in record {
       job_in_bounds = (move_place can now-at some, omega (arith, move_fits can now-at some));
@@ -173,8 +167,8 @@ put-requires-2 c =
 -- after the last step
 ended : (c : After-slice_known-2-1)
     → let a = c.args in
-    RouteMoved a.jobs a.shares.now a.holders.now a.route.now c.put-2.new.0
-    c.put-2.new.1.0 (state_of a.found a.reached.now a.source.now) a.amount
+    RouteMoved a.jobs a.shares.now a.holders.now a.route.now c.put-2.new.shares
+    c.put-2.new.holders (state_of a.found a.reached.now a.source.now) a.amount
 ended c = λ work first last can.
     let put = c.put-2.ensures in
     let a = c.args in
@@ -182,7 +176,7 @@ ended c = λ work first last can.
 
 pub shape_of-shares : goal.shape_of-shares
 shape_of-shares c =
-    (ended (goal.at.shape_of-shares c).After-slice_known-2-1 c.requires.0 c.requires.1 c.requires.2 (known (goal.at.shape_of-shares c).After-way_told-1)).kept.same_length
+    (ended (goal.at.shape_of-shares c).After-slice_known-2-1 c.requires.0 c.requires.1 c.requires.2 c.requires.3).kept.same_length
 
 pub returns : goal.returns
 returns c = ended (goal.at.returns c).After-slice_known-2-1

@@ -1,20 +1,15 @@
 -- `path::move_along` meets its contract. The loop's invariant: the amount is taken out of the gap, and reached job s, which
 -- stands on the route (proofs/Routes.antt), is the first that is open there (proofs/MoveSteps.antt). The numbers of these jobs
 -- fall. Assumes nothing.
-use mathlib.Core.Path.{◌≡◌, refl}
+use mathlib.Core.Path.{◌≡◌}
 use mathlib.Core.List.{List}
-use Prim.Native.Nat.{ℕ, ◌+◌, ◌<◌, ◌≤◌}
-use native.Mathlib.Omega.{arith}
-use Rattle.model.specs.Limits.{max_jobs}
+use Prim.Native.Nat.{ℕ, ◌≤◌}
 use Rattle.workloads.specs.Workloads.{Workload}
-use Rattle.workloads.specs.Arrays.{numbers_in, problem_in, lent_windows}
+use Rattle.workloads.specs.Arrays.{numbers_in, lent_windows}
 use Rattle.searching.specs.declared.reached.Found.{Found}
 use Rattle.searching.specs.Reaching.{state_of}
-use Rattle.paths.specs.Paths.{first_open}
-use Rattle.paths.specs.Moves.{CanMove, RouteMoved}
-use Rattle.paths.proofs.WalkSteps.{reaching_fits, path_falls}
-use Rattle.paths.proofs.Routes.{route_start, route_next}
-use Rattle.paths.proofs.MoveSteps.{MoveAt, move_start, move_listed, move_gap, move_place, move_fits, source_below, put_place, put_enough, put_length_holders, move_next, move_end}
+use Rattle.paths.specs.Moves.{CanMove}
+use Rattle.paths.proofs.MoveSteps.{MoveAt}
 use Rattle.paths.proofs.path.move_along.Given as goal
 
 abbrev pub invariant-loop-s : goal.invariant-loop-s

@@ -1,23 +1,18 @@
 use mathlib.Core.Path.{◌≡◌, ◌∙◌}
-use mathlib.Core.List.{List}
-use mathlib.Core.Logic.{⊎_elim}
 use Prim.Native.Nat.{ℕ, ◌+◌, ◌<◌, min}
 use native.Mathlib.Omega.{arith}
-use lib.ListN.{length, length-set}
+use lib.ListN.{length-set}
 use Rattle.model.specs.Limits.{max_jobs, max_intervals}
+use Rattle.workloads.specs.Placement.{Problem}
 use Rattle.workloads.specs.Workloads.{Workload}
 use Rattle.workloads.specs.Arrays.{numbers_in, problem_in, lent_windows}
-use Rattle.searching.specs.declared.reached.Found.{Found}
-use Rattle.searching.specs.Reaching.{state_of}
-use Rattle.paths.specs.Paths.{first_open}
+use Rattle.searching.specs.Reaching.{state_of, with_windows}
+use Rattle.paths.specs.Paths.{first_open, SomeOpen}
 use Rattle.paths.specs.Moves.{CanWalk}
 use Rattle.paths.proofs.WalkSteps.{reaching_fits, target_open, WalkAt, walk_start, path_falls, walk_listed, walk_room, source_open, walk_place, walk_next, walk_end}
+use Rattle.paths.proofs.path.path_limit.Invariants.{FirstAt}
 use Rattle.paths.proofs.path.path_limit.Goals as goal
-use Rattle.paths.proofs.path.path_limit.Goals.{After-first_open-s-in-loop-s, After-way_told-in-loop-s-1, At-loop-s}
-
--- the first reached job that is open in the target
-abbrev FirstAt : (work : Workload) → Found → (reached : List ℕ) → (s : ℕ) → Type 0
-FirstAt work found reached s = s ≡ first_open (problem_in work) found.count (numbers_in reached) found.target
+use Rattle.paths.proofs.path.path_limit.Goals.{At-loop-s, then-share-limit, else-share-limit}
 
 pub first_open-s-requires : goal.first_open-s-requires
 first_open-s-requires c =
@@ -45,11 +40,10 @@ pub bounds-route-0 : goal.bounds-route-0
 bounds-route-0 c = omega (arith, c.requires.le_most.1)
 
 pub loop-s-init : goal.loop-s-init
-loop-s-init c =
-(
-      length-set c.args.route.now 0 _ ∙ c.requires.le_most.1,
-      λ work found can is_first. walk_start can c.requires.le_most.0 is_first c.args.route.now c.requires.le_most.1,
-    )
+loop-s-init c = (
+  length-set c.args.route.now 0 _ ∙ c.requires.le_most.1,
+  λ work found can is_first. walk_start can c.requires.le_most.0 is_first c.args.route.now c.requires.le_most.1,
+)
 
 -- the first reached job that is open in the target, of each workload
 is_first : (c : At-loop-s) → (work : Workload)
@@ -67,26 +61,26 @@ at : (c : At-loop-s)
 at c = let own = c.requires.windows_walk in c.loop-s.invariant.1 own.0 c.args.found own.1 (is_first c own.0 own.1)
 
 -- the number of the reached job fits the arrays
-below : (c : After-way_told-in-loop-s-1) → c.loop-s.s < max_jobs
+below : (c : At-loop-s) → c.loop-s.s < max_jobs
 below c =
     let can = c.requires.windows_walk.1 in
-    omega (arith, walk_listed can (at c.before.before), (reaching_fits can.reaching can.jobs_most).0)
+    omega (arith, walk_listed can (at c), (reaching_fits can.reaching can.jobs_most).0)
 
 pub bounds-source-s : goal.bounds-source-s
-bounds-source-s c = below (goal.at.bounds-source-s c).After-way_told-in-loop-s-1
+bounds-source-s c = below (goal.at.bounds-source-s c).At-loop-s
 
 -- the number of its source is small
-gap_below : (c : After-way_told-in-loop-s-1) → numbers_in c.args.source.now c.loop-s.s < max_intervals
-gap_below c =
+gap_below : (c : At-loop-s) → 0 < c.loop-s.s → numbers_in c.args.source.now c.loop-s.s < max_intervals
+gap_below c more =
     let can = c.requires.windows_walk.1 in
-    let listed = walk_listed can (at c.before.before) in
-    omega (arith, can.reaching.now.source_below _ c.loop-s-test.true listed, can.intervals_most)
+    let listed = walk_listed can (at c) in
+    omega (arith, can.reaching.now.source_below _ more listed, can.intervals_most)
 
 pub overflow_cast-gap : goal.overflow_cast-gap
-overflow_cast-gap c = omega (arith, gap_below (goal.at.overflow_cast-gap c).After-way_told-in-loop-s-1)
+overflow_cast-gap c = omega (arith, gap_below (goal.at.overflow_cast-gap c).At-loop-s c.loop-s-test.true)
 
 pub bounds-reached-s : goal.bounds-reached-s
-bounds-reached-s c = below (goal.at.bounds-reached-s c).After-way_told-in-loop-s-1
+bounds-reached-s c = below (goal.at.bounds-reached-s c).At-loop-s
 
 pub overflow_cast-reached : goal.overflow_cast-reached
 overflow_cast-reached c =
@@ -99,6 +93,7 @@ share_of-share-requires c =
 
 pub first_open-s-requires-in-loop-s : goal.first_open-s-requires-in-loop-s
 first_open-s-requires-in-loop-s c =
+    let loop = (goal.at.first_open-s-requires-in-loop-s c).At-loop-s in
     let can = c.requires.windows_walk.1 in
     let fits = reaching_fits can.reaching can.jobs_most in
     record {
@@ -107,41 +102,50 @@ first_open-s-requires-in-loop-s c =
       count = c.args.found.count;
       count_most = fits.0;
       jobs_below = fits.1;
-      interval_below = gap_below (goal.at.first_open-s-requires-in-loop-s c).After-way_told-in-loop-s-1;
-      some_open = source_open can (at (goal.at.first_open-s-requires-in-loop-s c).At-loop-s) c.loop-s-test.true;
+      interval_below = gap_below loop c.loop-s-test.true;
+      some_open = source_open can (at loop) c.loop-s-test.true;
     }
 
 -- there is room on the route
-fits-route : (c : After-way_told-in-loop-s-1) → c.loop-s.steps + 1 < max_jobs
-fits-route c = walk_room c.requires.windows_walk.1 (at c.before.before) c.loop-s-test.true
+fits-route : (c : At-loop-s) → 0 < c.loop-s.s → c.loop-s.steps + 1 < max_jobs
+fits-route c more = walk_room c.requires.windows_walk.1 (at c) more
 
 -- the next number is smaller
-falls : (c : After-first_open-s-in-loop-s) → c.first_open-s-in-loop-s.result < c.loop-s.s
-falls c =
+falls : (c : At-loop-s) (next : ℕ) → 0 < c.loop-s.s
+    → let a = c.args in
+    ((p : Problem) (jobs count : ℕ)
+    → SomeOpen (with_windows p jobs a.first.now a.last.now) count (numbers_in a.reached.now) (numbers_in a.source.now c.loop-s.s)
+    → next ≡ first_open (with_windows p jobs a.first.now a.last.now) count (numbers_in a.reached.now) (numbers_in a.source.now c.loop-s.s))
+    → next < c.loop-s.s
+falls c next more is-first =
     let can = c.requires.windows_walk.1 in
-    let more = c.loop-s-test.true in
-    let walk = at c.before.before.before.before.before.before.before.before in
+    let walk = at c in
     path_falls can.reaching more (walk_listed can walk)
-    (c.first_open-s-in-loop-s.ensures (problem_in c.requires.windows_walk.0) c.args.jobs c.args.found.count (source_open can walk more))
+    (is-first (problem_in c.requires.windows_walk.0) c.args.jobs c.args.found.count (source_open can walk more))
 
 pub overflow_add-steps : goal.overflow_add-steps
-overflow_add-steps c = omega (arith, fits-route (goal.at.overflow_add-steps c).After-way_told-in-loop-s-1)
+overflow_add-steps c = omega (arith, fits-route (goal.at.overflow_add-steps c).At-loop-s c.loop-s-test.true)
 
 pub overflow_cast-route-in-loop-s : goal.overflow_cast-route-in-loop-s
-overflow_cast-route-in-loop-s c = omega (arith, falls (goal.at.overflow_cast-route-in-loop-s c).After-first_open-s-in-loop-s, below (goal.at.overflow_cast-route-in-loop-s c).After-way_told-in-loop-s-1)
+overflow_cast-route-in-loop-s c =
+    let loop = (goal.at.overflow_cast-route-in-loop-s c).At-loop-s in
+    omega (arith, falls loop _ c.loop-s-test.true c.first_open-s-in-loop-s.ensures, below loop)
 
 pub bounds-route-steps : goal.bounds-route-steps
 bounds-route-steps c =
-    omega (arith, fits-route (goal.at.bounds-route-steps c).After-way_told-in-loop-s-1, c.loop-s.invariant.0)
+    omega (arith, fits-route (goal.at.bounds-route-steps c).At-loop-s c.loop-s-test.true, c.loop-s.invariant.0)
 
 pub loop-s-smaller : goal.loop-s-smaller
-loop-s-smaller c = falls (goal.at.loop-s-smaller c).After-first_open-s-in-loop-s
+loop-s-smaller c = falls (goal.at.loop-s-smaller c).At-loop-s _ c.loop-s-test.true c.first_open-s-in-loop-s.ensures
 
 pub loop-s-preserved : goal.loop-s-preserved
 loop-s-preserved c =
     let route = c.loop-s.invariant.0 in
     let limit : c.if-share-limit.limit ≡ min c.loop-s.limit c.share_of-share.result =
-    ⊎_elim (λ w. omega (arith, w.0.taken, w.1)) (λ w. omega (arith, w.0.left, w.1)) c.if-share-limit.branch in (
+    elim c.if-share-limit.branch [
+      | then-share-limit w ↦ omega (arith, w.if-share-limit.true, w.limit-is)
+      | else-share-limit w ↦ omega (arith, w.if-share-limit.false, w.limit-is)
+    ] in (
       length-set c.loop-s.route _ _ ∙ route,
       λ work found can is_first.
           let walk = c.loop-s.invariant.1 work found can is_first in

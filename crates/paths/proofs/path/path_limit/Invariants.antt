@@ -1,21 +1,23 @@
 -- `path::path_limit` meets its contract. The loop's invariant: the path was walked up to an interval in which reached
 -- job s is the first that is open, and the route holds it so far (proofs/WalkSteps.antt). The numbers of these jobs fall.
 -- Assumes nothing.
-use mathlib.Core.Path.{◌≡◌, ◌∙◌}
+use mathlib.Core.Path.{◌≡◌}
 use mathlib.Core.List.{List}
-use mathlib.Core.Logic.{⊎_elim}
-use Prim.Native.Nat.{ℕ, ◌+◌, ◌<◌, min}
-use native.Mathlib.Omega.{arith}
-use lib.ListN.{length, length-set}
-use Rattle.model.specs.Limits.{max_jobs, max_intervals}
+use Prim.Native.Nat.{ℕ}
+use lib.ListN.{length}
+use Rattle.model.specs.Limits.{max_jobs}
 use Rattle.workloads.specs.Workloads.{Workload}
 use Rattle.workloads.specs.Arrays.{numbers_in, problem_in, lent_windows}
 use Rattle.searching.specs.declared.reached.Found.{Found}
 use Rattle.searching.specs.Reaching.{state_of}
 use Rattle.paths.specs.Paths.{first_open}
 use Rattle.paths.specs.Moves.{CanWalk}
-use Rattle.paths.proofs.WalkSteps.{reaching_fits, target_open, WalkAt, walk_start, path_falls, walk_listed, walk_room, source_open, walk_place, walk_next, walk_end}
+use Rattle.paths.proofs.WalkSteps.{WalkAt}
 use Rattle.paths.proofs.path.path_limit.Given as goal
+
+-- the first reached job that is open in the target
+abbrev pub FirstAt : (work : Workload) → Found → (reached : List ℕ) → (s : ℕ) → Type 0
+FirstAt work found reached s = s ≡ first_open (problem_in work) found.count (numbers_in reached) found.target
 
 abbrev pub invariant-loop-s : goal.invariant-loop-s
 invariant-loop-s l =

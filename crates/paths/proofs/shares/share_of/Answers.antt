@@ -1,7 +1,6 @@
 -- `shares::share_of` meets its contract. Assumes nothing.
 use Prim.Native.Nat.{◌+◌, ◌*◌}
 use native.Mathlib.Omega.{arith}
-use borrow.Author.Rules.{rules}
 use Rattle.paths.proofs.shares.share_of.Goals as goal
 
 pub overflow_cast-result : goal.overflow_cast-result

@@ -1,17 +1,12 @@
 -- `moving::move_cycles` meets its contract. The loop's invariant: the job is being placed, with `left` of its cycles left
 -- (proofs/PlaceSteps.antt). Assumes nothing.
 use mathlib.Core.Path.{◌≡◌}
-use Prim.Native.Nat.{ℕ, ◌*◌, ◌<◌, ◌≤◌}
-use native.Mathlib.Omega.{arith}
-use lib.ListN.{length, length-replicate}
+use Prim.Native.Nat.{ℕ, ◌*◌}
+use lib.ListN.{length}
 use Rattle.model.specs.Limits.{max_jobs}
-use Rattle.model.specs.Plans.{shares_in}
 use Rattle.workloads.specs.Workloads.{Workload}
-use Rattle.workloads.specs.Arrays.{problem_in, lent_windows, KeptPast}
-use Rattle.workloads.proofs.SharesTable.{kept_refl, kept_trans}
-use Rattle.searching.specs.Reaching.{state_of, Searched}
-use Rattle.paths.specs.FilledTargets.{PlacingTables, CanFill, Filled}
-use Rattle.planner.proofs.PlaceSteps.{place_search, place_fill, place_filled, search_closed}
+use Rattle.workloads.specs.Arrays.{lent_windows, KeptPast}
+use Rattle.paths.specs.FilledTargets.{PlacingTables}
 use Rattle.planner.proofs.moving.move_cycles.Given as goal
 
 abbrev pub invariant-loop-left : goal.invariant-loop-left

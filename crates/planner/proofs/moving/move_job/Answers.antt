@@ -3,7 +3,6 @@ use mathlib.Core.Path.{◌∙◌}
 use mathlib.Core.List.{List}
 use Prim.Native.Nat.{ℕ, ◌<◌, ◌≤◌}
 use native.Mathlib.Omega.{arith}
-use borrow.Author.Rules.{rules}
 use Rattle.model.specs.Limits.{max_intervals, max_levels}
 use Rattle.workloads.specs.Workloads.{Workload}
 use Rattle.workloads.specs.Arrays.{numbers_in, lent_windows}
@@ -12,10 +11,10 @@ use Rattle.workloads.proofs.JobWindows.{window_small}
 use Rattle.paths.specs.FilledTargets.{PlacingTables}
 use Rattle.prices.proofs.RaisedPrices.{raised_up}
 use Rattle.filling.proofs.Turns.{turn_start}
-use Rattle.planner.specs.BandPasses.{JobMoved, CanRaiseJob}
+use Rattle.planner.specs.BandPasses.{CanRaiseJob}
 use Rattle.planner.proofs.PlaceSteps.{closed_range, raised_tables, raised_past, raise_passed, raise_moved}
 use Rattle.planner.proofs.moving.move_job.Goals as goal
-use Rattle.planner.proofs.moving.move_job.Goals.{After-move_cycles-rest, After-raise-arg-1, After-way_told-1, Start}
+use Rattle.planner.proofs.moving.move_job.Goals.{Start}
 
 -- a workload with what is lent
 abbrev lent : (c : Start) → Workload → Workload
@@ -61,32 +60,25 @@ pub is_below-requires : goal.is_below-requires
 is_below-requires c = (window (goal.at.is_below-requires c).Start).1
 
 -- the job is placed
-placing : (c : After-way_told-1)
+placing : (c : Start) → 0 < c.args.turn.left
     → let a = c.args in
-    (work : Workload) (left : List ℕ) → Turns c.before.before.before.before work left
-    → PlacingTables (lent c.before.before.before.before work) a.shares.now a.room.now a.holders.now (numbers_in a.prices.now) (numbers_in left) a.turn.job a.turn.left a.band
-placing c work left can =
-    let has : 0 < numbers_in left c.args.turn.job = omega (arith, can.left_is, c.if-turn-eq0.false) in
+    (work : Workload) (left : List ℕ) → Turns c work left
+    → PlacingTables (lent c work) a.shares.now a.room.now a.holders.now (numbers_in a.prices.now) (numbers_in left) a.turn.job a.turn.left a.band
+placing c some work left can =
+    let has : 0 < numbers_in left c.args.turn.job = omega (arith, can.left_is) in
     rw can.left_is at (turn_start can.can.tables can.job_below has)
 
 pub move_cycles-rest-requires : goal.move_cycles-rest-requires
 move_cycles-rest-requires c =
     let known = c.requires in
-    (known.0, c.args.band, numbers_in c.args.prices.now, numbers_in known.1, placing (goal.at.move_cycles-rest-requires c).After-way_told-1 known.0 known.1 known.2)
-
--- it was moved
-moved : (c : After-move_cycles-rest)
-    → let a = c.args in
-    (work : Workload) (left : List ℕ) → Turns c.before.before.before.before.before.before.before.before.before.before.before.before.before work left
-    → JobMoved (lent c.before.before.before.before.before.before.before.before.before.before.before.before.before work) a.shares.now c.move_cycles-rest.new.1.1.0 c.move_cycles-rest.new.1.1.1.0 c.move_cycles-rest.new.1.1.1.1.0
-    (numbers_in a.prices.now) (numbers_in left) a.turn.job a.band c.move_cycles-rest.result
-moved c work left can =
-    let a = c.args in
-    c.move_cycles-rest.ensures work a.band (numbers_in a.prices.now) (numbers_in left) (placing c.before.before.before.before.before.before.before.before.before work left can)
+    let start = (goal.at.move_cycles-rest-requires c).Start in
+    (known.0, c.args.band, numbers_in c.args.prices.now, numbers_in known.1, placing start (omega (arith, c.if-turn-eq0.false)) known.0 known.1 known.2)
 
 pub returns-then-rest-eq0 : goal.returns-then-rest-eq0
 returns-then-rest-eq0 c = λ work left can.
-    let done = moved (goal.at.returns-then-rest-eq0 c).After-move_cycles-rest work left can in (
+    let a = c.args in
+    let start = (goal.at.returns-then-rest-eq0 c).Start in
+    let done = c.move_cycles-rest.ensures work a.band (numbers_in a.prices.now) (numbers_in left) (placing start (omega (arith, c.if-turn-eq0.false)) work left can) in (
       done.kept,
       raise_moved can.can can.job_below can.can.prices_length (λ i. omega arith) (rw c.if-rest-eq0.true at done.tables) (λ some. absurd (omega arith)),
     )
@@ -94,21 +86,21 @@ returns-then-rest-eq0 c = λ work left can.
 pub overflow_add-band-then-is_below : goal.overflow_add-band-then-is_below
 overflow_add-band-then-is_below c = omega (arith, band-small (goal.at.overflow_add-band-then-is_below c).Start)
 
--- some cycles are left
-lacks : (c : After-raise-arg-1) → 0 < c.move_cycles-rest.result.left
-lacks c = omega (arith, c.if-rest-eq0.false)
-
 pub raise-requires : goal.raise-requires
 raise-requires c =
     let known = c.requires in
-    let done = moved (goal.at.raise-requires c).After-move_cycles-rest known.0 known.1 known.2 in
-    let range = closed_range done.tables (done.closed (lacks (goal.at.raise-requires c).After-raise-arg-1)) in
+    let a = c.args in
+    let start = (goal.at.raise-requires c).Start in
+    let done = c.move_cycles-rest.ensures known.0 a.band (numbers_in a.prices.now) (numbers_in known.1) (placing start (omega (arith, c.if-turn-eq0.false)) known.0 known.1 known.2) in
+    let range = closed_range done.tables (done.closed (omega (arith, c.if-rest-eq0.false))) in
     (known.2.can.prices_length, omega (arith, range), omega (arith, range))
 
 pub returns-then-is_below : goal.returns-then-is_below
 returns-then-is_below c = λ work left can.
-    let done = moved (goal.at.returns-then-is_below c).After-move_cycles-rest work left can in
-    let some = lacks (goal.at.returns-then-is_below c).After-raise-arg-1 in
+    let a = c.args in
+    let start = (goal.at.returns-then-is_below c).Start in
+    let done = c.move_cycles-rest.ensures work a.band (numbers_in a.prices.now) (numbers_in left) (placing start (omega (arith, c.if-turn-eq0.false)) work left can) in
+    let some : 0 < c.move_cycles-rest.result.left = omega (arith, c.if-rest-eq0.false) in
     let raised = c.raise.ensures.0 in (
       done.kept,
       raise_moved can.can can.job_below c.raise.ensures.1 (raised_up raised)

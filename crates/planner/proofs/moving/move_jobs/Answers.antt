@@ -1,10 +1,10 @@
 use mathlib.Core.Path.{◌≡◌, refl}
-use Prim.Native.Nat.{◌-◌, ◌*◌, ◌<◌, ◌≤◌}
+use Prim.Native.Nat.{◌*◌, ◌<◌}
 use native.Mathlib.Omega.{arith}
 use Rattle.model.specs.Limits.{max_jobs}
 use Rattle.workloads.specs.Arrays.{lent_windows, KeptPast}
 use Rattle.workloads.proofs.SharesTable.{kept_refl, kept_trans}
-use Rattle.planner.specs.BandPasses.{CanRaise, WindowsRaised}
+use Rattle.planner.specs.BandPasses.{CanRaise}
 use Rattle.planner.proofs.moving.move_jobs.Goals as goal
 use Rattle.planner.proofs.moving.move_jobs.Goals.{At-loop-job, In-loop-job}
 
@@ -46,15 +46,14 @@ pub loop-job-smaller : goal.loop-job-smaller
 loop-job-smaller c = omega (arith, c.loop-job-test.true)
 
 pub loop-job-preserved : goal.loop-job-preserved
-loop-job-preserved c =
-(
-      omega (arith, c.loop-job-test.true),
-      λ work can.
-          let (kept, raising) = c.loop-job.invariant.1 work can in
-          let (kept_next, next) = c.move_job.ensures work c.loop-job.left
-          (record { job_below = c.loop-job-test.true; left_is = refl; can = raising }) in
-          (kept_trans kept kept_next, next),
-    )
+loop-job-preserved c = (
+  omega (arith, c.loop-job-test.true),
+  λ work can.
+      let (kept, raising) = c.loop-job.invariant.1 work can in
+      let (kept_next, next) = c.move_job.ensures work c.loop-job.left
+      (record { job_below = c.loop-job-test.true; left_is = refl; can = raising }) in
+      (kept_trans kept kept_next, next),
+)
 
 pub shape_of-shares : goal.shape_of-shares
 shape_of-shares c = (own (goal.at.shape_of-shares c).At-loop-job).0.same_length

@@ -1,11 +1,6 @@
 -- `moving::move_jobs` meets its contract. The loop's invariant: the jobs before `job` have had their turn. Assumes nothing.
-use mathlib.Core.Path.{◌≡◌, refl}
-use Prim.Native.Nat.{◌-◌, ◌*◌, ◌<◌, ◌≤◌}
-use native.Mathlib.Omega.{arith}
-use Rattle.model.specs.Limits.{max_jobs}
-use Rattle.workloads.specs.Arrays.{lent_windows, KeptPast}
-use Rattle.workloads.proofs.SharesTable.{kept_refl, kept_trans}
-use Rattle.planner.specs.BandPasses.{CanRaise, WindowsRaised}
+use Prim.Native.Nat.{◌-◌, ◌≤◌}
+use Rattle.planner.specs.BandPasses.{WindowsRaised}
 use Rattle.planner.proofs.moving.move_jobs.Given as goal
 
 abbrev pub invariant-loop-job : goal.invariant-loop-job

@@ -1,9 +1,8 @@
 use mathlib.Core.Path.{◌≡◌, refl}
-use Prim.Native.Nat.{ℕ, ◌-◌, ◌<◌, ◌≤◌}
+use Prim.Native.Nat.{◌<◌}
 use native.Mathlib.Omega.{arith}
 use lib.ListN.{length}
 use borrow.Author.Count.{below_none}
-use Rattle.workloads.specs.Arrays.{numbers_in, KeptPast}
 use Rattle.workloads.proofs.SharesTable.{kept_refl, kept_set}
 use Rattle.workloads.proofs.StoredNumbers.{stored_more}
 use Rattle.planner.proofs.placement.clear.Goals as goal

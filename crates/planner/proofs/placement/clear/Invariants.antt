@@ -1,12 +1,7 @@
 -- `placement::clear` meets its contract. The loop's invariant: the first `k` numbers are 0. Assumes nothing.
-use mathlib.Core.Path.{◌≡◌, refl}
+use mathlib.Core.Path.{◌≡◌}
 use Prim.Native.Nat.{ℕ, ◌-◌, ◌<◌, ◌≤◌}
-use native.Mathlib.Omega.{arith}
-use lib.ListN.{length}
-use borrow.Author.Count.{below_none}
 use Rattle.workloads.specs.Arrays.{numbers_in, KeptPast}
-use Rattle.workloads.proofs.SharesTable.{kept_refl, kept_set}
-use Rattle.workloads.proofs.StoredNumbers.{stored_more}
 use Rattle.planner.proofs.placement.clear.Given as goal
 
 abbrev pub invariant-loop-k : goal.invariant-loop-k

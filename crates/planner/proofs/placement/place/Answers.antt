@@ -1,29 +1,21 @@
 use mathlib.Core.Path.{◌≡◌, refl, ap, ◌∙◌}
-use Prim.Native.Nat.{ℕ, ◌+◌, ◌-◌, ◌*◌, ◌<◌, ◌≤◌}
+use Prim.Native.Nat.{ℕ, ◌+◌, ◌*◌, ◌<◌}
 use native.Mathlib.Omega.{arith}
 use lib.ListN.{length, length-replicate}
 use Rattle.model.specs.Limits.{max_levels, max_intervals}
-use Rattle.workloads.specs.Workloads.{Workload}
 use Rattle.workloads.specs.Arrays.{numbers_in, workload_with, KeptPast}
 use Rattle.workloads.proofs.SharesTable.{kept_refl, kept_trans}
 use Rattle.filling.specs.Filling.{FillingTables}
-use Rattle.planner.specs.PlacedTables.{BandStart}
 use Rattle.planner.specs.BandPasses.{CanRaise}
 use Rattle.planner.proofs.PlaceSteps.{tables_start, band_order, band_fits, band_opens, band_next, end_fits, tables_end}
 use Rattle.planner.proofs.placement.place.Goals as goal
-use Rattle.planner.proofs.placement.place.Goals.{After-clear-arg-1, After-left-in-loop-band-1, After-left-in-loop-band-2-1, After-loop-band, In-loop-band}
+use Rattle.planner.proofs.placement.place.Goals.{After-left-in-loop-band-2-1, After-loop-band, In-loop-band}
 
 pub overflow_mul-intervals : goal.overflow_mul-intervals
 overflow_mul-intervals c = omega (arith, c.requires.jobs_in_bounds)
 
 pub clear-requires : goal.clear-requires
 clear-requires c = c.requires.jobs_in_bounds
-
--- the workload that is lent
-abbrev lent : (c : After-clear-arg-1) → Workload
-lent c =
-    let a = c.args in
-    workload_with a.cycles.now a.jobs a.intervals a.bands a.first.now a.last.now a.size.now a.frequency.now
 
 pub loop-band-init : goal.loop-band-init
 loop-band-init c =
@@ -32,7 +24,7 @@ loop-band-init c =
       omega arith,
       kept_refl _ _,
       ap length no-price ∙ length-replicate {A = ℕ} max_intervals 0,
-      tables_start c.requires.sound_workload c.requires.cycles_len clear.new.0 (omega (arith, c.requires.jobs_in_bounds, clear.ensures.0.same_length)) clear.ensures.1
+      tables_start c.requires.sound_workload c.requires.cycles_len clear.new.shares (omega (arith, c.requires.jobs_in_bounds, clear.ensures.0.same_length)) clear.ensures.1
           no_room no-holder no-price,
     )
 
@@ -64,30 +56,32 @@ add_band-requires c =
     let start = c.loop-band.invariant.3 in
     record { intervals_le_max_intervals = (start.stored.sound.intervals_most, start.stored.room_at.room_length); by_index = band_fits start c.loop-band-test.true }
 
--- the band has begun
-opened : (c : After-left-in-loop-band-1)
-    → FillingTables (lent c.before.before.before.before.before.before.before.before.before.before.before.before.before.before.before) c.loop-band.shares c.add_band.new.1.1.1.0 c.loop-band.holders c.loop-band.left (numbers_in c.loop-band.prices)
-    c.loop-band.band 0
-opened c =
-    band_opens c.loop-band.invariant.3 c.loop-band-test.true c.add_band.ensures.0 c.add_band.ensures.1 c.add_band.ensures.2
-
 pub fill_jobs-requires : goal.fill_jobs-requires
 fill_jobs-requires c =
-    let pre = c.requires in
-    record { windows_pass = (lent (goal.at.fill_jobs-requires c).After-clear-arg-1, c.loop-band.band, numbers_in c.loop-band.prices, opened (goal.at.fill_jobs-requires c).After-left-in-loop-band-1); intervals_le_max_intervals = pre.0.intervals_most; by_index = pre.1.1.1.1.0 }
+    let a = c.args in
+    let opened = band_opens c.loop-band.invariant.3 c.loop-band-test.true c.add_band.ensures.0 c.add_band.ensures.1 c.add_band.ensures.2 in
+    record {
+      windows_pass = (workload_with a.cycles.now a.jobs a.intervals a.bands a.first.now a.last.now a.size.now a.frequency.now, c.loop-band.band, numbers_in c.loop-band.prices, opened);
+      intervals_le_max_intervals = c.requires.sound_workload.intervals_most;
+      by_index = c.requires.by_index;
+    }
 
 -- the windows are filled
 filled : (c : After-left-in-loop-band-2-1)
-    → let work = lent c.before.before.before.before.before.before.before.before.before.before.before.before.before.before.before.before.before.before.before.before.before.before.before in
-    KeptPast (work.intervals * work.jobs) c.loop-band.shares c.fill_jobs.new.1.1.1.0
-    × FillingTables work c.fill_jobs.new.1.1.1.0 c.fill_jobs.new.1.1.1.1.0 c.fill_jobs.new.1.1.1.1.1.0
-    c.fill_jobs.new.1.1.1.1.1.1.0 (numbers_in c.loop-band.prices) c.loop-band.band 0
+    → let a = c.args in
+    let work = workload_with a.cycles.now a.jobs a.intervals a.bands a.first.now a.last.now a.size.now a.frequency.now in
+    KeptPast (work.intervals * work.jobs) c.loop-band.shares c.fill_jobs.new.shares
+    × FillingTables work c.fill_jobs.new.shares c.fill_jobs.new.room c.fill_jobs.new.holders
+    c.fill_jobs.new.left (numbers_in c.loop-band.prices) c.loop-band.band 0
 filled c =
-    c.fill_jobs.ensures (lent c.before.before.before.before.before.before.before.before.before.before.before.before.before.before.before.before.before.before.before.before.before.before.before) c.loop-band.band (numbers_in c.loop-band.prices) (opened c.before.before.before.before.before.before.before.before)
+    let a = c.args in
+    c.fill_jobs.ensures (workload_with a.cycles.now a.jobs a.intervals a.bands a.first.now a.last.now a.size.now a.frequency.now) c.loop-band.band (numbers_in c.loop-band.prices)
+    (band_opens c.loop-band.invariant.3 c.loop-band-test.true c.add_band.ensures.0 c.add_band.ensures.1 c.add_band.ensures.2)
 
 can-move : (c : After-left-in-loop-band-2-1)
-    → CanRaise (lent c.before.before.before.before.before.before.before.before.before.before.before.before.before.before.before.before.before.before.before.before.before.before.before) c.fill_jobs.new.1.1.1.0 c.fill_jobs.new.1.1.1.1.0 c.fill_jobs.new.1.1.1.1.1.0
-    c.loop-band.prices c.fill_jobs.new.1.1.1.1.1.1.0 c.loop-band.band 0
+    → let a = c.args in
+    CanRaise (workload_with a.cycles.now a.jobs a.intervals a.bands a.first.now a.last.now a.size.now a.frequency.now)
+    c.fill_jobs.new.shares c.fill_jobs.new.room c.fill_jobs.new.holders c.loop-band.prices c.fill_jobs.new.left c.loop-band.band 0
 can-move c =
     record { fit = c.requires.ranges_fit; prices_length = c.loop-band.invariant.2; tables = (filled c).1 }
 
@@ -96,7 +90,8 @@ overflow_cast-band c = omega (arith, end-inside (goal.at.overflow_cast-band c).I
 
 pub move_jobs-requires : goal.move_jobs-requires
 move_jobs-requires c =
-    (lent (goal.at.move_jobs-requires c).After-clear-arg-1, can-move (goal.at.move_jobs-requires c).After-left-in-loop-band-2-1)
+    let a = c.args in
+    (workload_with a.cycles.now a.jobs a.intervals a.bands a.first.now a.last.now a.size.now a.frequency.now, can-move (goal.at.move_jobs-requires c).After-left-in-loop-band-2-1)
 
 pub overflow_add-band : goal.overflow_add-band
 overflow_add-band c = omega (arith, end-inside (goal.at.overflow_add-band c).In-loop-band)
@@ -106,9 +101,11 @@ loop-band-smaller c = omega (arith, c.loop-band-test.true)
 
 pub loop-band-preserved : goal.loop-band-preserved
 loop-band-preserved c =
-    let (kept, moved) = c.move_jobs.ensures (lent (goal.at.loop-band-preserved c).After-clear-arg-1) (can-move (goal.at.loop-band-preserved c).After-left-in-loop-band-2-1) in (
-      omega (arith, c.loop-band-test.taken),
-      kept_trans c.loop-band.inv.1 (kept_trans (filled (goal.at.loop-band-preserved c).After-left-in-loop-band-2-1).0 kept),
+    let a = c.args in
+    let work = workload_with a.cycles.now a.jobs a.intervals a.bands a.first.now a.last.now a.size.now a.frequency.now in
+    let (kept, moved) = c.move_jobs.ensures work (can-move (goal.at.loop-band-preserved c).After-left-in-loop-band-2-1) in (
+      omega (arith, c.loop-band-test.true),
+      kept_trans c.loop-band.invariant.1 (kept_trans (filled (goal.at.loop-band-preserved c).After-left-in-loop-band-2-1).0 kept),
       moved.prices_length,
       band_next moved.tables refl,
     )

@@ -1,17 +1,11 @@
 -- `placement::place` meets its contract. The loop's invariant: the bands before `band` are done (proofs/PlaceSteps.antt).
 -- Assumes nothing.
-use mathlib.Core.Path.{◌≡◌, refl, ap, ◌∙◌}
-use Prim.Native.Nat.{ℕ, ◌+◌, ◌-◌, ◌*◌, ◌<◌, ◌≤◌}
-use native.Mathlib.Omega.{arith}
-use lib.ListN.{length, length-replicate}
-use Rattle.model.specs.Limits.{max_levels, max_intervals}
-use Rattle.workloads.specs.Workloads.{Workload}
+use mathlib.Core.Path.{◌≡◌}
+use Prim.Native.Nat.{◌-◌, ◌*◌, ◌≤◌}
+use lib.ListN.{length}
+use Rattle.model.specs.Limits.{max_intervals}
 use Rattle.workloads.specs.Arrays.{numbers_in, workload_with, KeptPast}
-use Rattle.workloads.proofs.SharesTable.{kept_refl, kept_trans}
-use Rattle.filling.specs.Filling.{FillingTables}
 use Rattle.planner.specs.PlacedTables.{BandStart}
-use Rattle.planner.specs.BandPasses.{CanRaise}
-use Rattle.planner.proofs.PlaceSteps.{tables_start, band_order, band_fits, band_opens, band_next, end_fits, tables_end}
 use Rattle.planner.proofs.placement.place.Given as goal
 
 abbrev pub invariant-loop-band : goal.invariant-loop-band

@@ -1,13 +1,9 @@
 -- `rooms::loads_of` meets its contract. The loop's invariant: the loads of the first `i` intervals are stored. Assumes nothing.
-use mathlib.Core.Path.{◌≡◌, refl, ◌∙◌}
+use mathlib.Core.Path.{◌≡◌}
 use Prim.Native.Nat.{ℕ, ◌+◌, ◌-◌, ◌*◌, ◌<◌, ◌≤◌}
-use native.Mathlib.Omega.{arith}
-use lib.ListN.{length, length-set}
-use lib.Seq.{get_or-set_other}
-use borrow.Author.Count.{below_none}
-use Rattle.model.specs.Limits.{max_intervals, max_deadline, max_frequency}
+use lib.ListN.{length}
+use Rattle.model.specs.Limits.{max_intervals}
 use Rattle.workloads.specs.Arrays.{numbers_in}
-use Rattle.workloads.proofs.StoredNumbers.{stored_more}
 use Rattle.planner.proofs.rooms.loads_of.Given as goal
 
 abbrev pub invariant-loop-i : goal.invariant-loop-i

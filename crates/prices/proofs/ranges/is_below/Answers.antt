@@ -1,8 +1,6 @@
 use mathlib.Core.Path.{sym}
-use Prim.Native.Nat.{ℕ, ◌-◌, ◌<◌, ◌≤◌}
 use native.Mathlib.Omega.{arith}
 use Rattle.model.proofs.Numbers.{true≢false}
-use Rattle.workloads.specs.Arrays.{numbers_in}
 use Rattle.prices.proofs.PriceRanges.{range_more}
 use Rattle.prices.proofs.ranges.is_below.Goals as goal
 

@@ -1,10 +1,6 @@
 -- `ranges::is_below` meets its contract. The loop's invariant: no price up to `i` is lower. Assumes nothing.
-use mathlib.Core.Path.{sym}
 use Prim.Native.Nat.{ℕ, ◌-◌, ◌<◌, ◌≤◌}
-use native.Mathlib.Omega.{arith}
-use Rattle.model.proofs.Numbers.{true≢false}
 use Rattle.workloads.specs.Arrays.{numbers_in}
-use Rattle.prices.proofs.PriceRanges.{range_more}
 use Rattle.prices.proofs.ranges.is_below.Given as goal
 
 abbrev pub invariant-loop-i : goal.invariant-loop-i

@@ -1,13 +1,10 @@
 use mathlib.Core.Path.{◌≡◌}
-use mathlib.Core.Logic.{⊎_elim}
-use Prim.Native.Nat.{◌-◌, ◌<◌, ◌≤◌}
+use Prim.Native.Nat.{◌<◌}
 use native.Mathlib.Omega.{arith}
 use lib.ListN.{length, length-set}
-use Rattle.model.specs.Limits.{max_intervals}
-use Rattle.workloads.specs.Arrays.{numbers_in}
-use Rattle.prices.specs.RisingPrices.{Raised}
 use Rattle.prices.proofs.RaisedPrices.{raised_none, raised_pass, raised_store}
 use Rattle.prices.proofs.ranges.raise.Goals as goal
+use Rattle.prices.proofs.ranges.raise.Goals.{then-prices-i, else-prices-i}
 
 pub loop-i-init : goal.loop-i-init
 loop-i-init c = (omega arith, omega arith, c.requires.0, raised_none _ _ _)
@@ -31,10 +28,14 @@ loop-i-preserved c =
     let inside : c.loop-i.i < length prices = omega (arith, inv.2) in (
       omega arith,
       omega arith,
-      ⊎_elim (λ w. rw (w.1, length-set) inv.2) (λ w. rw w.1 inv.2) c.if-prices-i.branch,
-      ⊎_elim (λ w. rw w.1 (raised_store prices inv.3 inv.0 inside w.0.taken))
-          (λ w. rw w.1 (raised_pass prices inv.3 inv.0 w.0.left))
-          c.if-prices-i.branch,
+      elim c.if-prices-i.branch [
+        | then-prices-i w ↦ rw (w.prices-is, length-set) inv.2
+        | else-prices-i w ↦ rw w.prices-is inv.2
+      ],
+      elim c.if-prices-i.branch [
+        | then-prices-i w ↦ rw w.prices-is (raised_store prices inv.3 inv.0 inside w.if-prices-i.true)
+        | else-prices-i w ↦ rw w.prices-is (raised_pass prices inv.3 inv.0 w.if-prices-i.false)
+      ],
     )
 
 pub returns : goal.returns

@@ -1,13 +1,10 @@
 -- `ranges::raise` meets its contract. The loop's invariant: the prices up to `i` are raised. Assumes nothing.
 use mathlib.Core.Path.{◌≡◌}
-use mathlib.Core.Logic.{⊎_elim}
-use Prim.Native.Nat.{◌-◌, ◌<◌, ◌≤◌}
-use native.Mathlib.Omega.{arith}
-use lib.ListN.{length, length-set}
+use Prim.Native.Nat.{◌-◌, ◌≤◌}
+use lib.ListN.{length}
 use Rattle.model.specs.Limits.{max_intervals}
 use Rattle.workloads.specs.Arrays.{numbers_in}
 use Rattle.prices.specs.RisingPrices.{Raised}
-use Rattle.prices.proofs.RaisedPrices.{raised_none, raised_pass, raised_store}
 use Rattle.prices.proofs.ranges.raise.Given as goal
 
 abbrev pub invariant-loop-i : goal.invariant-loop-i

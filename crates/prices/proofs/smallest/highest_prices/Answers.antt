@@ -1,7 +1,5 @@
 use mathlib.Core.Path.{◌≡◌}
-use Prim.Native.Nat.{◌-◌, ◌≤◌}
 use native.Mathlib.Omega.{arith}
-use Rattle.prices.specs.RisingPrices.{HighestPrices}
 use Rattle.prices.proofs.HeldShares.{highest_start, highest_next}
 use Rattle.prices.proofs.smallest.highest_prices.Goals as goal
 

@@ -1,9 +1,6 @@
 -- `smallest::highest_prices` meets its contract. The loop's invariant: they are the highest prices up to `i`. Assumes nothing.
-use mathlib.Core.Path.{◌≡◌}
 use Prim.Native.Nat.{◌-◌, ◌≤◌}
-use native.Mathlib.Omega.{arith}
 use Rattle.prices.specs.RisingPrices.{HighestPrices}
-use Rattle.prices.proofs.HeldShares.{highest_start, highest_next}
 use Rattle.prices.proofs.smallest.highest_prices.Given as goal
 
 abbrev pub invariant-loop-i : goal.invariant-loop-i

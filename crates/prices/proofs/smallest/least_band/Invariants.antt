@@ -1,9 +1,5 @@
 -- `smallest::least_band` meets its contract. The loop's invariant: every band passed ends below the load. Assumes nothing.
-use Prim.Native.Nat.{ℕ, suc, ◌+◌, ◌-◌, ◌*◌, ◌<◌, ◌≤◌}
-use native.Mathlib.Nat.{mul-le-mul}
-use native.Mathlib.Numerals.{add-one}
-use native.Mathlib.Omega.{arith}
-use borrow.Author.Count.{below_none, below_more}
+use Prim.Native.Nat.{ℕ, suc, ◌-◌, ◌*◌, ◌<◌, ◌≤◌}
 use Rattle.workloads.specs.Arrays.{numbers_in}
 use Rattle.prices.proofs.smallest.least_band.Given as goal
 

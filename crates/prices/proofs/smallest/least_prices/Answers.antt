@@ -1,5 +1,5 @@
 use mathlib.Core.Path.{◌≡◌, ◌∙◌}
-use Prim.Native.Nat.{ℕ, ◌-◌, ◌<◌, ◌≤◌}
+use Prim.Native.Nat.{◌<◌}
 use native.Mathlib.Omega.{arith}
 use lib.ListN.{length, length-set}
 use borrow.Author.Count.{below_none}
@@ -32,7 +32,7 @@ bounds-loads-i c = below (goal.at.bounds-loads-i c).In-loop-i
 pub least_band-band-requires : goal.least_band-band-requires
 least_band-band-requires c =
     let pre = c.requires in
-    (pre.0.1, pre.1.0 _ c.loop-i-test.true, pre.1.1)
+    (pre.intervals_le_max_intervals.1, pre.by_index.0 _ c.loop-i-test.true, pre.by_index.1)
 
 pub overflow_cast-prices : goal.overflow_cast-prices
 overflow_cast-prices c = omega (arith, c.least_band-band.ensures.0, c.requires.intervals_le_max_intervals.1)

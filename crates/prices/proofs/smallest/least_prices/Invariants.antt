@@ -1,12 +1,9 @@
 -- `smallest::least_prices` meets its contract. The loop's invariant: the prices before `i` are the least. Assumes nothing.
-use mathlib.Core.Path.{◌≡◌, ◌∙◌}
+use mathlib.Core.Path.{◌≡◌}
 use Prim.Native.Nat.{ℕ, ◌-◌, ◌<◌, ◌≤◌}
-use native.Mathlib.Omega.{arith}
-use lib.ListN.{length, length-set}
-use borrow.Author.Count.{below_none}
+use lib.ListN.{length}
 use Rattle.model.specs.Limits.{max_intervals}
 use Rattle.workloads.specs.Arrays.{numbers_in}
-use Rattle.workloads.proofs.StoredNumbers.{stored_more}
 use Rattle.prices.specs.RisingPrices.{LeastBand}
 use Rattle.prices.proofs.smallest.least_prices.Given as goal
 

@@ -1,16 +1,12 @@
 use mathlib.Core.Path.{◌≡◌}
-use mathlib.Core.Logic.{⊎_elim}
-use mathlib.Core.List.{List}
-use Prim.Native.Nat.{ℕ, ◌-◌, ◌<◌, ◌≤◌}
+use Prim.Native.Nat.{◌<◌, ◌≤◌}
 use native.Mathlib.Omega.{arith}
 use Rattle.model.specs.Limits.{max_jobs, max_intervals}
-use Rattle.workloads.specs.Workloads.{Workload}
-use Rattle.workloads.specs.Arrays.{numbers_in, lent_windows}
+use Rattle.workloads.specs.Arrays.{numbers_in}
 use Rattle.workloads.proofs.JobWindows.{window_small}
-use Rattle.prices.specs.RisingPrices.{CanRaise, RisePass}
 use Rattle.prices.proofs.RisePasses.{pass_start, pass_raised, pass_settled}
 use Rattle.prices.proofs.smallest.raise_jobs.Goals as goal
-use Rattle.prices.proofs.smallest.raise_jobs.Goals.{After-way_told-1}
+use Rattle.prices.proofs.smallest.raise_jobs.Goals.{After-way_told-1, then-raise_window, else-raise_window}
 
 pub loop-job-init : goal.loop-job-init
 loop-job-init c = (omega arith, λ work table can. pass_start can.rise)
@@ -66,9 +62,10 @@ loop-job-preserved c =
     let step = c.raise_window.ensures in (
       omega (arith, exists),
       λ work table can.
-          ⊎_elim (λ w. rw w.1 (pass_raised can.rise (pass work table can) exists (can.each _ exists) step w.0.taken))
-          (λ w. rw w.1 (pass_settled can.rise (pass work table can) exists (can.each _ exists) step w.0.left))
-          c.if-raise_window.branch,
+          elim c.if-raise_window.branch [
+            | then-raise_window w ↦ rw w.changed-is (pass_raised can.rise (pass work table can) exists (can.each _ exists) step w.if-raise_window.true)
+            | else-raise_window w ↦ rw w.changed-is (pass_settled can.rise (pass work table can) exists (can.each _ exists) step w.if-raise_window.false)
+          ],
     )
 
 pub returns : goal.returns

@@ -1,16 +1,10 @@
 -- `smallest::raise_jobs` meets its contract. The loop's invariant: the jobs before `job` have raised prices or are settled
 -- (proofs/RisePasses.antt). Assumes nothing.
-use mathlib.Core.Path.{◌≡◌}
-use mathlib.Core.Logic.{⊎_elim}
 use mathlib.Core.List.{List}
-use Prim.Native.Nat.{ℕ, ◌-◌, ◌<◌, ◌≤◌}
-use native.Mathlib.Omega.{arith}
-use Rattle.model.specs.Limits.{max_jobs, max_intervals}
+use Prim.Native.Nat.{ℕ, ◌-◌, ◌≤◌}
 use Rattle.workloads.specs.Workloads.{Workload}
-use Rattle.workloads.specs.Arrays.{numbers_in, lent_windows}
-use Rattle.workloads.proofs.JobWindows.{window_small}
+use Rattle.workloads.specs.Arrays.{lent_windows}
 use Rattle.prices.specs.RisingPrices.{CanRaise, RisePass}
-use Rattle.prices.proofs.RisePasses.{pass_start, pass_raised, pass_settled}
 use Rattle.prices.proofs.smallest.raise_jobs.Given as goal
 
 abbrev pub invariant-loop-job : goal.invariant-loop-job

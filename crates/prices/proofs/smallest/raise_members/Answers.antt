@@ -1,15 +1,14 @@
 use mathlib.Core.Path.{◌≡◌, sym, ◌∙◌}
 use mathlib.Core.Bool.{true}
-use mathlib.Core.Logic.{⊎_elim}
 use Prim.Native.Nat.{◌<◌}
 use native.Mathlib.Omega.{arith}
 use borrow.Author.Tests.{not-true, not-false}
 use Rattle.model.specs.Limits.{max_jobs}
-use Rattle.job_sets.specs.JobSets.{is_member, member_count}
+use Rattle.job_sets.specs.JobSets.{is_member}
 use Rattle.job_sets.proofs.JobSets.{count_without}
-use Rattle.prices.proofs.MemberRaises.{RaisedSoFar, raises_start, raises_store, raises_pass, raises_end, least-member}
+use Rattle.prices.proofs.MemberRaises.{raises_start, raises_store, raises_pass, raises_end, least-member}
 use Rattle.prices.proofs.smallest.raise_members.Goals as goal
-use Rattle.prices.proofs.smallest.raise_members.Goals.{After-way_told-1}
+use Rattle.prices.proofs.smallest.raise_members.Goals.{After-way_told-1, then-highest-job, else-highest-job}
 
 pub loop-rest-init : goal.loop-rest-init
 loop-rest-init c = raises_start c.requires
@@ -34,10 +33,12 @@ loop-rest-smaller c =
 pub loop-rest-preserved : goal.loop-rest-preserved
 loop-rest-preserved c =
     let so_far = c.loop-rest.invariant in
+    let is-found = found (goal.at.loop-rest-preserved c).After-way_told-1 in
     rw c.without-rest.ensures
-    (⊎_elim (λ w. rw w.1 (raises_store so_far (found (goal.at.loop-rest-preserved c).After-way_told-1).1 (found (goal.at.loop-rest-preserved c).After-way_told-1).0 w.0.taken))
-    (λ w. rw w.1 (raises_pass so_far (found (goal.at.loop-rest-preserved c).After-way_told-1).1 (found (goal.at.loop-rest-preserved c).After-way_told-1).0 w.0.left))
-    c.if-highest-job.branch)
+    (elim c.if-highest-job.branch [
+      | then-highest-job w ↦ rw w.highest-is (raises_store so_far is-found.1 is-found.0 w.if-highest-job.true)
+      | else-highest-job w ↦ rw w.highest-is (raises_pass so_far is-found.1 is-found.0 w.if-highest-job.false)
+    ])
 
 pub returns : goal.returns
 returns c = raises_end c.loop-rest.invariant (sym c.is_empty.ensures ∙ not-false _ c.loop-rest-test.false-raw)

@@ -1,6 +1,5 @@
 -- `smallest::raise_window` meets its contract (proofs/RisePasses.antt). Assumes nothing.
 use mathlib.Core.Path.{sym, ◌∙◌}
-use borrow.Author.Rules.{rules}
 use Rattle.prices.proofs.RisePasses.{window_raised, window_kept}
 use Rattle.prices.proofs.smallest.raise_window.Goals as goal
 

@@ -3,8 +3,8 @@ use Prim.Native.Nat.{ℕ}
 use mathlib.Core.List.{List}
 use Rattle.model.specs.Plans.{shares_in}
 use Rattle.workloads.specs.Workloads.{Workload}
-use Rattle.workloads.specs.Arrays.{numbers_in, problem_in, workload_with, Holding}
-use Rattle.prices.specs.RisingPrices.{room_left, CanPrice, CanRise, CanRiseBy, RisePass}
+use Rattle.workloads.specs.Arrays.{problem_in, workload_with, Holding}
+use Rattle.prices.specs.RisingPrices.{CanPrice, CanRise, CanRiseBy, RisePass}
 use Rattle.prices.proofs.RisePasses.{rise_start, rise_again, rise_end}
 use Rattle.prices.proofs.smallest.smallest_prices.Goals as goal
 use Rattle.prices.proofs.smallest.smallest_prices.Goals.{After-least_prices-arg-1, After-raise_all}
@@ -26,8 +26,8 @@ Held c cycles table = Holding (problem_in (lent c cycles)) (shares_in c.args.job
 pub least_prices-requires : goal.least_prices-requires
 least_prices-requires c =
     let pre = c.requires in
-    let sound = pre.0.2.sound in
-    record { intervals_le_max_intervals = (sound.intervals_most, sound.bands_most, pre.1); by_index = (sound.size_most, sound.frequency_most) }
+    let sound = pre.arrays_price.2.sound in
+    record { intervals_le_max_intervals = (sound.intervals_most, sound.bands_most, pre.prices_len); by_index = (sound.size_most, sound.frequency_most) }
 
 pub loop-init : goal.loop-init
 loop-init c = λ cycles table can holding. rise_start can c.least_prices.ensures.0 c.least_prices.ensures.1
@@ -44,7 +44,7 @@ raise_all-requires c = let (cycles, table, can, holding) = c.requires.arrays_pri
 pass : (c : After-raise_all) (cycles table : List ℕ) → Priceable c.before.before.before.before cycles table
     → Held c.before.before.before.before cycles table
     → RisePass (lent c.before.before.before.before cycles) table c.loop.prices
-    c.raise_all.new.1.1.1.1.1.0 c.args.jobs c.raise_all.result
+    c.raise_all.new.prices c.args.jobs c.raise_all.result
 pass c cycles table can holding =
     c.raise_all.ensures (lent c.before.before.before.before cycles) table (by c.before.before.before.before (c.loop.invariant cycles table can holding) holding)
 

@@ -1,13 +1,10 @@
 -- `smallest::smallest_prices` meets its contract. The loop's invariant: the prices can rise; each turn leaves less room below
 -- the last band (proofs/RisePasses.antt). Assumes nothing.
-use mathlib.Core.Path.{refl}
 use Prim.Native.Nat.{ℕ}
 use mathlib.Core.List.{List}
 use Rattle.model.specs.Plans.{shares_in}
-use Rattle.workloads.specs.Workloads.{Workload}
 use Rattle.workloads.specs.Arrays.{numbers_in, problem_in, workload_with, Holding}
-use Rattle.prices.specs.RisingPrices.{room_left, CanPrice, CanRise, CanRiseBy, RisePass}
-use Rattle.prices.proofs.RisePasses.{rise_start, rise_again, rise_end}
+use Rattle.prices.specs.RisingPrices.{room_left, CanPrice, CanRise}
 use Rattle.prices.proofs.smallest.smallest_prices.Given as goal
 
 abbrev pub invariant-loop : goal.invariant-loop

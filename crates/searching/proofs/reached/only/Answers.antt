@@ -1,5 +1,4 @@
 -- `reached::only` meets its contract. Assumes nothing.
-use borrow.Author.Rules.{rules}
 use Rattle.searching.proofs.reached.only.Goals as goal
 
 pub returns : goal.returns

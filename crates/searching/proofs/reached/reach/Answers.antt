@@ -1,10 +1,5 @@
 -- `reached::reach` meets its contract. Assumes nothing.
-use borrow.Author.Rules.{rules}
 use Rattle.searching.proofs.reached.reach.Goals as goal
-
--- UNCONVERTED overflow-add-t15
--- add-t15 : tie.Need-overflow-add-t15
--- add-t15 c = search rules
 
 pub returns : goal.returns
 returns c = rw (c.without-unlisted.ensures, c.smaller.ensures, c.larger.ensures)

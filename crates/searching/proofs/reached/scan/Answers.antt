@@ -1,16 +1,13 @@
 use mathlib.Core.Path.{◌≡◌, sym, subst, ◌∙◌}
 use mathlib.Core.Bool.{true, false}
-use Prim.Native.Nat.{ℕ, ◌<◌, ◌≤◌}
+use Prim.Native.Nat.{◌<◌, ◌≤◌}
 use native.Mathlib.Omega.{arith}
 use borrow.Author.Tests.{not-true, not-false}
 use Rattle.model.specs.Limits.{max_jobs, max_intervals}
-use Rattle.model.specs.Plans.{Shares}
-use Rattle.job_sets.specs.declared.JobSet.{JobSet}
-use Rattle.job_sets.specs.JobSets.{is_member, member_count, is_empty, without_job, in_both}
+use Rattle.job_sets.specs.JobSets.{is_member, is_empty, without_job}
 use Rattle.job_sets.proofs.JobSets.{count_without, least_has}
-use Rattle.workloads.specs.Placement.{Problem}
 use Rattle.workloads.specs.Arrays.{numbers_in}
-use Rattle.searching.specs.Reaching.{SearchState, state_of, with_windows, ToScan, ScanOf}
+use Rattle.searching.specs.Reaching.{SearchState, state_of, with_windows, ScanOf}
 use Rattle.searching.proofs.ScanSteps.{scan_small, scan_start, scan_end, scan_window, scan_room, scan_reach}
 use Rattle.searching.proofs.reached.scan.Goals as goal
 use Rattle.searching.proofs.reached.scan.Goals.{After-way_told-1, At-loop-new, In-loop-new}
@@ -33,17 +30,17 @@ some : (c : In-loop-new) → is_empty c.loop-new.new ≡ false
 some c = sym c.is_empty.ensures ∙ not-true _ c.loop-new-test.true-raw
 
 is-new : (c : After-way_told-1) → is_member c.loop-new.new c.least-job.result ≡ true
-is-new c = rw c.least-job.ensures (least_has c.loop-new.new (some c.before.before)).1
+is-new c = rw c.least-job.ensures (least_has c.loop-new.new (some c.before.before.before)).1
 
 small : (c : After-way_told-1) → c.least-job.result < max_jobs
-small c = rw c.least-job.ensures (least_has c.loop-new.new (some c.before.before)).0
+small c = rw c.least-job.ensures (least_has c.loop-new.new (some c.before.before.before)).0
 
 -- its window is among the intervals
 window : (c : After-way_told-1)
     → let a = c.args in
     (numbers_in a.first.now c.least-job.result < max_intervals) × (numbers_in a.last.now c.least-job.result ≤ max_intervals)
 window c =
-    scan_window c.requires.to_scan (at c.before.before.before.before) _ (is-new c)
+    scan_window c.requires.to_scan (at c.before.before.before.before.before) _ (is-new c)
 
 pub bounds-first-job : goal.bounds-first-job
 bounds-first-job c = small (goal.at.bounds-first-job c).After-way_told-1

@@ -1,19 +1,12 @@
 -- `reached::scan` meets its contract. The loop's invariant: the jobs with a share in the interval are listed, but for those
 -- that are still in `new` (proofs/ScanSteps.antt). Assumes nothing.
-use mathlib.Core.Path.{◌≡◌, sym, subst, ◌∙◌}
-use mathlib.Core.Bool.{true, false}
-use Prim.Native.Nat.{ℕ, ◌<◌, ◌≤◌}
-use native.Mathlib.Omega.{arith}
-use borrow.Author.Tests.{not-true, not-false}
-use Rattle.model.specs.Limits.{max_jobs, max_intervals}
+use mathlib.Core.Path.{◌≡◌}
+use Prim.Native.Nat.{ℕ}
 use Rattle.model.specs.Plans.{Shares}
 use Rattle.job_sets.specs.declared.JobSet.{JobSet}
-use Rattle.job_sets.specs.JobSets.{is_member, member_count, is_empty, without_job, in_both}
-use Rattle.job_sets.proofs.JobSets.{count_without, least_has}
+use Rattle.job_sets.specs.JobSets.{member_count, in_both}
 use Rattle.workloads.specs.Placement.{Problem}
-use Rattle.workloads.specs.Arrays.{numbers_in}
-use Rattle.searching.specs.Reaching.{SearchState, state_of, with_windows, ToScan, ScanOf}
-use Rattle.searching.proofs.ScanSteps.{scan_small, scan_start, scan_end, scan_window, scan_room, scan_reach}
+use Rattle.searching.specs.Reaching.{state_of, with_windows, ToScan, ScanOf}
 use Rattle.searching.proofs.reached.scan.Given as goal
 
 abbrev pub invariant-loop-new : goal.invariant-loop-new

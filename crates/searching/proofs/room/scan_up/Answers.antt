@@ -1,9 +1,7 @@
-use Prim.Native.Nat.{ℕ, ◌-◌, ◌<◌, ◌≤◌}
+use Prim.Native.Nat.{◌<◌, ◌≤◌}
 use native.Mathlib.Omega.{arith}
 use Rattle.model.specs.Limits.{max_intervals}
-use Rattle.model.specs.Plans.{Shares}
-use Rattle.workloads.specs.Placement.{Problem}
-use Rattle.searching.specs.Reaching.{state_of, with_windows, ToSearch, Scanning}
+use Rattle.searching.specs.Reaching.{state_of, with_windows, Scanning}
 use Rattle.searching.proofs.SearchSteps.{room_some, room_none, up_none, up_target, next_inside, searched_target, next_to_scan, scanning_next}
 use Rattle.searching.proofs.room.scan_up.Goals as goal
 use Rattle.searching.proofs.room.scan_up.Goals.{At-loop-high, In-loop-high}
@@ -47,7 +45,7 @@ set_at-set-requires c = exists (goal.at.set_at-set-requires c).In-loop-high
 pub scan-found-requires : goal.scan-found-requires
 scan-found-requires c =
     let start = (goal.at.scan-found-requires c).At-loop-high.before in
-    let can = start.pre in
+    let can = start.requires in
     let to_search = can.to_search in
     let scanning = at (goal.at.scan-found-requires c).At-loop-high in
     record {

@@ -1,12 +1,10 @@
 -- `room::scan_up` meets its contract. The loop's invariant: the intervals up to `high` are scanned too
 -- (proofs/SearchSteps.antt). Assumes nothing.
-use Prim.Native.Nat.{ℕ, ◌-◌, ◌<◌, ◌≤◌}
-use native.Mathlib.Omega.{arith}
+use Prim.Native.Nat.{ℕ, ◌-◌}
 use Rattle.model.specs.Limits.{max_intervals}
 use Rattle.model.specs.Plans.{Shares}
 use Rattle.workloads.specs.Placement.{Problem}
 use Rattle.searching.specs.Reaching.{state_of, with_windows, ToSearch, Scanning}
-use Rattle.searching.proofs.SearchSteps.{room_some, room_none, up_none, up_target, next_inside, searched_target, next_to_scan, scanning_next}
 use Rattle.searching.proofs.room.scan_up.Given as goal
 
 abbrev pub invariant-loop-high : goal.invariant-loop-high

@@ -10,7 +10,7 @@ use Rattle.workloads.proofs.JobWindows.{window_small}
 use Rattle.searching.specs.Reaching.{SearchState, state_of, with_windows, ToSearch, Scanning, ScannedUp}
 use Rattle.searching.proofs.SearchSteps.{room_some, room_none, scanning_start, searched_closed, searched_target, next_inside, next_to_scan, scanning_next}
 use Rattle.searching.proofs.room.search.Goals as goal
-use Rattle.searching.proofs.room.search.Goals.{After-only-found, After-scan_up-found, Else-low-found, Start}
+use Rattle.searching.proofs.room.search.Goals.{After-only-found, After-scan_up-found, Start}
 
 -- the job's number fits the arrays
 job_small : (c : Start) → c.args.job < max_jobs
@@ -75,23 +75,23 @@ scan_up-found-requires c =
 
 -- what is found upwards
 abbrev above : (c : After-scan_up-found) → SearchState
-above c = state_of c.scan_up-found.result c.scan_up-found.new.1.1.1.1.1.1.0 c.scan_up-found.new.1.1.1.1.1.1.1.0
+above c = state_of c.scan_up-found.result c.scan_up-found.new.reached c.scan_up-found.new.source
 
 scanned-up : (c : After-scan_up-found)
-    → let a = (entry c.before.before.before).args in
+    → let a = c.args in
     (p : Problem) (shares : Shares) (band : ℕ)
     → ToSearch (with_windows p p.jobs a.first.now a.last.now) shares a.room.now a.holders.now a.job band
     → ScannedUp (with_windows p p.jobs a.first.now a.last.now) shares a.job band c.loop-found.low (above c)
 scanned-up c = λ p shares band can.
-    c.scan_up-found.ensures p shares (entry c.before.before.before).args.job band c.loop-found.low can (c.loop-found.invariant p shares band can)
+    c.scan_up-found.ensures p shares c.args.job band c.loop-found.low can (c.loop-found.invariant p shares band can)
 
 -- of the problem that is known
 up-known : (c : After-scan_up-found)
-    → let a = (entry c.before.before.before).args in
-    let can = (entry c.before.before.before).pre.0 in
+    → let a = c.args in
+    let can = c.requires.can_search in
     ScannedUp (with_windows can.problem can.problem.jobs a.first.now a.last.now) can.shares a.job can.band
     c.loop-found.low (above c)
-up-known c = let can = (entry c.before.before.before).pre.0 in scanned-up c can.problem can.shares can.band can.to_search
+up-known c = let can = c.requires.can_search in scanned-up c can.problem can.shares can.band can.to_search
 
 pub returns-then-found-lt-MAX_INTERVALS : goal.returns-then-found-lt-MAX_INTERVALS
 returns-then-found-lt-MAX_INTERVALS c =
@@ -109,77 +109,87 @@ returns-then-low-found c =
     )
 
 -- the interval below is reached
-module _ (c : Else-low-found) where
-  abbrev up : After-scan_up-found
-  up = c.before.before.before.before
+module _
+    (c : After-scan_up-found)
+    (none : max_intervals ≤ c.scan_up-found.result.target) (lower : c.scan_up-found.result.start < c.loop-found.low)
+  where
+    abbrev next : ℕ
+    next = c.loop-found.low - 1
 
-  abbrev next : ℕ
-  next = (head up).loop.low - 1
+    next-from : (above c).start ≤ next
+    next-from = omega (arith, lower)
 
-  next-from : (above up).start ≤ next
-  next-from = omega (arith, c.if-low-found.false)
+    next-to : next < (above c).end
+    next-to = omega (arith, lower, ((up-known c).none none).order)
 
-  next-to : next < (above up).end
-  next-to = omega (arith, c.if-low-found.false, ((up-known up).none c.if-found-lt-MAX_INTERVALS.false).order)
-
-  exists : next < max_intervals
-  exists =
-      let can = (entry (head up)).pre.0 in
-      omega (arith, next-to, ((up-known up).none c.if-found-lt-MAX_INTERVALS.false).reaching.now.end_below, can.to_search.intervals_most)
+    exists : next < max_intervals
+    exists =
+        let can = c.requires.can_search in
+        omega (arith, next-to, ((up-known c).none none).reaching.now.end_below, can.to_search.intervals_most)
 
 pub overflow_sub-low : goal.overflow_sub-low
 overflow_sub-low c = omega (arith, c.if-low-found.false)
 
 pub offset_bounds-room-low : goal.offset_bounds-room-low
-offset_bounds-room-low c = omega (arith, exists (goal.at.offset_bounds-room-low c).Else-low-found)
+offset_bounds-room-low c =
+    let up = (goal.at.offset_bounds-room-low c).After-scan_up-found in omega (arith, exists up c.if-found-lt-MAX_INTERVALS.false c.if-low-found.false)
 
 pub bounds-room-low : goal.bounds-room-low
-bounds-room-low c = exists (goal.at.bounds-room-low c).After-way_told-in-loop-found-1
+bounds-room-low c = let up = (goal.at.bounds-room-low c).After-scan_up-found in exists up c.if-found-lt-MAX_INTERVALS.false c.if-low-found.false
 
 pub returns-then-room-low-gt0 : goal.returns-then-room-low-gt0
 returns-then-room-low-gt0 c =
+    let up = (goal.at.returns-then-room-low-gt0 c).After-scan_up-found in
     let none = c.if-found-lt-MAX_INTERVALS.false in
-    let reaching = ((up-known (up (goal.at.returns-then-room-low-gt0 c).Else-low-found)).none none).reaching in (
+    let lower = c.if-low-found.false in
+    let reaching = ((up-known up).none none).reaching in (
       reaching.reached_length,
       reaching.source_length,
       λ p shares band can.
-          let scanning = (scanned-up (up (goal.at.returns-then-room-low-gt0 c).Else-low-found) p shares band can).none none in
-          let inside = next_inside can.sound can.jobs_most scanning (next-from (goal.at.returns-then-room-low-gt0 c).Else-low-found) (next-to (goal.at.returns-then-room-low-gt0 c).Else-low-found) in
-          searched_target can.sound can.jobs_most scanning (next-from (goal.at.returns-then-room-low-gt0 c).Else-low-found) (next-to (goal.at.returns-then-room-low-gt0 c).Else-low-found)
-          (room_some can.room_at inside c.if-room-low-gt0.true) (exists (goal.at.returns-then-room-low-gt0 c).Else-low-found),
+          let scanning = (scanned-up up p shares band can).none none in
+          let inside = next_inside can.sound can.jobs_most scanning (next-from up none lower) (next-to up none lower) in
+          searched_target can.sound can.jobs_most scanning (next-from up none lower) (next-to up none lower)
+          (room_some can.room_at inside c.if-room-low-gt0.true) (exists up none lower),
     )
 
 pub set_at-set-requires : goal.set_at-set-requires
-set_at-set-requires c = exists (goal.at.set_at-set-requires c).Else-low-found
+set_at-set-requires c =
+    let up = (goal.at.set_at-set-requires c).After-scan_up-found in exists up c.if-found-lt-MAX_INTERVALS.false c.if-low-found.false
 
 pub scan-found-requires : goal.scan-found-requires
 scan-found-requires c =
-    let start = entry (head (up (goal.at.scan-found-requires c).Else-low-found)) in
-    let can = start.pre.0 in
+    let up = (goal.at.scan-found-requires c).After-scan_up-found in
+    let none = c.if-found-lt-MAX_INTERVALS.false in
+    let lower = c.if-low-found.false in
+    let can = c.requires.can_search in
     let to_search = can.to_search in
     record {
-      problem = with_windows can.problem can.problem.jobs start.args.first.now start.args.last.now;
+      problem = with_windows can.problem can.problem.jobs c.args.first.now c.args.last.now;
       shares = can.shares;
-      job = start.args.job;
+      job = c.args.job;
       to_scan =
           rw c.set_at-set.ensures
-          (next_to_scan to_search.sound to_search.jobs_most ((up-known (up (goal.at.scan-found-requires c).Else-low-found)).none c.if-found-lt-MAX_INTERVALS.false)
-          (next-from (goal.at.scan-found-requires c).Else-low-found) (next-to (goal.at.scan-found-requires c).Else-low-found) to_search.intervals_most to_search.shut to_search.holding);
+          (next_to_scan to_search.sound to_search.jobs_most ((up-known up).none none)
+          (next-from up none lower) (next-to up none lower) to_search.intervals_most to_search.shut to_search.holding);
     }
 
 pub loop-found-smaller : goal.loop-found-smaller
 loop-found-smaller c = omega (arith, c.if-low-found.false)
 
 pub loop-found-preserved : goal.loop-found-preserved
-loop-found-preserved c = λ p shares band can.
-    let a = (entry (head (up (goal.at.loop-found-preserved c).Else-low-found))).args in
-    let scanning = (scanned-up (up (goal.at.loop-found-preserved c).Else-low-found) p shares band can).none c.if-found-lt-MAX_INTERVALS.false in
-    let inside = next_inside can.sound can.jobs_most scanning (next-from (goal.at.loop-found-preserved c).Else-low-found) (next-to (goal.at.loop-found-preserved c).Else-low-found) in
+loop-found-preserved c =
+    let up = (goal.at.loop-found-preserved c).After-scan_up-found in
+    let none = c.if-found-lt-MAX_INTERVALS.false in
+    let lower = c.if-low-found.false in
+    λ p shares band can.
+    let a = c.args in
+    let scanning = (scanned-up up p shares band can).none none in
+    let inside = next_inside can.sound can.jobs_most scanning (next-from up none lower) (next-to up none lower) in
     let to_scan =
-    next_to_scan can.sound can.jobs_most scanning (next-from (goal.at.loop-found-preserved c).Else-low-found) (next-to (goal.at.loop-found-preserved c).Else-low-found)
+    next_to_scan can.sound can.jobs_most scanning (next-from up none lower) (next-to up none lower)
     can.intervals_most can.shut can.holding in
-    scanning_next can.sound can.jobs_most scanning (next-from (goal.at.loop-found-preserved c).Else-low-found) (next-to (goal.at.loop-found-preserved c).Else-low-found)
+    scanning_next can.sound can.jobs_most scanning (next-from up none lower) (next-to up none lower)
     (room_none can.room_at inside c.if-room-low-gt0.false)
     (c.scan-found.ensures (with_windows p p.jobs a.first.now a.last.now) shares a.job
     (rw c.set_at-set.ensures to_scan))
-    (omega arith) (omega (arith, next-to (goal.at.loop-found-preserved c).Else-low-found)) (omega arith) (omega (arith, c.if-low-found.false, next-to (goal.at.loop-found-preserved c).Else-low-found))
+    (omega arith) (omega (arith, next-to up none lower)) (omega arith) (omega (arith, lower, next-to up none lower))
