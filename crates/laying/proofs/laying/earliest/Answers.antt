@@ -1,10 +1,10 @@
 use Prim.Native.Nat.{◌-◌, ◌≤◌}
 use mathlib.Core.Path.{◌≡◌}
-use mathlib.Core.Logic.{⊎_elim}
 use Rattle.laying.specs.NextReleases.{Earliest}
 use Rattle.laying.proofs.NextReleases.{earliest_none, earliest_kept, earliest_taken}
 use native.Mathlib.Omega.{arith}
 use Rattle.laying.proofs.laying.earliest.Goals as goal
+use Rattle.laying.proofs.laying.earliest.Goals.{then-next-i, else-next-i}
 
 pub loop-i-init : goal.loop-i-init
 loop-i-init c = (omega arith, earliest_none _ _)
@@ -29,8 +29,13 @@ loop-i-smaller c = omega arith
 
 pub loop-i-preserved : goal.loop-i-preserved
 loop-i-preserved c =
-    let inv = c.loop-i.invariant in
-    (omega arith, ⊎_elim (λ w. rw w.2 (earliest_taken _ _ _ _ inv.1 w.0.taken)) (λ w. rw w.1 (earliest_kept _ _ _ _ inv.1 w.0.left)) c.if-next-i.branch)
+    let inv = c.loop-i.invariant in (
+      omega arith,
+      elim c.if-next-i.branch [
+        | then-next-i w ↦ rw w.least-is (earliest_taken _ _ _ _ inv.1 w.if-next-i.true)
+        | else-next-i w ↦ rw w.least-is (earliest_kept _ _ _ _ inv.1 w.if-next-i.false)
+      ],
+    )
 
 pub returns : goal.returns
 returns c =

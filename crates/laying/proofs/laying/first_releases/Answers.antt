@@ -25,12 +25,11 @@ pub loop-i-smaller : goal.loop-i-smaller
 loop-i-smaller c = omega arith
 
 pub loop-i-preserved : goal.loop-i-preserved
-loop-i-preserved c =
-(
-      omega arith,
-      first_next (task_entries c.args.bytes.now) _ _ _ c.loop-i.invariant.1 (omega (arith, c.requires.table.few))
-          (c.task_at-task.ensures ∙ sym (entry_at c.args.bytes.now c.args.count c.requires.table _ c.loop-i-test.true)),
-    )
+loop-i-preserved c = (
+  omega arith,
+  first_next (task_entries c.args.bytes.now) _ _ _ c.loop-i.invariant.1 (omega (arith, c.requires.table.few))
+      (c.task_at-task.ensures ∙ sym (entry_at c.args.bytes.now c.args.count c.requires.table _ c.loop-i-test.true)),
+)
 
 pub returns : goal.returns
 returns c =

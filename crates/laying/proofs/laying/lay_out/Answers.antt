@@ -38,13 +38,13 @@ earliest-tick-requires-in-loop-tick c = c.requires.round_read.tasks_read.table.f
 -- one turn: what is released at the tick, and the next tick
 turn : (c : After-earliest-tick-in-loop-tick)
     → let done = c.release_at-listed in
-    Laying (task_entries c.args.bytes.now) c.args.multiple c.earliest-tick-in-loop-tick.result done.new.1.1.1.1.0
-    done.new.1.1.1.1.1.1.0 done.new.1.1.1.1.1.1.1.0 done.new.1.1.1.1.1.1.1.1.0 done.result
+    Laying (task_entries c.args.bytes.now) c.args.multiple c.earliest-tick-in-loop-tick.result done.new.next
+    done.new.releases done.new.deadlines done.new.cycles done.result
     × (c.loop-tick.tick < c.earliest-tick-in-loop-tick.result)
 turn c =
     let done = c.release_at-listed in
     laying_next _ _ _ _ _ _ _ _ c.loop-tick.invariant c.loop-tick-test.true
-    _ _ _ _ _ _ done.ensures.0 done.ensures.1.0 done.ensures.1.1 (of-all _ c.requires.round_read.tasks_read.table c.earliest-tick-in-loop-tick.ensures)
+    _ _ _ _ _ _ done.ensures.next_releases_2 done.ensures.job_arrays_2 done.ensures.listed_jobs (of-all _ c.requires.round_read.tasks_read.table c.earliest-tick-in-loop-tick.ensures)
 
 pub loop-tick-smaller : goal.loop-tick-smaller
 loop-tick-smaller c = omega (arith, (turn (goal.at.loop-tick-smaller c).After-earliest-tick-in-loop-tick).1)

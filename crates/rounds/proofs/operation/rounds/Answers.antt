@@ -7,7 +7,7 @@ use borrow.Author.Rules.{rules}
 use Rattle.rounds.proofs.operation.rounds.Goals as goal
 
 pub lay_out_tasks-requires : goal.lay_out_tasks-requires
-lay_out_tasks-requires c = tasks_read _ _ (sym c.reading-in-Entries-1.given.1 ∙ c.read_tasks-reading.ensures)
+lay_out_tasks-requires c = tasks_read _ _ (sym c.in-Entries.is ∙ c.read_tasks-reading.ensures)
 
 pub returns-in-Refused : goal.returns-in-Refused
-returns-in-Refused c = round_unread _ _ _ _ (sym c.reading-1.given.1 ∙ c.read_tasks-reading.ensures)
+returns-in-Refused c = round_unread _ _ _ _ (sym c.in-Refused.is ∙ c.read_tasks-reading.ensures)

@@ -1,5 +1,4 @@
 use mathlib.Core.Path.{◌≡◌, ◌∙◌}
-use mathlib.Core.Logic.{⊎_elim}
 use Prim.Native.Nat.{◌-◌, ◌≤◌}
 use native.Mathlib.Omega.{arith}
 use borrow.Author.Rules.{rules}
@@ -8,6 +7,7 @@ use Rattle.job_sets.proofs.JobSets.{below_none}
 use Rattle.spans.specs.TouchedIn.{inside_at}
 use Rattle.spans.proofs.JobSetsWithin.{inside_more, inside_early, inside_late}
 use Rattle.spans.proofs.jobs.inside_within.Goals as goal
+use Rattle.spans.proofs.jobs.inside_within.Goals.{then-start-releases+then-deadlines-j, then-start-releases+else-deadlines-j, else-start-releases}
 
 pub loop-j-init : goal.loop-j-init
 loop-j-init c = (omega arith, c.none-set.ensures ∙ below_none _)
@@ -38,9 +38,12 @@ loop-j-preserved c =
     let a = c.args in
     let before = c.loop-j.invariant.1 in (
       omega arith,
-      ⊎_elim (λ w. w.4 ∙ (w.3.ensures ∙ inside_more a.releases.now a.deadlines.now _ _ _ before w.0.taken w.2.taken))
-          (⊎_elim (λ w. w.3 ∙ inside_late a.releases.now a.deadlines.now a.start _ _ before w.2.left)
-          (λ w. w.1 ∙ inside_early a.releases.now a.deadlines.now _ a.end _ before w.0.left)) c.if-start-releases.branch,
+      elim c.if-start-releases.branch [
+        | then-start-releases+then-deadlines-j w ↦
+            w.set-is ∙ (w.with-set.ensures ∙ inside_more a.releases.now a.deadlines.now _ _ _ before w.if-start-releases.true w.if-deadlines-j.true)
+        | then-start-releases+else-deadlines-j w ↦ w.set-is ∙ inside_late a.releases.now a.deadlines.now a.start _ _ before w.if-deadlines-j.false
+        | else-start-releases w ↦ w.set-is ∙ inside_early a.releases.now a.deadlines.now _ a.end _ before w.if-start-releases.false
+      ],
     )
 
 pub returns : goal.returns

@@ -7,18 +7,13 @@ use Rattle.spans.proofs.jobs.nearer.Goals as goal
 pub returns-then-deadline-start : goal.returns-then-deadline-start
 returns-then-deadline-start c = nearer_early _ _ c.if-deadline-start.true _
 
--- UNCONVERTED returns-in-None
--- returns-2 : tie.Need-returns-2
--- returns-2 c least was = nearer_first _ _ c.before.before.if1.false least (sym c.enum_told.given.1 ∙ was)
+pub returns-in-None : goal.returns-in-None
+returns-in-None c least was = nearer_first _ _ c.if-deadline-start.false least (sym c.in-None.is ∙ was)
 
--- UNCONVERTED returns-then-deadline-least
--- returns-3 : tie.Need-returns-3
--- returns-3 c least was =
---     let arm = c.before.before in
---     nearer_than _ _ arm.before.before.if1.false _ c.if2.true least (sym arm.found.given.1 ∙ was)
+pub returns-then-deadline-least : goal.returns-then-deadline-least
+returns-then-deadline-least c least was =
+    nearer_than _ _ c.if-deadline-start.false _ c.if-deadline-least.true least (sym c.in-At.is ∙ was)
 
--- UNCONVERTED returns-else-deadline-least
--- returns-4 : tie.Need-returns-4
--- returns-4 c least was =
---     let arm = c.before.before in
---     not_nearer _ _ arm.before.before.if1.false _ c.if2.false least (sym arm.found.given.1 ∙ was)
+pub returns-else-deadline-least : goal.returns-else-deadline-least
+returns-else-deadline-least c least was =
+    not_nearer _ _ c.if-deadline-start.false _ c.if-deadline-least.false least (sym c.in-At.is ∙ was)

@@ -1,5 +1,4 @@
 use mathlib.Core.Path.{◌≡◌, ◌∙◌}
-use mathlib.Core.Logic.{⊎_elim}
 use Prim.Native.Nat.{◌-◌, ◌≤◌}
 use native.Mathlib.Omega.{arith}
 use borrow.Author.Rules.{rules}
@@ -8,6 +7,7 @@ use Rattle.job_sets.proofs.JobSets.{below_none}
 use Rattle.spans.specs.TouchedIn.{opens_at}
 use Rattle.spans.proofs.JobSetsWithin.{open_more, open_late, open_early}
 use Rattle.spans.proofs.jobs.open_within.Goals as goal
+use Rattle.spans.proofs.jobs.open_within.Goals.{then-releases-j+then-start-deadlines, then-releases-j+else-start-deadlines, else-releases-j}
 
 pub loop-j-init : goal.loop-j-init
 loop-j-init c = (omega arith, c.none-set.ensures ∙ below_none _)
@@ -38,9 +38,12 @@ loop-j-preserved c =
     let a = c.args in
     let before = c.loop-j.invariant.1 in (
       omega arith,
-      ⊎_elim (λ w. w.4 ∙ (w.3.ensures ∙ open_more a.releases.now a.deadlines.now _ _ _ before w.0.taken w.2.taken))
-          (⊎_elim (λ w. w.3 ∙ open_early a.releases.now a.deadlines.now _ a.end _ before w.2.left)
-          (λ w. w.1 ∙ open_late a.releases.now a.deadlines.now a.start _ _ before w.0.left)) c.if-releases-j.branch,
+      elim c.if-releases-j.branch [
+        | then-releases-j+then-start-deadlines w ↦
+            w.set-is ∙ (w.with-set.ensures ∙ open_more a.releases.now a.deadlines.now _ _ _ before w.if-releases-j.true w.if-start-deadlines.true)
+        | then-releases-j+else-start-deadlines w ↦ w.set-is ∙ open_early a.releases.now a.deadlines.now _ a.end _ before w.if-start-deadlines.false
+        | else-releases-j w ↦ w.set-is ∙ open_late a.releases.now a.deadlines.now a.start _ _ before w.if-releases-j.false
+      ],
     )
 
 pub returns : goal.returns

@@ -55,4 +55,6 @@ pub shape_of-list : goal.shape_of-list
 shape_of-list c = c.loop-rest.invariant.long
 
 pub returns : goal.returns
-returns c = put_whole _ _ _ _ _ _ _ c.loop-rest.invariant (sym c.is_empty.ensures ∙ not-false _ c.loop-rest-test.false-raw)
+returns c =
+    let put = put_whole _ _ _ _ _ _ _ c.loop-rest.invariant (sym c.is_empty.ensures ∙ not-false _ c.loop-rest-test.false-raw) in
+    record { value = put.0; list_after = put.1 }

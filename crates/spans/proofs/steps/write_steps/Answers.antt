@@ -33,7 +33,7 @@ pub loop-i-preserved : goal.loop-i-preserved
 loop-i-preserved c =
     let called = c.write_members-next in
     put_next _ _ _ _ _ _ c.requires.1 _ _ _ c.loop-i.invariant c.loop-i-test.true _ c.set_within-set.ensures
-    _ _ called.ensures.0 called.ensures.1
+    _ _ called.ensures.value called.ensures.list_after
 
 pub shape_of-list : goal.shape_of-list
 shape_of-list c = long (goal.at.shape_of-list c).At-loop-i

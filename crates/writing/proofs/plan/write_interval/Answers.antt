@@ -1,16 +1,16 @@
 use mathlib.Core.Path.{◌≡◌, sym, ◌∙◌}
 use mathlib.Core.Bool.{false}
-use Prim.Native.Nat.{◌<◌}
+use Prim.Native.Nat.{ℕ, ◌<◌}
 use native.Mathlib.Omega.{arith}
 use lib.ListN.{length}
 use borrow.Author.Tests.{not-true, not-false}
 use Rattle.model.specs.Plans.{shares_in}
-use Rattle.job_sets.specs.JobSets.{member_count, is_empty}
+use Rattle.job_sets.specs.JobSets.{member_count, least_member, is_empty}
 use Rattle.writing.specs.StepList.{step_of}
 use Rattle.writing.proofs.MemberSteps.{MembersPut, members_none, members_whole, least_share, least_room, members_next, fewer_left}
 use Rattle.writing.proofs.PlanStores.{length_put}
 use Rattle.writing.proofs.plan.write_interval.Goals as goal
-use Rattle.writing.proofs.plan.write_interval.Goals.{After-write_share-arg-1, At-loop-rest, In-loop-rest}
+use Rattle.writing.proofs.plan.write_interval.Goals.{At-loop-rest, In-loop-rest}
 
 -- what is written keeps the buffer's length
 long : (c : At-loop-rest) → length c.loop-rest.plan ≡ length c.args.plan.now
@@ -20,29 +20,27 @@ long c = length_put _ _ _ _ _ _ _ c.loop-rest.invariant.put
 some : (c : In-loop-rest) → is_empty c.loop-rest.rest ≡ false
 some c = sym c.is_empty.ensures ∙ not-true _ c.loop-rest-test.true-raw
 
-share : (c : After-write_share-arg-1)
-    → let a = c.args in
-    (c.least-job.result < a.jobs) × (0 < shares_in a.jobs a.shares.now a.interval c.least-job.result)
-share c =
-    least_share _ _ _ _ _ _ _ c.requires.shares_held _ _ _ c.loop-rest.invariant (some c.before.before) _ c.least-job.ensures
+share : (c : In-loop-rest) (job : ℕ) → job ≡ least_member c.loop-rest.rest
+    → (job < c.args.jobs) × (0 < shares_in c.args.jobs c.args.shares.now c.args.interval job)
+share c job least = least_share _ _ _ _ _ _ _ c.requires.shares_held _ _ _ c.loop-rest.invariant (some c) _ least
 
-room : (c : After-write_share-arg-1) → c.loop-rest.next < c.args.count
-room c =
-    least_room _ _ _ _ _ _ _ c.requires.shares_held _ _ _ c.loop-rest.invariant (some c.before.before) _ c.least-job.ensures c.requires.interval_bound.0
+room : (c : In-loop-rest) (job : ℕ) → job ≡ least_member c.loop-rest.rest → c.loop-rest.next < c.args.count
+room c job least =
+    least_room _ _ _ _ _ _ _ c.requires.shares_held _ _ _ c.loop-rest.invariant (some c) _ least c.requires.interval_bound.0
 
 pub loop-rest-init : goal.loop-rest-init
 loop-rest-init c = members_none _ _ _ _ _ _ _ c.requires.shares_held
 
 pub write_share-requires : goal.write_share-requires
 write_share-requires c =
-    let here = share (goal.at.write_share-requires c).After-write_share-arg-1 in
-    record { jobs_le_max_jobs = (omega arith, omega arith, here.0, omega arith); job_nonzero = here.1; next_lt_count = (room (goal.at.write_share-requires c).After-write_share-arg-1, omega (arith, long (goal.at.write_share-requires c).At-loop-rest)) }
+    let here = share (goal.at.write_share-requires c).In-loop-rest _ c.least-job.ensures in
+    record { jobs_le_max_jobs = (omega arith, omega arith, here.0, omega arith); job_nonzero = here.1; next_lt_count = (room (goal.at.write_share-requires c).In-loop-rest _ c.least-job.ensures, omega (arith, long (goal.at.write_share-requires c).At-loop-rest)) }
 
 pub overflow_add-next : goal.overflow_add-next
-overflow_add-next c = omega (arith, room (goal.at.overflow_add-next c).After-write_share-arg-1)
+overflow_add-next c = omega (arith, room (goal.at.overflow_add-next c).In-loop-rest _ c.least-job.ensures)
 
 pub without-rest-requires : goal.without-rest-requires
-without-rest-requires c = omega (arith, share (goal.at.without-rest-requires c).After-write_share-arg-1)
+without-rest-requires c = omega (arith, share (goal.at.without-rest-requires c).In-loop-rest _ c.least-job.ensures)
 
 pub loop-rest-smaller : goal.loop-rest-smaller
 loop-rest-smaller c =

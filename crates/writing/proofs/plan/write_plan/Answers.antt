@@ -21,7 +21,7 @@ counted c =
 pub write_steps-requires : goal.write_steps-requires
 write_steps-requires c =
     let pre = c.requires in
-    record { jobs_le_max_jobs = pre.0; by_index = pre.1.0; count_value = (counted (goal.at.write_steps-requires c).After-put16-arg-1, omega (arith, counted (goal.at.write_steps-requires c).After-put16-arg-1)) }
+    record { jobs_le_max_jobs = pre.jobs_le_max_jobs; by_index = pre.by_index; count_value = (counted (goal.at.write_steps-requires c).After-put16-arg-1, omega (arith, counted (goal.at.write_steps-requires c).After-put16-arg-1)) }
 
 pub returns : goal.returns
 returns c =

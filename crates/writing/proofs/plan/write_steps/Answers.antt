@@ -41,7 +41,7 @@ pub loop-interval-preserved : goal.loop-interval-preserved
 loop-interval-preserved c =
     let called = c.write_interval-next in (
       omega arith,
-      put_next _ _ _ _ _ _ _ c.loop-interval.invariant.1 _ c.loop-interval-test.true (room (goal.at.loop-interval-preserved c).At-loop-interval) _ _ called.ensures.0 called.ensures.1,
+      put_next _ _ _ _ _ _ _ c.loop-interval.invariant.1 _ c.loop-interval-test.true (room (goal.at.loop-interval-preserved c).At-loop-interval) _ _ called.ensures.value called.ensures.plan_after,
     )
 
 pub shape_of-plan : goal.shape_of-plan
