@@ -1,10 +1,10 @@
 -- `records::job_records` meets its contract. Assumes nothing.
 use mathlib.Core.Path.{◌≡◌, sym, ◌∙◌}
 use mathlib.Core.List.{List}
-use Prim.Native.Nat.{ℕ, ◌+◌, ◌-◌, ◌<◌, ◌≤◌}
+use Prim.Native.Nat.{ℕ, ◌+◌, ◌<◌, ◌≤◌}
 use native.Mathlib.Decide.{ℕ_discrete}
 use native.Mathlib.Omega.{arith}
-use lib.ListN.{length, get_or, set, take, length-set, length-replicate, length-take}
+use lib.ListN.{length, set, take, length-set, length-replicate, length-take}
 use lib.Seq.{ext_get_or, get_or-set_same, get_or-set_other, get_or-take}
 use borrow.Author.Count.{below_none}
 use Rattle.model.specs.declared.Job.{Job}

@@ -1,6 +1,6 @@
 -- `records::test_jobs` meets its contract. The loop's invariant: what the pass has found after the records passed.
 -- Assumes nothing.
-use Rattle.std.proofs.Common.{length, ◌-◌, ◌≡◌, ◌≤◌}
+use Rattle.std.proofs.Common.{length, ◌-◌, ◌≤◌}
 use Rattle.job_records.specs.TestedJobs.{TestedBelow}
 use Rattle.job_records.proofs.records.test_jobs.Given as goal
 
