@@ -2,4 +2,3 @@
 pub mod SetsHave
 pub mod OpenRange
 pub mod TestedJobs
-mod Rows

@@ -1,6 +1,4 @@
 // Walking a plan: a reading over its bytes, from which its steps are taken one after another.
-// The borrow checker covers no function over a struct that holds a slice. So there are few of them, each thin over
-// `answer_at` and `number_after`, and each is proved by hand.
 ghost use Rattle.std.specs.Prelude.{◌≡◌};
 ghost use Rattle.model.specs.Steps.{walk};
 ghost use Rattle.walking.specs.Walking.{step_answer};

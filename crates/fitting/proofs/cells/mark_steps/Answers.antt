@@ -1,9 +1,6 @@
 use mathlib.Core.Path.{◌≡◌, sym, ◌∙◌}
-use Prim.Native.Nat.{ℕ, ◌-◌, ◌≤◌, ◌<◌}
 use native.Mathlib.Omega.{arith}
 use borrow.Author.Count.{below_none, below_more}
-use Rattle.job_records.specs.SetsHave.{SetsHave}
-use Rattle.fitting.specs.SeenCells.{is_seen}
 use Rattle.fitting.specs.FirstHalf.{step_fault_in}
 use Rattle.fitting.proofs.StepFaults.{turn_fault, turn_pair, turn_marked}
 use Rattle.fitting.proofs.SeenSets.{seen_none, seen_whole}

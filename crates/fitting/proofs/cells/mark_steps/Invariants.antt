@@ -1,15 +1,10 @@
 -- `cells::mark_steps` meets its contract. The loop's invariant: no step passed has a fault, and the sets have the pairs of
 -- the steps passed (proofs/SeenSets.antt, proofs/StepFaults.antt). Assumes nothing.
-use mathlib.Core.Path.{◌≡◌, sym, ◌∙◌}
+use mathlib.Core.Path.{◌≡◌}
 use Prim.Native.Nat.{ℕ, ◌-◌, ◌≤◌, ◌<◌}
-use native.Mathlib.Omega.{arith}
-use borrow.Author.Count.{below_none, below_more}
 use Rattle.job_records.specs.SetsHave.{SetsHave}
 use Rattle.fitting.specs.SeenCells.{is_seen}
 use Rattle.fitting.specs.FirstHalf.{step_fault_in}
-use Rattle.fitting.proofs.StepFaults.{turn_fault, turn_pair, turn_marked}
-use Rattle.fitting.proofs.SeenSets.{seen_none, seen_whole}
-use Rattle.fitting.proofs.Verdicts.{verdict_stops, verdict_passes, refused_passes}
 use Rattle.fitting.proofs.cells.mark_steps.Given as goal
 
 abbrev pub invariant-loop-s : goal.invariant-loop-s

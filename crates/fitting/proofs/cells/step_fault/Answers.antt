@@ -2,8 +2,6 @@
 -- proofs/StepFaults.antt. Assumes nothing.
 use mathlib.Core.Path.{sym, ◌∙◌}
 use native.Mathlib.Omega.{arith}
-use borrow.Author.Rules.{rules}
-use borrow.Author.Tests.{not-true, not-false}
 use Rattle.fitting.proofs.StepFaults.{no_interval, no-job, shut_pair, marked_pair, no_cycles, many_cycles, sound_step}
 use Rattle.fitting.proofs.cells.step_fault.Goals as goal
 
@@ -14,25 +12,25 @@ pub returns-then-count-job : goal.returns-then-count-job
 returns-then-count-job c = no-job _ _ _ _ _ _ c.if-bounds-interval.false c.if-count-job.true
 
 pub returns-then-not-holds : goal.returns-then-not-holds
-returns-then-not-holds c = shut_pair _ _ _ _ _ _ (omega arith) (omega arith) (sym c.holds.ensures ∙ not-true _ c.if-not-holds.true-raw)
+returns-then-not-holds c = shut_pair _ _ _ _ _ _ (omega arith) (omega arith) (sym c.holds.ensures ∙ c.if-not-holds.true)
 
 pub returns-then-holds : goal.returns-then-holds
 returns-then-holds c =
     marked_pair _ _ _ _ _ _ (omega arith) (omega arith)
-    (sym c.holds.ensures ∙ not-false _ c.if-not-holds.false-raw)
+    (sym c.holds.ensures ∙ c.if-not-holds.false)
     (sym c.holds-2.ensures ∙ c.if-holds.true)
 
 pub returns-then-step-lt1 : goal.returns-then-step-lt1
 returns-then-step-lt1 c =
     no_cycles _ _ _ _ _ _ (omega arith) (omega arith)
-    (sym c.holds.ensures ∙ not-false _ c.if-not-holds.false-raw)
+    (sym c.holds.ensures ∙ c.if-not-holds.false)
     (sym c.holds-2.ensures ∙ c.if-holds.false)
     c.if-step-lt1.true
 
 pub returns-then-step-cycles : goal.returns-then-step-cycles
 returns-then-step-cycles c =
     many_cycles _ _ _ _ _ _ (omega arith) (omega arith)
-    (sym c.holds.ensures ∙ not-false _ c.if-not-holds.false-raw)
+    (sym c.holds.ensures ∙ c.if-not-holds.false)
     (sym c.holds-2.ensures ∙ c.if-holds.false)
     (omega arith)
     c.if-step-cycles.true
@@ -40,7 +38,7 @@ returns-then-step-cycles c =
 pub returns : goal.returns
 returns c =
     sound_step _ _ _ _ _ _ (omega arith) (omega arith)
-    (sym c.holds.ensures ∙ not-false _ c.if-not-holds.false-raw)
+    (sym c.holds.ensures ∙ c.if-not-holds.false)
     (sym c.holds-2.ensures ∙ c.if-holds.false)
     (omega arith)
     c.if-step-cycles.false

@@ -46,7 +46,7 @@ bounds-times-i-in-loop-i c = omega (arith, c.requires.1.rising.few)
 
 pub overflow_sub-times : goal.overflow_sub-times
 overflow_sub-times c =
-omega (arith, bounds_rise _ _ c.requires.1 _ c.loop-i-test.true)
+    omega (arith, bounds_rise _ _ c.requires.1 _ c.loop-i-test.true)
 
 pub overflow_mul-times : goal.overflow_mul-times
 overflow_mul-times c =

@@ -1,14 +1,7 @@
 -- `fitting::check_loads` meets its contract. The loop's invariant: no interval passed has a fault. Assumes nothing.
 use mathlib.Core.Path.{◌≡◌}
-use mathlib.Core.List.{List}
-use Prim.Native.Nat.{ℕ, ◌+◌, ◌-◌, ◌*◌, ◌≤◌, ◌<◌}
-use native.Mathlib.Omega.{arith}
-use lib.ListN.{get_or}
-use borrow.Author.Count.{below_none, below_more}
-use borrow.Author.Tests.{le-leb, lt-leb}
+use Prim.Native.Nat.{ℕ, ◌-◌, ◌≤◌, ◌<◌}
 use Rattle.fitting.specs.FirstHalf.{bounds_in, load_fault_in}
-use Rattle.fitting.proofs.BoundsIn.{length_in, bounds_rise, capacity_small}
-use Rattle.fitting.proofs.Verdicts.{verdict_stops, verdict_passes}
 use Rattle.fitting.proofs.fitting.check_loads.Given as goal
 
 abbrev pub invariant-loop-i : goal.invariant-loop-i

@@ -4,7 +4,6 @@ use mathlib.Core.Path.{◌≡◌}
 use mathlib.Core.List.{List}
 use Prim.Native.Nat.{ℕ}
 use lib.ListN.{length}
-use borrow.Author.Rules.{rules}
 use Rattle.model.specs.declared.Job.{Job}
 use Rattle.job_tables.specs.Tables.{jobs_in}
 use Rattle.job_tables.proofs.Read.{length_jobs_in, job-in}

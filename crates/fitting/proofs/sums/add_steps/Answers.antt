@@ -1,13 +1,11 @@
-use mathlib.Core.Path.{◌≡◌, ◌∙◌, ap}
-use mathlib.Core.Logic.{⊎_elim}
-use Prim.Native.Nat.{◌-◌, ◌≤◌}
+use mathlib.Core.Path.{◌∙◌, ap}
 use native.Mathlib.Omega.{arith}
+use borrow.Author.Rules.{rules}
 use Rattle.model.specs.Limits.{max_intervals, max_jobs}
-use Rattle.model.specs.Steps.{step_at}
 use Rattle.walking.specs.declared.steps.Step.{Step}
-use Rattle.fitting.specs.Sums.{tally_of}
 use Rattle.fitting.proofs.Tallies.{tally_none, tally_more, tally_past, tally_whole, cycles_room}
 use Rattle.fitting.proofs.sums.add_steps.Goals as goal
+use Rattle.fitting.proofs.sums.add_steps.Goals.{then-interval-lt-MAX_INTERVALS, else-interval-lt-MAX_INTERVALS}
 
 pub step_count-count-requires : goal.step_count-count-requires
 step_count-count-requires c = c.requires.plan_len
@@ -28,7 +26,7 @@ pub overflow_add-sums : goal.overflow_add-sums
 overflow_add-sums c =
     record {
       fits =
-          cycles_room _ (λ place. (c.shared_slice_known-1.given place).fits) max_jobs
+          cycles_room _ (λ place. search rules) max_jobs
           _ _ _ _ _ c.loop-s.invariant.1 (omega arith) (omega arith) c.decode_step-step.ensures.3;
     }
 
@@ -45,7 +43,7 @@ pub overflow_add-loads : goal.overflow_add-loads
 overflow_add-loads c =
     record {
       fits =
-          cycles_room _ (λ place. (c.shared_slice_known-1.given place).fits) max_intervals
+          cycles_room _ (λ place. search rules) max_intervals
           _ _ _ _ _ c.loop-s.invariant.2 (omega arith) (omega arith) c.decode_step-step.ensures.3;
     }
 
@@ -66,8 +64,10 @@ loop-s-preserved c =
     let cycles = ap (λ (t : Step). t.cycles) decoded in (
       omega arith,
       tally_more max_jobs _ _ _ _ _ _ inv.1 (ap (λ (t : Step). t.job) decoded) cycles (omega arith),
-      ⊎_elim (λ w. w.3 ∙ tally_more max_intervals _ _ _ _ _ _ inv.2 interval cycles w.0.taken)
-          (λ w. w.1 ∙ tally_past max_intervals _ _ _ _ _ inv.2 interval w.0.left) c.if-interval-lt-MAX_INTERVALS.branch,
+      elim c.if-interval-lt-MAX_INTERVALS.branch [
+        | then-interval-lt-MAX_INTERVALS w ↦ w.loads-is ∙ tally_more max_intervals _ _ _ _ _ _ inv.2 interval cycles w.if-interval-lt-MAX_INTERVALS.true
+        | else-interval-lt-MAX_INTERVALS w ↦ w.loads-is ∙ tally_past max_intervals _ _ _ _ _ inv.2 interval w.if-interval-lt-MAX_INTERVALS.false
+      ],
     )
 
 pub returns : goal.returns

@@ -1,14 +1,10 @@
 -- `sums::add_steps` meets its contract. The loop's invariant: the cycles of the steps passed are added by job and by interval
 -- (proofs/Tallies.antt). Assumes nothing.
-use mathlib.Core.Path.{◌≡◌, ◌∙◌, ap}
-use mathlib.Core.Logic.{⊎_elim}
+use mathlib.Core.Path.{◌≡◌}
 use Prim.Native.Nat.{◌-◌, ◌≤◌}
-use native.Mathlib.Omega.{arith}
 use Rattle.model.specs.Limits.{max_intervals, max_jobs}
 use Rattle.model.specs.Steps.{step_at}
-use Rattle.walking.specs.declared.steps.Step.{Step}
 use Rattle.fitting.specs.Sums.{tally_of}
-use Rattle.fitting.proofs.Tallies.{tally_none, tally_more, tally_past, tally_whole, cycles_room}
 use Rattle.fitting.proofs.sums.add_steps.Given as goal
 
 abbrev pub invariant-loop-s : goal.invariant-loop-s

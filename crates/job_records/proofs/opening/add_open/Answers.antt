@@ -1,6 +1,5 @@
 -- `opening::add_open` meets its contract: the intervals between the two bounds are those that the job is open in
 -- (proofs/OpenRange.antt). Assumes nothing.
-use borrow.Author.Rules.{rules}
 use Rattle.job_records.proofs.OpenRange.{bounds_before, range_open}
 use Rattle.job_records.proofs.opening.add_open.Goals as goal
 

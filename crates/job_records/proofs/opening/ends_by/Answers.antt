@@ -1,7 +1,6 @@
 -- `opening::ends_by` meets its contract: the bound that was found is the deadline, or none is (proofs/OpenRange.antt).
 -- Assumes nothing.
 use native.Mathlib.Omega.{arith}
-use borrow.Author.Rules.{rules}
 use Rattle.job_records.proofs.OpenRange.{BoundsBefore, bounds_before, ends_at, ends_before}
 use Rattle.job_records.proofs.opening.ends_by.Goals as goal
 use Rattle.job_records.proofs.opening.ends_by.Goals.{After-bound_number-before}

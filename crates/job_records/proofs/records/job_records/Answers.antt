@@ -1,9 +1,10 @@
+-- `records::job_records` meets its contract. Assumes nothing.
 use mathlib.Core.Path.{◌≡◌, sym, ◌∙◌}
 use mathlib.Core.List.{List}
-use Prim.Native.Nat.{ℕ, ◌+◌, ◌-◌, ◌<◌, ◌≤◌}
+use Prim.Native.Nat.{ℕ, ◌+◌, ◌<◌, ◌≤◌}
 use native.Mathlib.Decide.{ℕ_discrete}
 use native.Mathlib.Omega.{arith}
-use lib.ListN.{length, get_or, set, take, length-set, length-replicate, length-take}
+use lib.ListN.{length, set, take, length-set, length-replicate, length-take}
 use lib.Seq.{ext_get_or, get_or-set_same, get_or-set_other, get_or-take}
 use borrow.Author.Count.{below_none}
 use Rattle.model.specs.declared.Job.{Job}
@@ -11,63 +12,34 @@ use Rattle.model.specs.Limits.{max_jobs}
 use Rattle.model.specs.Jobs.{no_job, job_of}
 use Rattle.model.proofs.Entries.{length_list_of, get_d_list_of}
 use Rattle.job_tables.specs.Tables.{jobs_in}
+use Rattle.job_records.proofs.records.job_records.Invariants.{entry, Filled}
 use Rattle.job_records.proofs.records.job_records.Goals as goal
 
 module _ (releases deadlines cycles : List ℕ) where
-  abbrev entry : ℕ → Job
-  entry k = record { release = get_or releases k 0; deadline = get_or deadlines k 0; cycles = get_or cycles k 0 }
+  abbrev the_entry : ℕ → Job
+  the_entry = entry releases deadlines cycles
 
-  abbrev Filled : ℕ → List Job → Type 0
-  Filled j jobs = (k : ℕ) → k < j → job_of jobs k ≡ entry k
+  abbrev Passed : ℕ → List Job → Type 0
+  Passed = Filled releases deadlines cycles
 
-  filled_more : (jobs : List Job) (j : ℕ) → length jobs ≡ max_jobs → j < max_jobs → Filled j jobs → Filled (j + 1) (set jobs j (entry j))
+  filled_more : (jobs : List Job) (j : ℕ) → length jobs ≡ max_jobs → j < max_jobs → Passed j jobs → Passed (j + 1) (set jobs j (the_entry j))
   filled_more jobs j size inside before k below = at (ℕ_discrete k j)
     where
-      at : Dec (k ≡ j) → job_of (set jobs j (entry j)) k ≡ entry k
-      at (yes same) = rw same (get_or-set_same jobs j (entry j) no_job (omega (arith, size)))
-      at (no other) = get_or-set_other jobs j k (entry j) no_job other ∙ before k (omega arith)
+      at : Dec (k ≡ j) → job_of (set jobs j (the_entry j)) k ≡ the_entry k
+      at (yes same) = rw same (get_or-set_same jobs j (the_entry j) no_job (omega (arith, size)))
+      at (no other) = get_or-set_other jobs j k (the_entry j) no_job other ∙ before k (omega arith)
 
-  filled_all : (jobs : List Job) (count j : ℕ) → length jobs ≡ max_jobs → count ≤ max_jobs → count ≤ j → Filled j jobs
+  filled_all : (jobs : List Job) (count j : ℕ) → length jobs ≡ max_jobs → count ≤ max_jobs → count ≤ j → Passed j jobs
       → take count jobs ≡ jobs_in count releases deadlines cycles
   unfolding jobs_in
   filled_all jobs count j size few past before =
       let taken : length (take count jobs) ≡ count = length-take count jobs ∙ omega (arith, size) in
-      ext_get_or no_job _ _ (taken ∙ sym (length_list_of count entry))
+      ext_get_or no_job _ _ (taken ∙ sym (length_list_of count the_entry))
       (λ k below. let inside : k < count = omega (arith, taken) in
-      get_or-take count jobs k no_job inside ∙ before k (omega arith) ∙ sym (get_d_list_of count entry k no_job inside))
+      get_or-take count jobs k no_job inside ∙ before k (omega arith) ∙ sym (get_d_list_of count the_entry k no_job inside))
 
 pub loop-j-init : goal.loop-j-init
 loop-j-init c = (omega arith, length-replicate max_jobs no_job, below_none _)
-
-pub offset_bounds-releases-j : goal.offset_bounds-releases-j
-offset_bounds-releases-j c = omega arith
-
-pub bounds-releases-j : goal.bounds-releases-j
-bounds-releases-j c = omega arith
-
-pub offset_bounds-deadlines-j : goal.offset_bounds-deadlines-j
-offset_bounds-deadlines-j c = omega arith
-
-pub bounds-deadlines-j : goal.bounds-deadlines-j
-bounds-deadlines-j c = omega arith
-
-pub offset_bounds-cycles-j : goal.offset_bounds-cycles-j
-offset_bounds-cycles-j c = omega arith
-
-pub bounds-cycles-j : goal.bounds-cycles-j
-bounds-cycles-j c = omega arith
-
-pub offset_bounds-jobs-j : goal.offset_bounds-jobs-j
-offset_bounds-jobs-j c = omega arith
-
-pub bounds-jobs-j : goal.bounds-jobs-j
-bounds-jobs-j c = omega arith
-
-pub overflow_add-j : goal.overflow_add-j
-overflow_add-j c = omega arith
-
-pub loop-j-smaller : goal.loop-j-smaller
-loop-j-smaller c = omega arith
 
 pub loop-j-preserved : goal.loop-j-preserved
 loop-j-preserved c =

@@ -1,6 +1,5 @@
 -- `records::test_job` meets its contract. Each way out rests on the tests that led there. Assumes nothing.
 use mathlib.Core.Bool.{and-false}
-use borrow.Author.Rules.{rules}
 use borrow.Author.Tests.{eq-eqb, ne_eqb}
 use Rattle.job_records.proofs.records.test_job.Goals as goal
 

@@ -2,7 +2,6 @@
 -- Assumes nothing.
 use mathlib.Core.Path.{sym, ◌∙◌, ap}
 use native.Mathlib.Omega.{arith}
-use borrow.Author.Rules.{rules}
 use Rattle.model.proofs.Faults.{plan-length}
 use Rattle.walking.specs.declared.steps.StepAnswer.TheVariants.{Step as Found}
 use Rattle.walking.proofs.Walking.{step_found, step_past, walk_refused, walk_answered}

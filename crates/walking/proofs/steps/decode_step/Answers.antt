@@ -14,10 +14,9 @@ steps-by-length n k e = omega arith
 
 pub returns : goal.returns
 unfolding step_at
-returns c =
-(
-      rw (c.number16-cell.ensures.0, c.number32.ensures, steps-by-length _ _ c.requires.0),
-      omega arith,
-      omega arith,
-      rw c.number32.ensures (number_at_small 4 _ _ (λ place. (c.shared_slice_known-1.given place).fits)),
-    )
+returns c = (
+  rw (c.number16-cell.ensures.0, c.number32.ensures, steps-by-length _ _ c.requires.0),
+  omega arith,
+  omega arith,
+  rw c.number32.ensures (number_at_small 4 _ _ (λ place. search rules)),
+)

@@ -2,7 +2,6 @@
 -- Assumes nothing.
 use mathlib.Core.Path.{sym, ◌∙◌}
 use native.Mathlib.Omega.{arith}
-use borrow.Author.Rules.{rules}
 use Rattle.model.proofs.Faults.{plan-length}
 use Rattle.walking.proofs.Walking.{number_found, number_past, walk_refused, walk_answered}
 use Rattle.walking.proofs.steps.number_after.Goals as goal

@@ -1,5 +1,4 @@
 -- `steps::wrong_length` meets its contract. Each way out rests on the test that led there and on `number16`. Assumes nothing.
-use borrow.Author.Rules.{rules}
 use borrow.Author.Tests.{lt-ltb, le-ltb}
 use Rattle.walking.proofs.steps.wrong_length.Goals as goal
 
