@@ -6,9 +6,11 @@ ghost use Rattle.std.specs.Prelude.{◌≡◌, length};
 ghost use Rattle.io.specs.Counts.{IsPrefixLen};
 ghost use Rattle.listing_lines.specs.Appending.{text_room};
 
-use libc::STDOUT_FILENO;
 use listing_text::{TEXT_ROOM, write_listing};
 use model::{MAX_JOBS, MAX_LEVELS, MAX_MARKS};
+use std::fs::File;
+use std::io::{Read, Result, Write, writer};
+use std::rt::Files;
 
 // One byte more than the longest valid table has. Of a longer file no more is read: it has a wrong length as it is.
 const LEVEL_ROOM: usize = 2 + 4 * MAX_LEVELS + 1;
@@ -17,13 +19,13 @@ const JOB_ROOM: usize = 2 + 12 * MAX_JOBS + 1;
 
 const MARK_ROOM: usize = 2 + 4 * MAX_MARKS + 1;
 
-fn main() {
+fn main(rt: HostRuntime) -> Result<()> {
     let mut levels = [0u8; LEVEL_ROOM];
-    let level_count = read_file(b"levels.tbl", &mut levels);
+    let level_count = read_file(&rt, "levels.tbl", &mut levels);
     let mut jobs = [0u8; JOB_ROOM];
-    let job_count = read_file(b"jobs.tbl", &mut jobs);
+    let job_count = read_file(&rt, "jobs.tbl", &mut jobs);
     let mut marks = [0u8; MARK_ROOM];
-    let mark_count = read_file(b"marks.tbl", &mut marks);
+    let mark_count = read_file(&rt, "marks.tbl", &mut marks);
     let mut text = text_buffer();
     let length = write_listing(
         &levels[..level_count],
@@ -31,7 +33,7 @@ fn main() {
         &marks[..mark_count],
         &mut text,
     );
-    io::write_all(STDOUT_FILENO, &text[..length]);
+    writer(&rt).write_all(&text[..length])
 }
 
 fn text_buffer() -> [u8; TEXT_ROOM]
@@ -42,14 +44,25 @@ fn text_buffer() -> [u8; TEXT_ROOM]
 
 // Reads a file into a buffer, as far as it has room, and answers how many bytes there are. A file that can't be read, as one that
 // is missing or a folder, counts as empty.
-fn read_file(path: &[u8], bytes: &mut [u8]) -> usize
+fn read_file(rt: &impl Files, path: &str, bytes: &mut [u8]) -> usize
     ensures { IsPrefixLen result bytes.new }
 {
-    let file = os::open_read(path);
-    if file < 0 {
-        return 0;
+    match File::open(rt, path) {
+        Ok(mut file) => read_full(&mut file, bytes),
+        Err(_) => 0,
     }
-    let count = io::read_full(file, bytes);
-    libc::close(file);
+}
+
+// Reads until the buffer is full, the file ends or a read fails, and answers how many bytes there are.
+fn read_full(file: &mut impl Read, bytes: &mut [u8]) -> usize
+    ensures { IsPrefixLen result bytes.new }
+{
+    let mut count = 0;
+    while count < bytes.len() {
+        match file.read(&mut bytes[count..]) {
+            Ok(0) | Err(_) => break,
+            Ok(more) => count += more,
+        }
+    }
     count
 }

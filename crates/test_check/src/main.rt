@@ -14,12 +14,11 @@ mod check;
 mod walk;
 
 use case::case;
-use libc::STDIN_FILENO;
-use test_support::text::{TEXT_ROOM, find};
+use test_support::text::{STDIN, TEXT_ROOM, find};
 
 fn main() {
     let mut text = [0; TEXT_ROOM];
-    let length = io::read_full(STDIN_FILENO, &mut text);
+    let length = io::read_full(STDIN, &mut text);
     cases(&text[..length]);
 }
 

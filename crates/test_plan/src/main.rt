@@ -14,12 +14,11 @@ mod print;
 mod written;
 
 use case::case;
-use libc::STDIN_FILENO;
-use test_support::text::find;
+use test_support::text::{STDIN, find};
 
 fn main() {
     let mut text = io::large_buffer();
-    let length = io::read_full(STDIN_FILENO, &mut text);
+    let length = io::read_full(STDIN, &mut text);
     cases(&text[..length]);
 }
 

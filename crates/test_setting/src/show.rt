@@ -1,7 +1,9 @@
 // A line for each case: what was asked, and what was answered.
-use libc::STDOUT_FILENO;
 use parameters::as_given;
 use settings::SettingAnswer;
+
+// The descriptor of the standard output.
+const STDOUT: i32 = 1;
 
 // The name, the length and the load; then the band, the extra and the gap, or the refusal's number and place.
 pub(crate) fn setting(name: &[u8], table: &[u8], length: u32, load: u64) {
@@ -11,7 +13,7 @@ pub(crate) fn setting(name: &[u8], table: &[u8], length: u32, load: u64) {
     let given = as_given(table);
     match settings::setting(table, given.highest, length, load) {
         SettingAnswer::Set { band, extra, gap } => {
-            io::write_all(STDOUT_FILENO, b" set");
+            io::write_all(STDOUT, b" set");
             number(band as u64);
             number(extra);
             number(gap);
@@ -20,7 +22,7 @@ pub(crate) fn setting(name: &[u8], table: &[u8], length: u32, load: u64) {
             number: refusal,
             place,
         } => {
-            io::write_all(STDOUT_FILENO, b" refused");
+            io::write_all(STDOUT, b" refused");
             number(refusal as u64);
             number(place as u64);
         }
@@ -43,15 +45,15 @@ pub(crate) fn working(name: &[u8], table: &[u8]) {
 }
 
 fn start(kind: &[u8], name: &[u8]) {
-    io::write_all(STDOUT_FILENO, kind);
-    io::write_all(STDOUT_FILENO, name);
+    io::write_all(STDOUT, kind);
+    io::write_all(STDOUT, name);
 }
 
 fn number(n: u64) {
-    io::write_all(STDOUT_FILENO, b" ");
-    io::print_decimal(STDOUT_FILENO, n);
+    io::write_all(STDOUT, b" ");
+    io::print_decimal(STDOUT, n);
 }
 
 fn end() {
-    io::write_all(STDOUT_FILENO, b"\n");
+    io::write_all(STDOUT, b"\n");
 }

@@ -10,12 +10,11 @@ mod case;
 mod printed;
 
 use case::case;
-use libc::STDIN_FILENO;
-use test_support::text::find;
+use test_support::text::{STDIN, find};
 
 fn main() {
     let mut text = io::large_buffer();
-    let length = io::read_full(STDIN_FILENO, &mut text);
+    let length = io::read_full(STDIN, &mut text);
     cases(&text[..length]);
 }
 

@@ -1,5 +1,4 @@
 // Sites whose answers document 01 gives, and sites where idling draws power.
-use libc::STDOUT_FILENO;
 use model::Level;
 use parameters::as_given;
 use planning::PlanAnswer;
@@ -216,7 +215,7 @@ fn exact(energy: Fraction) {
             show::words(b" and");
             show::number(numerator % denominator);
             show::words(b"/");
-            io::print_decimal(STDOUT_FILENO, denominator);
+            io::print_decimal(show::STDOUT, denominator);
         }
     }
 }

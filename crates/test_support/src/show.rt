@@ -3,10 +3,12 @@ ghost use Rattle.std.specs.Prelude.{◌≤◌, length};
 
 use crate::text::find;
 use integers::magnitude;
-use libc::STDOUT_FILENO;
+
+// The descriptor of the standard output.
+pub const STDOUT: i32 = 1;
 
 pub fn words(text: &[u8]) {
-    io::write_all(STDOUT_FILENO, text);
+    io::write_all(STDOUT, text);
 }
 
 // A line's words, up to the one at a place.
@@ -19,7 +21,7 @@ pub fn words_to(line: &[u8], place: usize)
 
 pub fn number(value: u64) {
     words(b" ");
-    io::print_decimal(STDOUT_FILENO, value);
+    io::print_decimal(STDOUT, value);
 }
 
 pub fn signed(value: i64) {
@@ -28,7 +30,7 @@ pub fn signed(value: i64) {
     } else {
         words(b" ");
     }
-    io::print_decimal(STDOUT_FILENO, magnitude(value));
+    io::print_decimal(STDOUT, magnitude(value));
 }
 
 pub fn refusal(refused: u32, place: u32) {

@@ -2,6 +2,9 @@
 ghost use Rattle.std.specs.Prelude.{◌<◌, ◌≤◌, length};
 ghost use Rattle.io.specs.Counts.{IsPrefixLen};
 
+// The descriptor of the standard input, which has the cases.
+pub const STDIN: i32 = 0;
+
 // Room for the text of a program whose cases are longer than the kit's large buffer.
 pub const TEXT_ROOM: usize = 131_072;
 

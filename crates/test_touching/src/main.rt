@@ -12,13 +12,12 @@ mod call;
 mod print;
 mod site;
 
-use libc::STDIN_FILENO;
 use site::site;
-use test_support::text::{TEXT_ROOM, find};
+use test_support::text::{STDIN, TEXT_ROOM, find};
 
 fn main() {
     let mut text = [0; TEXT_ROOM];
-    let length = io::read_full(STDIN_FILENO, &mut text);
+    let length = io::read_full(STDIN, &mut text);
     sites(&text[..length]);
 }
 
