@@ -1,0 +1,10 @@
+-- `written::agree` meets its contract: the position stays below the number of steps. Assumes nothing.
+use Prim.Native.Nat.{◌-◌}
+use borrow.Author.Rules.{rules}
+use Rattle.test_plan.proofs.written.agree.Given as goal
+
+abbrev pub invariant-loop-position : goal.invariant-loop-position
+invariant-loop-position l = Unit
+
+abbrev pub decreases-loop-position : goal.decreases-loop-position
+decreases-loop-position l = l.steps - l.position

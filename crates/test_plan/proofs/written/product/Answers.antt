@@ -1,0 +1,8 @@
+-- `written::product` meets its contract: the product of numbers within their limits fits. Assumes nothing.
+use native.Mathlib.Omega.{arith}
+use native.Mathlib.Nat.{mul-le-mul}
+use borrow.Author.Rules.{rules}
+use Rattle.test_plan.proofs.written.product.Goals as goal
+
+pub overflow_mul-result : goal.overflow_mul-result
+overflow_mul-result c = record { fits = omega (arith, mul-le-mul c.if-jobs-gt-MAX_JOBS.false c.if-intervals-gt-MAX_INTERVALS.false) }
