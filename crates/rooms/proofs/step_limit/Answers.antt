@@ -1,7 +1,6 @@
 -- `step_limit` meets its contract: without jobs there are no pairs, and otherwise the smaller number is found.
 -- Assumes nothing.
 use native.Mathlib.Omega.{arith}
-use borrow.Author.Rules.{rules}
 use Rattle.rooms.proofs.step_limit.Goals as goal
 
 pub returns-then-jobs-eq0 : goal.returns-then-jobs-eq0

@@ -1,9 +1,9 @@
 use mathlib.Core.Path.{◌≡◌}
 use mathlib.Core.Logic.{◌⊎◌, inl, inr}
-use Prim.Native.Nat.{ℕ, ◌-◌, ◌<◌, ◌≤◌}
+use Prim.Native.Nat.{ℕ, ◌<◌, ◌≤◌}
 use native.Mathlib.Omega.{arith}
 use borrow.Author.Count.{below_more}
-use Rattle.model.specs.Limits.{max_intervals, max_bounds}
+use Rattle.model.specs.Limits.{max_intervals}
 use Rattle.model.proofs.Numbers.{lt_or_le}
 use Rattle.workloads.specs.Arrays.{numbers_in}
 use Rattle.refilling.proofs.cells.first_uncrossed.Goals as goal

@@ -1,11 +1,7 @@
 -- `cells::first_uncrossed` meets its contract. The loop's invariant: each bound before `b` must be crossed. Assumes nothing.
 use mathlib.Core.Path.{◌≡◌}
-use mathlib.Core.Logic.{◌⊎◌, inl, inr}
-use Prim.Native.Nat.{ℕ, ◌-◌, ◌<◌, ◌≤◌}
-use native.Mathlib.Omega.{arith}
-use borrow.Author.Count.{below_more}
-use Rattle.model.specs.Limits.{max_intervals, max_bounds}
-use Rattle.model.proofs.Numbers.{lt_or_le}
+use Prim.Native.Nat.{ℕ, ◌-◌, ◌<◌}
+use Rattle.model.specs.Limits.{max_bounds}
 use Rattle.workloads.specs.Arrays.{numbers_in}
 use Rattle.refilling.proofs.cells.first_uncrossed.Given as goal
 

@@ -1,11 +1,7 @@
 use mathlib.Core.Path.{◌≡◌}
 use mathlib.Core.Logic.{inr}
-use Prim.Native.Nat.{◌-◌, ◌<◌, ◌≤◌}
 use native.Mathlib.Omega.{arith}
-use lib.ListN.{length, length-set}
-use Rattle.model.specs.Limits.{max_bounds}
-use Rattle.workloads.specs.Arrays.{numbers_in}
-use Rattle.loads.specs.Crossing.{Lowered}
+use lib.ListN.{length-set}
 use Rattle.refilling.proofs.CellSteps.{lowered_none, lowered_store}
 use Rattle.refilling.proofs.cells.lower.Goals as goal
 

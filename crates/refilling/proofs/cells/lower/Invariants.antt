@@ -1,13 +1,10 @@
 -- `cells::lower` meets its contract. Assumes nothing.
 use mathlib.Core.Path.{◌≡◌}
-use mathlib.Core.Logic.{inr}
 use Prim.Native.Nat.{◌-◌, ◌<◌, ◌≤◌}
-use native.Mathlib.Omega.{arith}
-use lib.ListN.{length, length-set}
+use lib.ListN.{length}
 use Rattle.model.specs.Limits.{max_bounds}
 use Rattle.workloads.specs.Arrays.{numbers_in}
 use Rattle.loads.specs.Crossing.{Lowered}
-use Rattle.refilling.proofs.CellSteps.{lowered_none, lowered_store}
 use Rattle.refilling.proofs.cells.lower.Given as goal
 
 abbrev pub invariant-loop-b : goal.invariant-loop-b

@@ -1,11 +1,8 @@
 use mathlib.Core.Path.{◌≡◌}
-use mathlib.Core.Logic.{⊎_elim}
-use Prim.Native.Nat.{◌-◌, ◌<◌, ◌≤◌}
 use native.Mathlib.Omega.{arith}
-use Rattle.workloads.specs.Arrays.{numbers_in}
-use Rattle.refilling.specs.Cells.{Most}
 use Rattle.refilling.proofs.CellSteps.{most_none, most_pass, most_less}
 use Rattle.refilling.proofs.cells.most.Goals as goal
+use Rattle.refilling.proofs.cells.most.Goals.{then-cross-b, else-cross-b}
 
 pub overflow_add-b : goal.overflow_add-b
 overflow_add-b c = omega arith
@@ -36,7 +33,10 @@ loop-b-preserved c =
     let inv = c.loop-b.invariant in (
       omega arith,
       omega arith,
-      ⊎_elim (λ w. rw w.2 (most_less inv.2 inv.0 w.0.taken)) (λ w. rw w.1 (most_pass inv.2 w.0.left)) c.if-cross-b.branch,
+      elim c.if-cross-b.branch [
+        | then-cross-b w ↦ rw w.amount-is (most_less inv.2 inv.0 w.if-cross-b.true)
+        | else-cross-b w ↦ rw w.amount-is (most_pass inv.2 w.if-cross-b.false)
+      ],
     )
 
 pub returns : goal.returns

@@ -1,11 +1,7 @@
 -- `cells::most` meets its contract. Assumes nothing.
-use mathlib.Core.Path.{◌≡◌}
-use mathlib.Core.Logic.{⊎_elim}
 use Prim.Native.Nat.{◌-◌, ◌<◌, ◌≤◌}
-use native.Mathlib.Omega.{arith}
 use Rattle.workloads.specs.Arrays.{numbers_in}
 use Rattle.refilling.specs.Cells.{Most}
-use Rattle.refilling.proofs.CellSteps.{most_none, most_pass, most_less}
 use Rattle.refilling.proofs.cells.most.Given as goal
 
 abbrev pub invariant-loop-b : goal.invariant-loop-b

@@ -3,7 +3,6 @@ use mathlib.Core.Path.{refl}
 use Prim.Native.Nat.{◌+◌, ◌*◌, ◌<◌}
 use native.Mathlib.Omega.{arith}
 use lib.ListN.{length, length-set}
-use borrow.Author.Rules.{rules}
 use Rattle.workloads.proofs.SharesTable.{place_in}
 use Rattle.refilling.proofs.CellSteps.{takes_most, takes_none, put_none}
 use Rattle.refilling.proofs.cells.take.Goals as goal

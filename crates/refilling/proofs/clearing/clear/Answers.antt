@@ -1,7 +1,6 @@
 use mathlib.Core.Path.{◌≡◌, refl}
-use Prim.Native.Nat.{◌-◌, ◌≤◌}
 use native.Mathlib.Omega.{arith}
-use Rattle.refilling.proofs.ClearSteps.{ClearedTo, cleared_none, held_below, row_room, cleared_next}
+use Rattle.refilling.proofs.ClearSteps.{cleared_none, held_below, row_room, cleared_next}
 use Rattle.refilling.proofs.clearing.clear.Goals as goal
 
 pub loop-interval-init : goal.loop-interval-init

@@ -1,9 +1,7 @@
 -- `clearing::clear` meets its contract. The loop's invariant: the intervals so far have no shares, the others are as they were.
 -- Assumes nothing.
-use mathlib.Core.Path.{◌≡◌, refl}
 use Prim.Native.Nat.{◌-◌, ◌≤◌}
-use native.Mathlib.Omega.{arith}
-use Rattle.refilling.proofs.ClearSteps.{ClearedTo, cleared_none, held_below, row_room, cleared_next}
+use Rattle.refilling.proofs.ClearSteps.{ClearedTo}
 use Rattle.refilling.proofs.clearing.clear.Given as goal
 
 abbrev pub invariant-loop-interval : goal.invariant-loop-interval

@@ -4,9 +4,9 @@ use Prim.Native.Nat.{◌+◌, ◌*◌, ◌<◌}
 use native.Mathlib.Omega.{arith}
 use lib.ListN.{length}
 use borrow.Author.Tests.{not-true, not-false}
-use Rattle.job_sets.specs.JobSets.{is_member, member_count}
+use Rattle.job_sets.specs.JobSets.{is_member}
 use Rattle.job_sets.proofs.JobSets.{count_without, least_has, member_small}
-use Rattle.refilling.proofs.ClearSteps.{RowClearing, row_start, row_length, row_next, row_end}
+use Rattle.refilling.proofs.ClearSteps.{row_start, row_length, row_next, row_end}
 use Rattle.refilling.proofs.clearing.clear_row.Goals as goal
 use Rattle.refilling.proofs.clearing.clear_row.Goals.{After-least-job}
 

@@ -1,16 +1,11 @@
 -- `crosses::add_due` meets its contract. The loop's invariant: for each bound the array has the cycles of the jobs so far
 -- that are due there. Assumes nothing.
-use mathlib.Core.Path.{◌≡◌, refl, sym, ◌∙◌}
-use mathlib.Core.List.{List}
-use Prim.Native.Nat.{ℕ, ◌+◌, ◌-◌, ◌<◌, ◌≤◌, ◌^◌}
-use native.Mathlib.Omega.{arith}
-use lib.ListN.{length, length-replicate, length-set}
-use Rattle.model.specs.Limits.{max_jobs, max_bounds}
-use Rattle.model.proofs.Sum.{sum_longer}
+use mathlib.Core.Path.{◌≡◌}
+use Prim.Native.Nat.{ℕ, ◌-◌, ◌≤◌}
+use lib.ListN.{length}
+use Rattle.model.specs.Limits.{max_bounds}
 use Rattle.workloads.specs.Arrays.{numbers_in}
-use Rattle.workloads.proofs.StoredNumbers.{zeros}
 use Rattle.refilling.specs.Crosses.{due_at}
-use Rattle.refilling.proofs.CrossSteps.{due_none, due_take, due_most, due_store}
 use Rattle.refilling.proofs.crosses.add_due.Given as goal
 
 abbrev pub invariant-loop-job : goal.invariant-loop-job

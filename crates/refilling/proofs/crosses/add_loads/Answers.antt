@@ -1,10 +1,9 @@
 use mathlib.Core.Path.{◌≡◌, refl}
-use Prim.Native.Nat.{ℕ, ◌+◌, ◌-◌, ◌<◌, ◌≤◌, ◌^◌}
+use Prim.Native.Nat.{ℕ, ◌+◌, ◌<◌, ◌≤◌, ◌^◌}
 use native.Mathlib.Omega.{arith}
 use Rattle.model.specs.Limits.{max_intervals}
 use Rattle.workloads.specs.Arrays.{numbers_in}
-use Rattle.refilling.specs.Crosses.{CanCross}
-use Rattle.refilling.proofs.CrossSteps.{CrossedTo, crossed_first, next_holds, next_small, crossed_next}
+use Rattle.refilling.proofs.CrossSteps.{crossed_first, next_holds, next_small, crossed_next}
 use Rattle.refilling.proofs.crosses.add_loads.Goals as goal
 use Rattle.refilling.proofs.crosses.add_loads.Goals.{In-loop-i}
 

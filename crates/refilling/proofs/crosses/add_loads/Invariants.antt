@@ -1,12 +1,8 @@
 -- `crosses::add_loads` meets its contract. The loop's invariant: up to `i` the array has what crosses each bound, past it
 -- what is due there. Assumes nothing.
-use mathlib.Core.Path.{◌≡◌, refl}
-use Prim.Native.Nat.{ℕ, ◌+◌, ◌-◌, ◌<◌, ◌≤◌, ◌^◌}
-use native.Mathlib.Omega.{arith}
-use Rattle.model.specs.Limits.{max_intervals}
-use Rattle.workloads.specs.Arrays.{numbers_in}
+use Prim.Native.Nat.{ℕ, ◌-◌, ◌≤◌}
 use Rattle.refilling.specs.Crosses.{CanCross}
-use Rattle.refilling.proofs.CrossSteps.{CrossedTo, crossed_first, next_holds, next_small, crossed_next}
+use Rattle.refilling.proofs.CrossSteps.{CrossedTo}
 use Rattle.refilling.proofs.crosses.add_loads.Given as goal
 
 abbrev pub invariant-loop-i : goal.invariant-loop-i

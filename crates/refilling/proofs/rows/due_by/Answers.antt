@@ -1,6 +1,5 @@
 -- `rows::due_by` meets its contract. Assumes nothing.
 use mathlib.Core.Path.{◌∙◌}
-use borrow.Author.Rules.{rules}
 use borrow.Author.Tests.{lt-ltb, le-ltb}
 use Rattle.refilling.proofs.rows.due_by.Goals as goal
 

@@ -1,9 +1,6 @@
 use mathlib.Core.Path.{sym, ◌∙◌}
-use borrow.Author.Rules.{rules}
 use borrow.Author.Tests.{not-true, not-false}
-use Rattle.job_sets.specs.JobSets.{member_count}
 use Rattle.workloads.proofs.SharesTable.{kept_refl, kept_trans}
-use Rattle.refilling.specs.RefillTables.{RowFilled}
 use Rattle.refilling.proofs.rows.fill_row.Goals as goal
 
 pub loop-shares-init : goal.loop-shares-init

@@ -1,9 +1,5 @@
 -- `rows::fill_row` meets its contract. The loop's invariant: the interval is filled up to some job. Assumes nothing.
-use mathlib.Core.Path.{sym, ◌∙◌}
-use borrow.Author.Rules.{rules}
-use borrow.Author.Tests.{not-true, not-false}
 use Rattle.job_sets.specs.JobSets.{member_count}
-use Rattle.workloads.proofs.SharesTable.{kept_refl, kept_trans}
 use Rattle.refilling.specs.RefillTables.{RowFilled}
 use Rattle.refilling.proofs.rows.fill_row.Given as goal
 

@@ -1,12 +1,9 @@
 use mathlib.Core.Path.{◌≡◌}
-use Prim.Native.Nat.{◌-◌, ◌≤◌}
 use native.Mathlib.Numerals.{add-one}
 use native.Mathlib.Omega.{arith}
-use borrow.Author.Rules.{rules}
-use Rattle.job_sets.specs.JobSets.{no_jobs}
 use Rattle.workloads.proofs.SharesTable.{kept_refl, kept_trans}
 use Rattle.loads.proofs.Refilled.{refill_ends}
-use Rattle.refilling.specs.RefillTables.{lent_lasts, BetweenRows, RowsFilled}
+use Rattle.refilling.specs.RefillTables.{lent_lasts, BetweenRows}
 use Rattle.refilling.proofs.RowSteps.{row_ends}
 use Rattle.refilling.proofs.rows.fill_rows.Goals as goal
 use Rattle.refilling.proofs.rows.fill_rows.Goals.{At-loop-interval}
@@ -38,14 +35,13 @@ pub loop-interval-smaller : goal.loop-interval-smaller
 loop-interval-smaller c = omega (arith, c.loop-interval-test.true)
 
 pub loop-interval-preserved : goal.loop-interval-preserved
-loop-interval-preserved c =
-(
-      omega (arith, c.loop-interval-test.true),
-      λ work loads opens before.
-          let (kept, filled) = c.loop-interval.invariant.1 work loads opens before in
-          let (kept_next, done) = c.fill_row-row.ensures.row_filled work loads opens (c.start_row-start.ensures work loads _ _ _ _ _ _ opens filled) in
-          (kept_trans kept kept_next, rw add-one (row_ends done c.fill_row-row.ensures.rest_value)),
-    )
+loop-interval-preserved c = (
+  omega (arith, c.loop-interval-test.true),
+  λ work loads opens before.
+      let (kept, filled) = c.loop-interval.invariant.1 work loads opens before in
+      let (kept_next, done) = c.fill_row-row.ensures.row_filled work loads opens (c.start_row-start.ensures work loads _ _ _ _ _ _ opens filled) in
+      (kept_trans kept kept_next, rw add-one (row_ends done c.fill_row-row.ensures.rest_value)),
+)
 
 pub shape_of-shares : goal.shape_of-shares
 shape_of-shares c =

@@ -1,14 +1,7 @@
 -- `rows::fill_rows` meets its contract. The loop's invariant: the intervals before `interval` are filled. Assumes nothing.
-use mathlib.Core.Path.{◌≡◌}
 use Prim.Native.Nat.{◌-◌, ◌≤◌}
-use native.Mathlib.Numerals.{add-one}
-use native.Mathlib.Omega.{arith}
-use borrow.Author.Rules.{rules}
 use Rattle.job_sets.specs.JobSets.{no_jobs}
-use Rattle.workloads.proofs.SharesTable.{kept_refl, kept_trans}
-use Rattle.loads.proofs.Refilled.{refill_ends}
-use Rattle.refilling.specs.RefillTables.{lent_lasts, BetweenRows, RowsFilled}
-use Rattle.refilling.proofs.RowSteps.{row_ends}
+use Rattle.refilling.specs.RefillTables.{RowsFilled}
 use Rattle.refilling.proofs.rows.fill_rows.Given as goal
 
 abbrev pub invariant-loop-interval : goal.invariant-loop-interval

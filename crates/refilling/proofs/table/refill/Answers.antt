@@ -1,6 +1,5 @@
 -- `table::refill` meets its contract (proofs/RefillStarts.antt). Assumes nothing.
 use mathlib.Core.Path.{refl}
-use borrow.Author.Rules.{rules}
 use lib.ListN.{replicate}
 use Rattle.model.specs.Limits.{max_bounds}
 use Rattle.job_sets.specs.JobSets.{no_jobs}
@@ -25,7 +24,7 @@ add_due-requires c =
 crossing : (c : After-cross-2-1) (work : Workload)
     → let a = c.args in
     CanRefill (lent_cycles work a.jobs a.intervals a.last.now a.cycles.now) a.«open».now a.shares.now a.loads.now a.holders.now
-    → CanCross a.jobs a.intervals (numbers_in a.last.now) (numbers_in a.cycles.now) a.loads.now c.add_due.new.1.1.1.0
+    → CanCross a.jobs a.intervals (numbers_in a.last.now) (numbers_in a.cycles.now) a.loads.now c.add_due.new.cross
 crossing c work can = can_cross can _ c.add_due.ensures.0 c.add_due.ensures.1
 
 pub add_loads-requires : goal.add_loads-requires
@@ -38,10 +37,10 @@ filling : (c : After-next-1) (work : Workload)
     → let a = c.args in
     CanRefill (lent_cycles work a.jobs a.intervals a.last.now a.cycles.now) a.«open».now a.shares.now a.loads.now a.holders.now
     → BetweenRows (lent_cycles work a.jobs a.intervals a.last.now a.cycles.now) (numbers_in a.loads.now)
-    c.clear.new.0 c.clear.new.1.0 a.cycles.now c.add_loads.new.1.1.0
+    c.clear.new.shares c.clear.new.holders a.cycles.now c.add_loads.new.cross
     (replicate max_bounds a.intervals) 0 a.intervals no_jobs
 filling c work can =
-    let crossed = c.add_loads.ensures _ _ _ (crossing c.before.before.before.before.before.before.before work can) in
+    let crossed = c.add_loads.ensures _ _ _ (can_cross can _ c.add_due.ensures.0 c.add_due.ensures.1) in
     can_fill can c.clear.ensures crossed.0 crossed.1 refl
 
 pub fill_rows-requires : goal.fill_rows-requires
