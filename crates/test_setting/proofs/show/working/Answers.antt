@@ -4,10 +4,6 @@ use borrow.Author.Rules.{rules}
 use Rattle.levels.proofs.SmallPoints.{read_few}
 use Rattle.test_setting.proofs.show.working.Goals as goal
 
--- UNCONVERTED slice-aggregate-start
--- slice-aggregate-start : tie.Need-slice-aggregate-start invariant-loop decreases-loop
--- slice-aggregate-start c = search rules
-
 pub loop-k-init : goal.loop-k-init
 loop-k-init c = rw c.read_working_levels-points.ensures (read_few _ _)
 

@@ -2,10 +2,7 @@
 -- are within their slices, that in the line not before the word. A turn goes on in the line, by `next`. Assumes nothing.
 use mathlib.Core.Path.{◌≡◌}
 use Prim.Native.Nat.{◌-◌, ◌≤◌}
-use native.Mathlib.Omega.{arith}
 use lib.ListN.{length}
-use borrow.Author.Rules.{rules}
-use Rattle.io.proofs.Counting.{prefix_len_of_le}
 use Rattle.test_support.proofs.encode.encode.Given as goal
 
 abbrev pub invariant-loop-at : goal.invariant-loop-at

@@ -1,11 +1,8 @@
 -- `encode::put` meets its contract. The loop's invariant: the slice keeps its length, and the place is within it.
 -- Assumes nothing.
-use mathlib.Core.Logic.{⊎_elim}
-use mathlib.Core.Path.{◌≡◌, ap}
+use mathlib.Core.Path.{◌≡◌}
 use Prim.Native.Nat.{◌≤◌}
-use native.Mathlib.Omega.{arith}
-use lib.ListN.{length, length-set}
-use borrow.Author.Rules.{rules}
+use lib.ListN.{length}
 use Rattle.test_support.proofs.encode.put.Given as goal
 
 abbrev pub invariant-loop-left : goal.invariant-loop-left

@@ -1,8 +1,6 @@
 -- `text::find` meets its contract. The loop's invariant: the place lies from the start to the end. Assumes nothing.
 use Prim.Native.Nat.{◌-◌, ◌≤◌}
 use lib.ListN.{length}
-use borrow.Author.Rules.{rules}
-use Rattle.io.proofs.Counting.{prefix_len_of_le}
 use Rattle.test_support.proofs.text.find.Given as goal
 
 abbrev pub invariant-loop-i : goal.invariant-loop-i

@@ -1,7 +1,6 @@
 -- `text::number` meets its contract. The loop's invariant: the value fits 32 bits. Assumes nothing.
 use Prim.Native.Nat.{◌-◌, ◌^◌, ◌<◌}
 use lib.ListN.{length}
-use borrow.Author.Rules.{rules}
 use Rattle.test_support.proofs.text.number.Given as goal
 
 abbrev pub invariant-loop-i : goal.invariant-loop-i

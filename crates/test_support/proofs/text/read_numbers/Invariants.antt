@@ -1,9 +1,7 @@
 -- `text::read_numbers` meets its contract. The loop's invariant: the place is within the line. A turn goes on in the line, by `next`.
 -- Assumes nothing.
 use Prim.Native.Nat.{◌-◌, ◌≤◌}
-use native.Mathlib.Omega.{arith}
 use lib.ListN.{length}
-use borrow.Author.Rules.{rules}
 use Rattle.test_support.proofs.text.read_numbers.Given as goal
 
 abbrev pub invariant-loop-at : goal.invariant-loop-at

@@ -1,7 +1,6 @@
 -- `written::members` meets its contract: each turn goes on in the numbers. Assumes nothing.
 use Prim.Native.Nat.{◌-◌}
 use lib.ListN.{length}
-use borrow.Author.Rules.{rules}
 use Rattle.test_support.proofs.written.members.Given as goal
 
 abbrev pub invariant-loop-i : goal.invariant-loop-i

@@ -1,7 +1,6 @@
 -- `written::plan` meets its contract: both places of a half lie in the bytes. Assumes nothing.
 use Prim.Native.Nat.{◌-◌}
 use lib.ListN.{length}
-use borrow.Author.Rules.{rules}
 use Rattle.test_support.proofs.written.plan.Given as goal
 
 abbrev pub invariant-loop-i : goal.invariant-loop-i

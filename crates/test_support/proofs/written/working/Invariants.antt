@@ -1,7 +1,6 @@
 -- `written::working` meets its contract: each turn goes on in the frequencies. Assumes nothing.
 use Prim.Native.Nat.{◌-◌}
 use lib.ListN.{length}
-use borrow.Author.Rules.{rules}
 use Rattle.test_support.proofs.written.working.Given as goal
 
 abbrev pub invariant-loop-k : goal.invariant-loop-k
