@@ -5,7 +5,7 @@ use borrow.Author.Rules.{rules}
 use Rattle.capi.proofs.ramyearly_fits.Goals as goal
 
 pub returns-in-Fits : goal.returns-in-Fits
-returns-in-Fits c = plan_fits _ _ _ _ _ _ (sym c.in-Fits.is ∙ c.fits2.ensures)
+returns-in-Fits c = plan_fits _ _ _ _ _ _ (sym c.in-Fits.is ∙ c.fits-answer.ensures)
 
 pub returns-in-Refused : goal.returns-in-Refused
-returns-in-Refused c = plan_refused _ _ _ _ _ _ _ (sym c.in-Refused.is ∙ c.fits2.ensures)
+returns-in-Refused c = plan_refused _ _ _ _ _ _ _ (sym c.in-Refused.is ∙ c.fits-answer.ensures)

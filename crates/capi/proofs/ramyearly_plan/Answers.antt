@@ -26,7 +26,7 @@ returns-in-Plan c = returned _ _ _ _ _ _ c.plan-answer.ensures _ _ c.in-Plan.is 
 
 pub returns-in-Overfull : goal.returns-in-Overfull
 returns-in-Overfull c =
-    let fits : SFits w64 c.answer-in-Overfull-1.given.0.1.1.0 = search rules in
+    let fits : SFits w64 c.in-Overfull.spare = search rules in
     rw (to_z-of_z fits) (returned _ _ _ _ _ _ c.plan-answer.ensures _ _ c.in-Overfull.is refl)
 
 pub returns-in-Refused : goal.returns-in-Refused

@@ -7,7 +7,7 @@ use borrow.Author.Rules.{rules}
 use Rattle.capi.proofs.ramyearly_setting.Goals as goal
 
 pub overflow_cast-result : goal.overflow_cast-result
-overflow_cast-result c = omega (arith, gap_small _ _ _ _ _ _ _ (sym c.answer-1.given.1 ∙ c.setting-answer.ensures))
+overflow_cast-result c = omega (arith, gap_small _ _ _ _ _ _ _ (sym c.in-Set.is ∙ c.setting-answer.ensures))
 
 pub returns-in-Set : goal.returns-in-Set
 returns-in-Set c = setting_set _ _ _ _ _ _ _ (sym c.in-Set.is ∙ c.setting-answer.ensures)

@@ -8,7 +8,7 @@ use borrow.Author.Rules.{rules}
 use Rattle.capi.proofs.ramyearly_spare.Goals as goal
 
 pub returns-in-Spare : goal.returns-in-Spare
-returns-in-Spare c = let fits : SFits w64 c.answer-1.given.0.0 = search rules in
+returns-in-Spare c = let fits : SFits w64 c.in-Spare.spare = search rules in
     rw (to_z-of_z fits) (spare_found _ _ _ _ _ _ (sym c.in-Spare.is ∙ c.spare-answer.ensures))
 
 pub returns-in-Refused : goal.returns-in-Refused
