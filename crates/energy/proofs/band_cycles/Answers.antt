@@ -2,7 +2,6 @@
 -- Assumes nothing.
 use native.Mathlib.Nat.{mul-le-mul}
 use native.Mathlib.Omega.{arith}
-use borrow.Author.Rules.{rules}
 use Rattle.energy.proofs.band_cycles.Goals as goal
 
 pub overflow_mul-length : goal.overflow_mul-length

@@ -1,12 +1,10 @@
 -- `band_total` meets its contract. The loop's invariant: the total is the sum of the band's cycles in the intervals passed
 -- (proofs/HeldBounds.antt). Assumes nothing.
-use mathlib.Core.Path.{◌≡◌, refl}
-use Prim.Native.Nat.{◌+◌, ◌-◌, ◌≤◌}
-use native.Mathlib.Omega.{arith}
+use mathlib.Core.Path.{◌≡◌}
+use Prim.Native.Nat.{◌-◌, ◌≤◌}
 use lib.ListN.{take}
 use Rattle.model.specs.Sum.{sum}
 use Rattle.energy.specs.Figures.{cycles_in}
-use Rattle.energy.proofs.HeldBounds.{bound_rises, length_few, cycles_few, cycles_more, cycles_all}
 use Rattle.energy.proofs.band_total.Given as goal
 
 abbrev pub invariant-loop-i : goal.invariant-loop-i

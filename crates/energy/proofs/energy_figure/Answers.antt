@@ -1,9 +1,7 @@
-use Prim.Native.Nat.{◌+◌, ◌-◌, ◌<◌, ◌≤◌}
+use Prim.Native.Nat.{◌+◌, ◌<◌}
 use native.Mathlib.Omega.{arith}
-use lib.ListN.{take}
-use Rattle.levels.specs.PointTables.{points_of}
 use Rattle.levels.proofs.Frequencies.{table_some}
-use Rattle.energy.proofs.BandTables.{FigureUpTo, power_high, frequency_steps, power_steps, ends_high, energy_few, figure_none, figure_more, figure_all}
+use Rattle.energy.proofs.BandTables.{power_high, frequency_steps, power_steps, ends_high, energy_few, figure_none, figure_more, figure_all}
 use Rattle.energy.proofs.energy_figure.Goals as goal
 use Rattle.energy.proofs.energy_figure.Goals.{In-loop-k}
 
@@ -37,7 +35,7 @@ pub bounds-working-k-in-loop-k : goal.bounds-working-k-in-loop-k
 bounds-working-k-in-loop-k c = omega arith
 
 -- the band's upper end stands in the table
-inside : (c : In-loop-k) → c.loop-k.k + 1 < c.args.t1.count
+inside : (c : In-loop-k) → c.loop-k.k + 1 < c.args.working.count
 inside c = omega arith
 
 pub overflow_sub-gap : goal.overflow_sub-gap

@@ -1,11 +1,9 @@
 -- `energy_figure` meets its contract. The loop's invariant: the figure is that of the bands passed, and small
 -- (proofs/BandTables.antt). Assumes nothing.
-use Prim.Native.Nat.{◌+◌, ◌-◌, ◌<◌, ◌≤◌}
-use native.Mathlib.Omega.{arith}
+use Prim.Native.Nat.{◌-◌, ◌≤◌}
 use lib.ListN.{take}
 use Rattle.levels.specs.PointTables.{points_of}
-use Rattle.levels.proofs.Frequencies.{table_some}
-use Rattle.energy.proofs.BandTables.{FigureUpTo, power_high, frequency_steps, power_steps, ends_high, energy_few, figure_none, figure_more, figure_all}
+use Rattle.energy.proofs.BandTables.{FigureUpTo}
 use Rattle.energy.proofs.energy_figure.Given as goal
 
 abbrev pub invariant-loop-k : goal.invariant-loop-k

@@ -2,7 +2,6 @@
 -- Assumes nothing.
 use mathlib.Core.Path.{refl, sym, ◌∙◌}
 use lib.ListN.{replicate}
-use borrow.Author.Rules.{rules}
 use Rattle.model.specs.Limits.{max_intervals}
 use Rattle.job_records.proofs.SetsHave.{no-jobs}
 use Rattle.audit.proofs.SecondHalf.{refused_accepted, check_refused, check_continued}
@@ -15,19 +14,19 @@ fit_site-first-requires c =
 pub check_prices-requires : goal.check_prices-requires
 check_prices-requires c =
     let (site, valid, holds) = c.requires.0 in
-    (site, c.fit_site-first.ensures.left _ c.first-in-Fits-1.given.1 site valid holds)
+    (site, c.fit_site-first.ensures.left _ c.in-Fits.is site valid holds)
 
 pub returns-in-Refused : goal.returns-in-Refused
 returns-in-Refused c = record {
   value = λ site valid holds.
-      check_refused site _ _ _ _ (sym c.first-1.given.1 ∙ c.fit_site-first.ensures.judged site valid holds);
+      check_refused site _ _ _ _ (sym c.in-Refused.is ∙ c.fit_site-first.ensures.judged site valid holds);
   by_index = λ energy. refused_accepted;
 }
 
 pub returns-in-Fits : goal.returns-in-Fits
 returns-in-Fits c =
     let answered = c.fit_site-first.ensures in
-    let fits = c.first-in-Fits-1.given.1 in record {
+    let fits = c.in-Fits.is in record {
       value = λ site valid holds.
           rw (check_continued site _ _ _ (sym fits ∙ answered.judged site valid holds)) (c.check_prices.ensures site (answered.left _ fits site valid holds));
       by_index = λ energy accepted. answered.seen _ fits;

@@ -1,6 +1,5 @@
 -- `first_half::fit_site` meets its contract. Each way out rests on the verdict that led there, by the laws of proofs/FirstHalf.antt.
 -- Assumes nothing.
-use borrow.Author.Rules.{rules}
 use Rattle.site.proofs.HeldSites.{held_count, held_small, held_top, held_bounds_small}
 use Rattle.audit.proofs.FirstHalf.{refused_fits, plan_refused, plan_fits, site_left}
 use Rattle.audit.proofs.first_half.fit_site.Goals as goal
@@ -14,7 +13,7 @@ pub returns-in-Refused : goal.returns-in-Refused
 returns-in-Refused c =
     record {
       judged = λ site valid holds.
-          plan_refused valid holds _ _ _ _ _ c.fit-verdict.ensures _ _ c.verdict-1.given.1;
+          plan_refused valid holds _ _ _ _ _ c.fit-verdict.ensures _ _ c.in-Refused.is;
       left = λ energy. refused_fits;
       seen = λ energy. refused_fits;
     }
@@ -27,7 +26,7 @@ energy_figure-requires c =
 pub returns : goal.returns
 returns c =
     let fitted = c.fit-verdict.ensures in
-    let passes = c.enum_told-1.given.1 in
+    let passes = c.in_default.is in
     record {
       judged = λ site valid holds. plan_fits valid holds _ _ _ _ _ fitted passes _ c.energy_figure.ensures;
       left = λ energy fits site valid holds. site_left valid holds _ _ _ _ _ fitted passes;

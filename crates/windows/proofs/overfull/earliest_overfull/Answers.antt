@@ -1,20 +1,18 @@
 use mathlib.Core.Path.{◌≡◌, sym, ◌∙◌}
-use mathlib.Core.Bool.{true}
-use mathlib.Core.Logic.{⊎_elim}
+use mathlib.Core.Bool.{true, false}
 use mathlib.Core.List.{List}
-use Prim.Native.Nat.{ℕ, ◌-◌, ◌≤◌}
+use Prim.Native.Nat.{ℕ, ◌≤◌}
 use native.Mathlib.Numerals.{add-one}
 use native.Mathlib.Omega.{arith}
-use borrow.Author.Tests.{not-true, not-false}
 use Rattle.model.specs.declared.Job.{Job}
 use Rattle.model.specs.Limits.{max_intervals}
 use Rattle.model.specs.Intervals.{bound_at}
-use Rattle.job_sets.specs.JobSets.{in_both}
+use Rattle.job_sets.specs.JobSets.{is_empty, in_both}
 use Rattle.job_sets.specs.IntervalSets.{set_in}
-use Rattle.windows.specs.WindowTests.{TestArrays, EndTested}
-use Rattle.windows.proofs.StartSteps.{is_release, Passed, passed_none, no-release, some_release, passed_over, added_within, added_until, additions_few, passed_on, found_here, passed_all}
+use Rattle.windows.specs.WindowTests.{TestArrays}
+use Rattle.windows.proofs.StartSteps.{is_release, passed_none, no-release, some_release, passed_over, added_within, added_until, additions_few, passed_on, found_here, passed_all}
 use Rattle.windows.proofs.overfull.earliest_overfull.Goals as goal
-use Rattle.windows.proofs.overfull.earliest_overfull.Goals.{After-both, After-struct_known-1, At-loop-start, Start, Then-not-is_empty}
+use Rattle.windows.proofs.overfull.earliest_overfull.Goals.{After-both, Start, then-not-is_empty+else-end-lt-MAX_BOUNDS, else-not-is_empty}
 
 -- the intervals are few
 few : (c : Start) → c.args.intervals ≤ max_intervals
@@ -31,33 +29,20 @@ here-are : (c : After-both)
     → c.both.result ≡ in_both (set_in c.args.sets.now c.loop-start.start) c.loop-start.from
 here-are c = rw (← c.set_at-here.ensures) c.both.ensures
 
--- what is passed, of the jobs that are known
-passed : (c : At-loop-start)
-    → let (jobs, bounds, arrays) = c.requires.by_index in
-    Passed c.args.top jobs bounds c.loop-start.start c.loop-start.from c.loop-start.additions
-passed c = let (jobs, bounds, arrays) = c.requires.by_index in c.loop-start.invariant.1 jobs bounds arrays
-
 pub overfull_end-test-requires : goal.overfull_end-test-requires
 overfull_end-test-requires c =
     let (jobs, bounds, arrays) = c.requires.by_index in
-    record { by_index = (jobs, bounds, arrays, (passed (goal.at.overfull_end-test-requires c).At-loop-start).released); top_le_max_frequency = (c.requires.top_le_max_frequency, c.loop-start-test.true) }
+    record { by_index = (jobs, bounds, arrays, (c.loop-start.invariant.1 jobs bounds arrays).released); top_le_max_frequency = (c.requires.top_le_max_frequency, c.loop-start-test.true) }
 
 -- the start is a release
-released : (c : Then-not-is_empty)
+released : (c : After-both)
+    → is_empty c.both.result ≡ false
     → let a = c.args in
     (jobs : List Job) (bounds : List ℕ) → TestArrays jobs bounds a.times.now a.cycles.now a.sets.now a.intervals
     → is_release jobs bounds c.loop-start.start ≡ true
-released c = λ jobs bounds arrays.
+released c found = λ jobs bounds arrays.
     some_release arrays _ _ c.loop-start-test.true _ _ (c.loop-start.invariant.1 jobs bounds arrays)
-    (rw (← here-are c.before.before) (sym c.is_empty.ensures ∙ not-true _ c.if-not-is_empty.true-raw))
-
--- its windows are tested
-tested : (c : After-struct_known-1)
-    → let a = c.args in
-    (jobs : List Job) (bounds : List ℕ) → TestArrays jobs bounds a.times.now a.cycles.now a.sets.now a.intervals
-    → EndTested a.top jobs bounds c.loop-start.start c.overfull_end-test.result.end c.overfull_end-test.result.additions
-tested c = λ jobs bounds arrays.
-    c.overfull_end-test.ensures jobs bounds arrays (c.loop-start.invariant.1 jobs bounds arrays).released
+    (rw (← here-are c) found)
 
 pub overflow_add-additions : goal.overflow_add-additions
 overflow_add-additions c =
@@ -65,8 +50,8 @@ overflow_add-additions c =
     omega (
       arith,
       additions_few arrays c.args.top,
-      added_within arrays _ _ c.loop-start-test.true _ _ (passed (goal.at.overflow_add-additions c).At-loop-start)
-          (released (goal.at.overflow_add-additions c).Then-not-is_empty jobs bounds arrays) _ _ (tested (goal.at.overflow_add-additions c).After-struct_known-1 jobs bounds arrays),
+      added_within arrays _ _ c.loop-start-test.true _ _ (c.loop-start.invariant.1 jobs bounds arrays)
+          (released (goal.at.overflow_add-additions c).After-both (sym c.is_empty.ensures ∙ c.if-not-is_empty.true) jobs bounds arrays) _ _ (c.overfull_end-test.ensures jobs bounds arrays (c.loop-start.invariant.1 jobs bounds arrays).released),
     )
 
 pub offset_bounds-times-start : goal.offset_bounds-times-start
@@ -85,11 +70,11 @@ bounds-times-end c = c.if-end-lt-MAX_BOUNDS.true
 
 pub returns-then-end-lt-MAX_BOUNDS : goal.returns-then-end-lt-MAX_BOUNDS
 returns-then-end-lt-MAX_BOUNDS c = λ jobs bounds arrays.
-    let is = released (goal.at.returns-then-end-lt-MAX_BOUNDS c).Then-not-is_empty jobs bounds arrays in
+    let is = released (goal.at.returns-then-end-lt-MAX_BOUNDS c).After-both (sym c.is_empty.ensures ∙ c.if-not-is_empty.true) jobs bounds arrays in
     let hit = c.if-end-lt-MAX_BOUNDS.true in
     let inside = c.loop-start-test.true in
     let before = c.loop-start.invariant.1 jobs bounds arrays in
-    let here = tested (goal.at.returns-then-end-lt-MAX_BOUNDS c).After-struct_known-1 jobs bounds arrays in
+    let here = c.overfull_end-test.ensures jobs bounds arrays before.released in
     let found = found_here arrays _ _ inside _ _ before is _ _ here hit in
     let (after, last) = here.inside hit in
     record {
@@ -115,24 +100,24 @@ pub loop-start-smaller : goal.loop-start-smaller
 loop-start-smaller c = omega (arith, c.loop-start-test.true)
 
 pub loop-start-preserved : goal.loop-start-preserved
-loop-start-preserved c =
-(
-      omega (arith, c.loop-start-test.true),
-      λ jobs bounds arrays.
-          let before = c.loop-start.invariant.1 jobs bounds arrays in
-          rw (add-one c.loop-start.start, c.less-from.ensures, c.set_at-here.ensures)
-          (⊎_elim
-          (λ w.
-          rw w.4
-          (passed_on arrays _ _ c.loop-start-test.true _ _ before (released (record { before = (goal.at.loop-start-preserved c).After-is_empty; if1 = w.0 }) jobs bounds arrays) _ _
-          (w.1.ensures jobs bounds arrays before.released) w.3.left))
-          (λ w.
-          rw w.1
-          (passed_over arrays _ _ c.loop-start-test.true _ _ before
-          (no-release arrays _ _ c.loop-start-test.true _ _ before
-          (rw (← here-are (goal.at.loop-start-preserved c).After-both) (sym c.is_empty.ensures ∙ not-false _ w.0.left)))))
-          c.if-not-is_empty.branch),
-    )
+loop-start-preserved c = (
+  omega (arith, c.loop-start-test.true),
+  λ jobs bounds arrays.
+      let before = c.loop-start.invariant.1 jobs bounds arrays in
+      rw (add-one c.loop-start.start, c.less-from.ensures, c.set_at-here.ensures)
+      (elim c.if-not-is_empty.branch [
+        | then-not-is_empty+else-end-lt-MAX_BOUNDS w ↦
+            rw w.additions-is
+            (passed_on arrays _ _ c.loop-start-test.true _ _ before
+            (released (goal.at.loop-start-preserved c).After-both (sym c.is_empty.ensures ∙ w.if-not-is_empty.true) jobs bounds arrays) _ _
+            (w.overfull_end-test.ensures jobs bounds arrays before.released) w.if-end-lt-MAX_BOUNDS.false)
+        | else-not-is_empty w ↦
+            rw w.additions-is
+            (passed_over arrays _ _ c.loop-start-test.true _ _ before
+            (no-release arrays _ _ c.loop-start-test.true _ _ before
+            (rw (← here-are (goal.at.loop-start-preserved c).After-both) (sym c.is_empty.ensures ∙ w.if-not-is_empty.false))))
+      ]),
+)
 
 pub returns : goal.returns
 returns c = λ jobs bounds arrays.

@@ -2,7 +2,6 @@ use mathlib.Core.Path.{◌≡◌, refl, sym, ◌∙◌}
 use Prim.Native.Nat.{◌+◌, ◌<◌}
 use native.Mathlib.Omega.{arith}
 use lib.ListN.{get_or}
-use borrow.Author.Tests.{not-true, not-false}
 use Rattle.model.specs.Limits.{max_jobs}
 use Rattle.job_sets.specs.JobSets.{member_count, without_job}
 use Rattle.windows.specs.RunningSums.{total_over}
@@ -18,7 +17,7 @@ turn : (c : After-least-job)
     (job < max_jobs) × (total_over rest numbers ≡ total_over (without_job rest job) numbers + get_or numbers job 0)
     × (member_count rest ≡ member_count (without_job rest job) + 1)
 turn c =
-    let some = sym c.is_empty.ensures ∙ not-true _ c.loop-rest-test.true-raw in
+    let some = sym c.is_empty.ensures ∙ c.loop-rest-test.true in
     total_turn _ _ _ _ some c.least-job.ensures refl
 
 pub loop-rest-init : goal.loop-rest-init
@@ -49,6 +48,6 @@ loop-rest-preserved c =
 
 pub returns : goal.returns
 returns c =
-    let empty = sym c.is_empty.ensures ∙ not-false _ c.loop-rest-test.false-raw in
+    let empty = sym c.is_empty.ensures ∙ c.loop-rest-test.false in
     let inv = c.loop-rest.invariant in
     (omega (arith, inv, total_empty _ c.args.cycles.now empty), omega (arith, inv, count_empty _ empty))

@@ -1,14 +1,9 @@
 -- `sums::add_jobs` meets its contract. The loop's invariant: what is added and what the rest adds up to are the whole.
 -- Assumes nothing.
-use mathlib.Core.Path.{◌≡◌, refl, sym, ◌∙◌}
-use Prim.Native.Nat.{◌+◌, ◌<◌}
-use native.Mathlib.Omega.{arith}
-use lib.ListN.{get_or}
-use borrow.Author.Tests.{not-true, not-false}
-use Rattle.model.specs.Limits.{max_jobs}
-use Rattle.job_sets.specs.JobSets.{member_count, without_job}
+use mathlib.Core.Path.{◌≡◌}
+use Prim.Native.Nat.{◌+◌}
+use Rattle.job_sets.specs.JobSets.{member_count}
 use Rattle.windows.specs.RunningSums.{total_over}
-use Rattle.windows.proofs.SetTotals.{total_empty, count_empty, total_turn}
 use Rattle.windows.proofs.sums.add_jobs.Given as goal
 
 abbrev pub invariant-loop-rest : goal.invariant-loop-rest
