@@ -20,10 +20,6 @@ overfull-text : (start end : ℕ) (spare : ℤ) → SFits w64 spare
 unfolding overfull_line
 overfull-text start end spare fits = rw (to_z-of_z fits)
 
--- UNCONVERTED slice-aggregate-put-bytes
--- slice-aggregate-put-bytes : tie.Need-slice-aggregate-put-bytes
--- slice-aggregate-put-bytes c = search rules
-
 pub returns : goal.returns
 returns c =
     let spare-and-end = appended_then _ _ c.put_signed-last.ensures c.put_byte.ensures in

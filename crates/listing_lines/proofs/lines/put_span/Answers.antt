@@ -6,14 +6,10 @@ use Rattle.listing_lines.proofs.AppendedText.{appended_as}
 use Rattle.listing_lines.proofs.LineTexts.{never_refused, span_text}
 use Rattle.listing_lines.proofs.lines.put_span.Goals as goal
 
--- UNCONVERTED slice-aggregate-put-line-2
--- slice-aggregate-put-line-2 : tie.Need-slice-aggregate-put-line-2
--- slice-aggregate-put-line-2 c = search rules
-
 pub returns-in-Set : goal.returns-in-Set
 returns-in-Set c =
     appended_as _ _ c.put_line.ensures _ _
-    (span_text _ _ _ _ _ _ c.setting_of-set.ensures _ _ _ c.set-1.given.1) (omega arith)
+    (span_text _ _ _ _ _ _ c.setting_of-set.ensures _ _ _ c.in-Set.is) (omega arith)
 
 pub returns-in-Refused : goal.returns-in-Refused
-returns-in-Refused c = absurd (never_refused _ _ c.setting_of-set.ensures _ _ c.enum_told-1.given.1)
+returns-in-Refused c = absurd (never_refused _ _ c.setting_of-set.ensures _ _ c.in-Refused.is)

@@ -6,10 +6,6 @@ use Rattle.listing_lines.proofs.AppendedText.{appended_none, appended_as}
 use Rattle.listing_lines.proofs.LineTexts.{no_step_text, step_text}
 use Rattle.listing_lines.proofs.lines.put_step.Goals as goal
 
--- UNCONVERTED slice-aggregate-put-line-2
--- slice-aggregate-put-line-2 : tie.Need-slice-aggregate-put-line-2
--- slice-aggregate-put-line-2 c = search rules
-
 pub returns-then-share-gt0 : goal.returns-then-share-gt0
 returns-then-share-gt0 c = appended_as _ _ c.put_line.ensures _ _ (step_text _ _ _ c.if-share-gt0.true) (omega arith)
 

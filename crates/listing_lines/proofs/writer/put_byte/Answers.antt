@@ -1,16 +1,18 @@
 -- `writer::put_byte` meets its contract: a byte that has room is stored, and another is left out.
 -- Assumes nothing.
 use mathlib.Core.List.{[], ◌∷◌}
-use mathlib.Core.Logic.{⊎_elim}
 use Prim.Native.Nat.{◌+◌}
 use borrow.Author.Rules.{rules}
 use Rattle.listing_lines.specs.Appending.{Appended}
 use Rattle.listing_lines.proofs.AppendedText.{appended_one, appended_past, same_room}
 use Rattle.listing_lines.proofs.writer.put_byte.Goals as goal
-use Rattle.listing_lines.proofs.writer.put_byte.Goals.{Joined-place-text}
+use Rattle.listing_lines.proofs.writer.put_byte.Goals.{Joined-place-text, then-place-text, else-place-text}
 
 put : (c : Joined-place-text) → let a = c.args in Appended a.text.now a.place (a.byte ∷ []) 1 c.if-place-text.text (a.place + 1)
-put c = ⊎_elim (λ w. rw w.1 (appended_one _ _ _)) (λ w. rw w.1 (appended_past _ _ _ w.0.left)) c.if-place-text.branch
+put c = elim c.if-place-text.branch [
+  | then-place-text w ↦ rw w.text-is (appended_one _ _ _)
+  | else-place-text w ↦ rw w.text-is (appended_past _ _ _ w.if-place-text.false)
+]
 
 pub shape_of-text : goal.shape_of-text
 shape_of-text c = same_room _ _ (put (goal.at.shape_of-text c).Joined-place-text)
