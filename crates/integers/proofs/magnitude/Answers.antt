@@ -10,7 +10,6 @@ use lib.Dec.{T}
 use mir.Syntax.{w64}
 use mir.Val.{SFits, to_z, of_z}
 use mir.Facts.{Fits-nat_abs, to_z-of_z}
-use borrow.Author.Rules.{rules}
 use borrow.Author.Tests.{ltb-true}
 use Rattle.integers.proofs.magnitude.Goals as goal
 

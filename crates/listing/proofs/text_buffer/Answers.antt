@@ -1,7 +1,6 @@
--- `listing::text_buffer` meets its contract. Assumes nothing.
-use mathlib.Core.Path.{sym}
-use Prim.Native.Nat.{ℕ}
-use lib.ListN.{length-replicate}
+-- The buffer has the length that it is made with.
+use Rattle.std.proofs.Common.{ℕ, sym}
+use Rattle.std.proofs.lemmas.List.{length-replicate}
 use Rattle.listing_lines.specs.Appending.{text_room}
 use Rattle.listing.proofs.text_buffer.Goals as goal
 

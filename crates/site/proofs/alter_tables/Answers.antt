@@ -1,5 +1,4 @@
 -- `alter_tables` meets its contract, by the laws of proofs/ReadSites.antt. Assumes nothing.
-use borrow.Author.Rules.{rules}
 use Rattle.level_tables.proofs.Read.{levels_count}
 use Rattle.parameters.proofs.KeptLevels.{levels_kept, levels_limited}
 use Rattle.site.proofs.ReadSites.{given_levels, highest_refused}

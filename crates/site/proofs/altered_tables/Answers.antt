@@ -2,7 +2,6 @@
 use mathlib.Core.Path.{refl}
 use Prim.Native.Nat.{◌≤◌}
 use native.Mathlib.Omega.{arith}
-use borrow.Author.Rules.{rules}
 use Rattle.model.specs.Limits.{max_levels}
 use Rattle.model.specs.LevelTables.{ValidLevelTable}
 use Rattle.level_tables.specs.Tables.{levels_in}

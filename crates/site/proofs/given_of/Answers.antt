@@ -1,6 +1,5 @@
 -- `given_of` meets its contract, by the laws of proofs/ReadSites.antt. Assumes nothing.
 use mathlib.Core.Path.{refl}
-use borrow.Author.Rules.{rules}
 use Rattle.job_tables.proofs.Read.{jobs_decoded_refused, jobs_decoded, decoded_deadlines_padded, decoded_padded}
 use Rattle.site.proofs.ReadSites.{jobs_refused, both_read}
 use Rattle.site.proofs.given_of.Goals as goal

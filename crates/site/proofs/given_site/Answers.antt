@@ -1,5 +1,4 @@
 -- `given_site` meets its contract, by the laws of proofs/ReadSites.antt. Assumes nothing.
-use borrow.Author.Rules.{rules}
 use Rattle.mark_tables.proofs.MarksIn.{marks_read, marks_few, marks_read_refused}
 use Rattle.site.proofs.ReadSites.{marks_refused, marks_then}
 use Rattle.site.proofs.given_site.Goals as goal

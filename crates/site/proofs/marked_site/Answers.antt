@@ -1,5 +1,4 @@
 -- `marked_site` meets its contract, by the laws of proofs/ReadSites.antt. Assumes nothing.
-use borrow.Author.Rules.{rules}
 use Rattle.model.proofs.Sites.{altered_tables_valid}
 use Rattle.site.proofs.ReadSites.{parameters_refused, parameters_then, refused-tables, held_tables}
 use Rattle.site.proofs.HeldSites.{pair_count, pair_ordered}

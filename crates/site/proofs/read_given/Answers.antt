@@ -1,5 +1,4 @@
 -- `read_given` meets its contract, by the laws of proofs/ReadSites.antt. Assumes nothing.
-use borrow.Author.Rules.{rules}
 use Rattle.level_tables.proofs.Read.{levels_read, levels_read_refused}
 use Rattle.site.proofs.ReadSites.{levels_refused}
 use Rattle.site.proofs.read_given.Goals as goal

@@ -1,5 +1,4 @@
 -- `read_tables` meets its contract, by the laws of proofs/ReadSites.antt. Assumes nothing.
-use borrow.Author.Rules.{rules}
 use Rattle.site.proofs.ReadSites.{given_valid, tables_refused, tables_after, tables_refused_first, refused-given, held_given}
 use Rattle.site.proofs.read_tables.Goals as goal
 

@@ -1,10 +1,9 @@
-use mathlib.Core.Path.{◌≡◌, ◌∙◌, ap}
-use Prim.Native.Nat.{◌-◌, ◌≤◌}
+use mathlib.Core.Path.{◌∙◌, ap}
+use Prim.Native.Nat.{◌≤◌}
 use native.Mathlib.Omega.{arith}
 use lib.ListN.{length, get_or}
 use Rattle.model.specs.Limits.{max_intervals}
 use Rattle.job_sets.proofs.IntervalSets.{sets_size}
-use Rattle.intervals.specs.OpenSets.{open_sets}
 use Rattle.intervals.proofs.OpenSets.{open_none, open_more, open_whole}
 use Rattle.intervals.proofs.opening.open_sets.Goals as goal
 use Rattle.intervals.proofs.opening.open_sets.Goals.{After-way_told-1}

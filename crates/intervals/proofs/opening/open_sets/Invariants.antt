@@ -1,13 +1,8 @@
 -- `opening::open_sets` meets its contract. The loop's invariant: the sets have the first `j` jobs where they are open
 -- (proofs/OpenSets.antt). Assumes nothing.
-use mathlib.Core.Path.{◌≡◌, ◌∙◌, ap}
+use mathlib.Core.Path.{◌≡◌}
 use Prim.Native.Nat.{◌-◌, ◌≤◌}
-use native.Mathlib.Omega.{arith}
-use lib.ListN.{length, get_or}
-use Rattle.model.specs.Limits.{max_intervals}
-use Rattle.job_sets.proofs.IntervalSets.{sets_size}
 use Rattle.intervals.specs.OpenSets.{open_sets}
-use Rattle.intervals.proofs.OpenSets.{open_none, open_more, open_whole}
 use Rattle.intervals.proofs.opening.open_sets.Given as goal
 
 abbrev pub invariant-loop-j : goal.invariant-loop-j

@@ -1,5 +1,4 @@
 use mathlib.Core.Path.{◌≡◌, sym, ◌∙◌, refl}
-use mathlib.Core.Logic.{⊎_elim}
 use mathlib.Core.List.{List}
 use mathlib.Core.Option.{none}
 use Prim.Native.Nat.{ℕ, ◌-◌, ◌≤◌}
@@ -15,11 +14,12 @@ use Rattle.job_rooms.specs.RoomArrays.{RoomArrays}
 use Rattle.job_rooms.proofs.RoomSteps.{Taken, taken_none, capacity_fits, all_few, ends_small, can_lower, can-settle, taken_over, taken_on, taken_all}
 use native.Mathlib.Omega.{arith}
 use Rattle.job_rooms.proofs.rooms.job_rooms.Goals as goal
-use Rattle.job_rooms.proofs.rooms.job_rooms.Goals.{After-both-released, Start}
+use Rattle.job_rooms.proofs.rooms.job_rooms.Goals.{After-both-released, then-not-is_empty, else-not-is_empty}
 
 -- the intervals are few
-few : (c : Start) → c.args.intervals ≤ max_intervals
-few c = let (jobs, bounds, arrays, fits) = c.requires.by_index in omega (arith, arrays.tests.counted, arrays.tests.few)
+few-intervals : {jobs : List Job} {bounds times cycles sets last : List ℕ} {count intervals : ℕ}
+    → RoomArrays jobs bounds times cycles sets last count intervals → intervals ≤ max_intervals
+few-intervals arrays = omega (arith, arrays.tests.counted, arrays.tests.few)
 
 -- without jobs there are no rooms
 pub returns-then-count-eq0 : goal.returns-then-count-eq0
@@ -28,7 +28,7 @@ returns-then-count-eq0 c = λ jobs bounds arrays fits j below. absurd (omega (ar
 pub capacities-requires : goal.capacities-requires
 capacities-requires c =
     let (jobs, bounds, arrays, fits) = c.requires.by_index in
-    (few (goal.at.capacities-requires c).Start, length-replicate {A = ℕ} max_bounds 0, capacity_fits arrays _ c.requires.top_le_max_frequency.0 fits (omega (arith, c.if-count-eq0.false)))
+    (few-intervals arrays, length-replicate {A = ℕ} max_bounds 0, capacity_fits arrays _ c.requires.top_le_max_frequency.0 fits (omega (arith, c.if-count-eq0.false)))
 
 pub add_due-requires : goal.add_due-requires
 add_due-requires c =
@@ -37,15 +37,16 @@ add_due-requires c =
     record { jobs_le_max_jobs = (omega (arith, arrays.counted, arrays.tests.valid.few), all_few arrays _ slow fits, ends_small arrays _ slow fits); due_value = refl }
 
 pub loop-start-init : goal.loop-start-init
-loop-start-init c =
-(
-      omega arith,
-      λ jobs bounds arrays fits.
-          rw c.all-from.ensures (taken_none arrays _ c.requires.top_le_max_frequency.0 fits _ _ c.add_due.ensures.0 c.add_due.ensures.1 c.requires.top_le_max_frequency.1),
-    )
+loop-start-init c = (
+  omega arith,
+  λ jobs bounds arrays fits.
+      rw c.all-from.ensures (taken_none arrays _ c.requires.top_le_max_frequency.0 fits _ _ c.add_due.ensures.0 c.add_due.ensures.1 c.requires.top_le_max_frequency.1),
+)
 
 pub set_at-here-requires : goal.set_at-here-requires
-set_at-here-requires c = omega (arith, c.loop-start-test.true, few (goal.at.set_at-here-requires c).Start)
+set_at-here-requires c =
+    let (jobs, bounds, arrays, fits) = c.requires.by_index in
+    omega (arith, c.loop-start-test.true, few-intervals arrays)
 
 -- the jobs released at the start
 here-are : (c : After-both-released)
@@ -68,7 +69,8 @@ settle_rooms-requires c =
 
 pub overflow_add-start : goal.overflow_add-start
 overflow_add-start c =
-    omega (arith, c.loop-start-test.true, few (goal.at.overflow_add-start c).Start)
+    let (jobs, bounds, arrays, fits) = c.requires.by_index in
+    omega (arith, c.loop-start-test.true, few-intervals arrays)
 
 pub loop-start-smaller : goal.loop-start-smaller
 loop-start-smaller c = omega (arith, c.loop-start-test.true)
@@ -81,17 +83,17 @@ loop-start-preserved c =
       λ jobs bounds arrays fits.
           let taken = c.loop-start.invariant.1 jobs bounds arrays fits in
           rw (add-one c.loop-start.start, c.less-from.ensures, c.set_at-here.ensures)
-          (⊎_elim
-          (λ w.
-          rw (w.9, w.10, w.11)
-          (taken_on arrays _ slow fits _ inside _ _ _ _ taken _ c.capacities.ensures _
-          (w.4.ensures _ (can_lower arrays _ slow fits _ inside _ _ _ _ taken _ c.capacities.ensures)) _ _
-          (rw (here-are (goal.at.loop-start-preserved c).After-both-released) at w.8.ensures)))
-          (λ w.
-          rw (w.1, w.2, w.3)
-          (taken_over arrays _ slow fits _ inside _ _ _ _ taken
-          (rw (← here-are (goal.at.loop-start-preserved c).After-both-released) (sym c.is_empty.ensures ∙ not-false _ w.0.left))))
-          c.if-not-is_empty.branch),
+          (elim c.if-not-is_empty.branch [
+            | then-not-is_empty w ↦
+                rw (w.due-is, w.spares-is, w.rooms-is)
+                (taken_on arrays _ slow fits _ inside _ _ _ _ taken _ c.capacities.ensures _
+                (w.lower_spares.ensures _ (can_lower arrays _ slow fits _ inside _ _ _ _ taken _ c.capacities.ensures)) _ _
+                (rw (here-are (goal.at.loop-start-preserved c).After-both-released) at w.settle_rooms.ensures))
+            | else-not-is_empty w ↦
+                rw (w.due-is, w.spares-is, w.rooms-is)
+                (taken_over arrays _ slow fits _ inside _ _ _ _ taken
+                (rw (← here-are (goal.at.loop-start-preserved c).After-both-released) (sym c.is_empty.ensures ∙ not-false _ w.if-not-is_empty.false-raw)))
+          ]),
     )
 
 pub returns : goal.returns

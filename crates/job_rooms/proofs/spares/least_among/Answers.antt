@@ -1,9 +1,9 @@
 use mathlib.Core.Path.{refl}
-use mathlib.Core.Logic.{⊎_elim}
 use Prim.Native.Nat.{◌+◌, ◌-◌, ◌≤◌}
 use native.Mathlib.Omega.{arith}
 use Rattle.job_rooms.proofs.SpareSteps.{LeastSoFar, so_far_first, so_far_lower, so_far_kept, so_far_done}
 use Rattle.job_rooms.proofs.spares.least_among.Goals as goal
+use Rattle.job_rooms.proofs.spares.least_among.Goals.{then-numbers-i, else-numbers-i}
 
 pub offset_bounds-numbers-first : goal.offset_bounds-numbers-first
 offset_bounds-numbers-first c = omega arith
@@ -39,7 +39,10 @@ pub loop-i-preserved : goal.loop-i-preserved
 loop-i-preserved c =
     let inv = c.loop-i.invariant in (
       omega arith,
-      ⊎_elim (λ w. rw w.2 (so_far_lower _ _ _ _ inv.1 _ refl w.0.taken)) (λ w. rw w.1 (so_far_kept _ _ _ _ inv.1 w.0.left)) c.if-numbers-i.branch,
+      elim c.if-numbers-i.branch [
+        | then-numbers-i w ↦ rw w.least-is (so_far_lower _ _ _ _ inv.1 _ refl w.if-numbers-i.true)
+        | else-numbers-i w ↦ rw w.least-is (so_far_kept _ _ _ _ inv.1 w.if-numbers-i.false)
+      ],
     )
 
 pub returns : goal.returns

@@ -1,6 +1,4 @@
-use Prim.Native.Nat.{◌-◌, ◌≤◌, max}
 use native.Mathlib.Omega.{arith}
-use Rattle.job_sets.specs.IntervalSets.{AddedRange}
 use Rattle.job_sets.proofs.Ranges.{range_none, range_more, range_whole}
 use Rattle.job_sets.proofs.by_interval.add_range.Goals as goal
 

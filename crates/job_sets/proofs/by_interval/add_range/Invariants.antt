@@ -1,9 +1,7 @@
 -- `by_interval::add_range` meets its contract. The loop's invariant: the sets of the intervals passed have the job
 -- (proofs/Ranges.antt). Assumes nothing.
 use Prim.Native.Nat.{◌-◌, ◌≤◌, max}
-use native.Mathlib.Omega.{arith}
 use Rattle.job_sets.specs.IntervalSets.{AddedRange}
-use Rattle.job_sets.proofs.Ranges.{range_none, range_more, range_whole}
 use Rattle.job_sets.proofs.by_interval.add_range.Given as goal
 
 abbrev pub invariant-loop-i : goal.invariant-loop-i

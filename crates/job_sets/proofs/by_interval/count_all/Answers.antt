@@ -1,11 +1,7 @@
-use mathlib.Core.Path.{◌≡◌, refl, ◌∙◌, ap}
-use Prim.Native.Nat.{◌-◌, ◌*◌, ◌≤◌}
+use mathlib.Core.Path.{refl, ◌∙◌, ap}
 use native.Mathlib.Omega.{arith}
-use Rattle.model.specs.Limits.{max_jobs}
-use Rattle.model.specs.Sum.{sum}
 use Rattle.model.proofs.Sum.{sum_none, sum_more, sum_whole}
 use Rattle.job_sets.specs.JobSets.{member_count}
-use Rattle.job_sets.specs.IntervalSets.{set_in}
 use Rattle.job_sets.proofs.JobSets.{count_most}
 use Rattle.job_sets.proofs.by_interval.count_all.Goals as goal
 

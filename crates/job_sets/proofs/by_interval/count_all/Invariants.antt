@@ -1,14 +1,11 @@
 -- `by_interval::count_all` meets its contract. The loop's invariant: the members are those of the first `i` sets, at most
 -- max_jobs each. Assumes nothing.
-use mathlib.Core.Path.{◌≡◌, refl, ◌∙◌, ap}
+use mathlib.Core.Path.{◌≡◌}
 use Prim.Native.Nat.{◌-◌, ◌*◌, ◌≤◌}
-use native.Mathlib.Omega.{arith}
 use Rattle.model.specs.Limits.{max_jobs}
 use Rattle.model.specs.Sum.{sum}
-use Rattle.model.proofs.Sum.{sum_none, sum_more, sum_whole}
 use Rattle.job_sets.specs.JobSets.{member_count}
 use Rattle.job_sets.specs.IntervalSets.{set_in}
-use Rattle.job_sets.proofs.JobSets.{count_most}
 use Rattle.job_sets.proofs.by_interval.count_all.Given as goal
 
 abbrev pub invariant-loop-i : goal.invariant-loop-i

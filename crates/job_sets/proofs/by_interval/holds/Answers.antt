@@ -1,5 +1,4 @@
 -- `by_interval::holds` meets its contract. Assumes nothing.
-use borrow.Author.Rules.{rules}
 use Rattle.job_sets.proofs.by_interval.holds.Goals as goal
 
 pub returns : goal.returns

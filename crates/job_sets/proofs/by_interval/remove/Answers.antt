@@ -1,6 +1,5 @@
 -- `by_interval::remove` meets its contract. Assumes nothing.
 use mathlib.Core.Path.{◌∙◌, ap}
-use borrow.Author.Rules.{rules}
 use Rattle.job_sets.specs.declared.JobSet.{JobSet}
 use Rattle.job_sets.specs.JobSets.{without_job}
 use Rattle.job_sets.proofs.IntervalSets.{stored_less}

@@ -4,7 +4,6 @@ use native.Mathlib.Omega.{arith}
 use lib.Pow.{pow_pos, pow-lt}
 use lib.Bits.{bit_and, and_lt}
 use lib.Count.{ones-le}
-use borrow.Author.Rules.{rules}
 use Rattle.model.proofs.OpenSets.{bit_shifted}
 use Rattle.job_sets.proofs.SetWords.{count_below_word}
 use Rattle.job_sets.proofs.members.count_below.Goals as goal

@@ -1,5 +1,4 @@
 -- `members::has` meets its contract. Assumes nothing.
-use borrow.Author.Rules.{rules}
 use borrow.Author.Tests.{lt-ltb}
 use Rattle.model.specs.Limits.{max_jobs}
 use Rattle.job_sets.specs.JobSets.{is_member}

@@ -1,6 +1,5 @@
 -- `members::with` meets its contract. Assumes nothing.
 use native.Mathlib.Omega.{arith}
-use borrow.Author.Rules.{rules}
 use Rattle.model.proofs.OpenSets.{bit_shifted}
 use Rattle.job_sets.proofs.SetWords.{with_word}
 use Rattle.job_sets.proofs.members.with.Goals as goal

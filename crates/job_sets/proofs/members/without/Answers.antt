@@ -1,6 +1,5 @@
 -- `members::without` meets its contract. Assumes nothing.
 use native.Mathlib.Omega.{arith}
-use borrow.Author.Rules.{rules}
 use Rattle.model.proofs.OpenSets.{bit_shifted}
 use Rattle.job_sets.proofs.SetWords.{without_word}
 use Rattle.job_sets.proofs.members.without.Goals as goal

@@ -1,14 +1,8 @@
 -- `jobs::check_jobs` meets its contract. The loop's invariant: no entry passed has a fault. What the reading then
 -- answers is in proofs/ByEntry.antt of the crate reading. Assumes nothing.
-use mathlib.Core.List.{List}
-use mathlib.Core.Path.{◌≡◌, ◌∙◌, sym, ap}
+use mathlib.Core.Path.{◌≡◌}
 use Prim.Native.Nat.{ℕ, ◌-◌, ◌≤◌, ◌<◌}
-use native.Mathlib.Omega.{arith}
-use lib.ListN.{get_or}
-use borrow.Author.Count.{below_none, below_more}
-use Rattle.model.specs.Jobs.{job_of, fault_of_job, job_fault}
-use Rattle.model.proofs.Entries.{length_list_of, get_d_list_of}
-use Rattle.reading.proofs.ByEntry.{reading_stops, reading_passes}
+use Rattle.model.specs.Jobs.{job_fault}
 use Rattle.job_tables.specs.Tables.{jobs_in}
 use Rattle.job_tables.proofs.jobs.check_jobs.Given as goal
 

@@ -1,7 +1,6 @@
 -- `jobs::decode_jobs` meets its contract. Each way out rests on the tests that led there and on what the callees ensure, by
 -- the laws of proofs/DecodedJobs.antt. Assumes nothing.
 use native.Mathlib.Omega.{arith}
-use borrow.Author.Rules.{rules}
 use Rattle.job_tables.proofs.DecodedJobs.{decoded_refused, jobs_short, jobs_many, jobs_cut, jobs_decoded_whole}
 use Rattle.job_tables.proofs.jobs.decode_jobs.Goals as goal
 

@@ -1,5 +1,4 @@
 -- `jobs::read_jobs` meets its contract: what `decode_jobs` has decoded is the answer. Assumes nothing.
-use borrow.Author.Rules.{rules}
 use Rattle.job_tables.proofs.DecodedJobs.{decoded_table}
 use Rattle.job_tables.proofs.jobs.read_jobs.Goals as goal
 

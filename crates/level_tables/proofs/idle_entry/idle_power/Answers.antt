@@ -1,5 +1,4 @@
 -- `idle_entry::idle_power` meets its contract. Each way out rests on the test that led there. Assumes nothing.
-use borrow.Author.Rules.{rules}
 use borrow.Author.Tests.{eq-eqb, ne_eqb}
 use Rattle.level_tables.proofs.idle_entry.idle_power.Goals as goal
 

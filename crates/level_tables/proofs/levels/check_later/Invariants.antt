@@ -1,17 +1,11 @@
 -- `levels::check_later` meets its contract. The loop's invariant: no entry passed has a fault, and `before` is the
 -- entry before entry `i` (proofs/CheckedLevels.antt). What the reading then answers is in proofs/ByEntry.antt
 -- of the crate reading. Assumes nothing.
-use mathlib.Core.Path.{◌≡◌, ◌∙◌, sym, ap}
-use Prim.Native.Nat.{ℕ, ◌+◌, ◌-◌, ◌≤◌, ◌<◌}
-use native.Mathlib.Omega.{arith}
-use borrow.Author.Count.{below_more}
-use Rattle.model.specs.declared.Level.{Level}
-use Rattle.model.specs.Levels.{fault_of_level}
+use mathlib.Core.Path.{◌≡◌}
+use Prim.Native.Nat.{ℕ, ◌-◌, ◌≤◌, ◌<◌}
 use Rattle.model.specs.LevelTables.{table_fault}
-use Rattle.model.proofs.Entries.{length_list_of}
-use Rattle.reading.proofs.ByEntry.{reading_stops, reading_passes}
 use Rattle.level_tables.specs.Tables.{levels_in}
-use Rattle.level_tables.proofs.CheckedLevels.{entry_in, later_fault}
+use Rattle.level_tables.proofs.CheckedLevels.{entry_in}
 use Rattle.level_tables.proofs.levels.check_later.Given as goal
 
 abbrev pub invariant-loop-i : goal.invariant-loop-i

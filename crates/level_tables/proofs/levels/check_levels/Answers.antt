@@ -2,7 +2,6 @@
 -- (proofs/CheckedLevels.antt). Assumes nothing.
 use mathlib.Core.Path.{◌∙◌, ap}
 use native.Mathlib.Omega.{arith}
-use borrow.Author.Rules.{rules}
 use Rattle.reading.specs.Tables.{reading_of}
 use Rattle.level_tables.proofs.CheckedLevels.{first_is, alone, not_alone, first_stops, first_passes}
 use Rattle.level_tables.proofs.levels.check_levels.Goals as goal

@@ -1,7 +1,6 @@
 -- `levels::power_of` meets its contract: a power is at most 1,000 × 500 × 500. Assumes nothing.
 use Prim.Native.Nat.{◌*◌, ◌<◌}
 use native.Mathlib.Omega.{arith}
-use borrow.Author.Rules.{rules}
 use Rattle.level_tables.proofs.Products.{product_below}
 use Rattle.level_tables.proofs.levels.power_of.Goals as goal
 

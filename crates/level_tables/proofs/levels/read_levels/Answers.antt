@@ -2,7 +2,6 @@
 -- ensure, by the laws of proofs/DecodedLevels.antt. Assumes nothing.
 use mathlib.Core.Path.{◌∙◌, ap}
 use native.Mathlib.Omega.{arith}
-use borrow.Author.Rules.{rules}
 use Rattle.level_tables.specs.Tables.{level_table}
 use Rattle.level_tables.proofs.DecodedLevels.{levels_short, levels_none, levels_many, levels_cut, levels_whole, levels_refused, levels_filled}
 use Rattle.level_tables.proofs.levels.read_levels.Goals as goal

@@ -2,14 +2,11 @@
 -- (proofs/Filling.antt). Assumes nothing.
 use mathlib.Core.Path.{◌≡◌}
 use Prim.Native.Nat.{suc, ◌+◌, ◌-◌, ◌≤◌}
-use native.Mathlib.Omega.{arith}
 use lib.ListN.{take}
 use Rattle.model.specs.LevelTables.{idle_entries}
 use Rattle.model.specs.Processors.{all_points, processor_of}
 use Rattle.level_tables.specs.Tables.{levels_in}
-use Rattle.level_tables.proofs.Read.{first_inside, levels_count}
 use Rattle.levels.specs.PointTables.{point_table}
-use Rattle.levels.proofs.Filling.{first_small, first_found, idling_filled, level_high, level_next, levels_all}
 use Rattle.levels.proofs.points.all_points.Given as goal
 
 abbrev pub invariant-loop-i : goal.invariant-loop-i

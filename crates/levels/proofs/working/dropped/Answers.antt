@@ -1,11 +1,8 @@
-use mathlib.Core.Path.{◌≡◌, sym, ◌∙◌}
-use mathlib.Core.Bool.{false}
-use Prim.Native.Nat.{ℕ, ◌-◌, ◌<◌, ◌≤◌}
+use mathlib.Core.Path.{sym, ◌∙◌}
 use native.Mathlib.Omega.{arith}
 use borrow.Author.Count.{below_none, below_more}
 use Rattle.model.specs.Points.{dropped}
 use Rattle.model.proofs.Search.{some_below_holds, some_below_fails}
-use Rattle.levels.specs.PointTables.{table_of, points_of, dropped_from}
 use Rattle.levels.proofs.working.dropped.Goals as goal
 
 pub loop-a-init : goal.loop-a-init

@@ -1,12 +1,8 @@
 -- `working::dropped` meets its contract. The loop's invariant: no point below `a` drops point `b` with a higher one.
 -- Assumes nothing.
-use mathlib.Core.Path.{◌≡◌, sym, ◌∙◌}
+use mathlib.Core.Path.{◌≡◌}
 use mathlib.Core.Bool.{false}
 use Prim.Native.Nat.{ℕ, ◌-◌, ◌<◌, ◌≤◌}
-use native.Mathlib.Omega.{arith}
-use borrow.Author.Count.{below_none, below_more}
-use Rattle.model.specs.Points.{dropped}
-use Rattle.model.proofs.Search.{some_below_holds, some_below_fails}
 use Rattle.levels.specs.PointTables.{table_of, points_of, dropped_from}
 use Rattle.levels.proofs.working.dropped.Given as goal
 

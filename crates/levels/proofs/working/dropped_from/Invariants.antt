@@ -1,16 +1,9 @@
 -- `working::dropped_from` meets its contract. The loop's invariant: no point below `c` is higher than `b` and drops it with
 -- point `a` (proofs/Dropping.antt). Assumes nothing.
-use mathlib.Core.Path.{◌≡◌, sym, ◌∙◌}
+use mathlib.Core.Path.{◌≡◌}
 use mathlib.Core.Bool.{false}
 use Prim.Native.Nat.{ℕ, ◌-◌, ◌<◌, ◌≤◌}
-use native.Mathlib.Omega.{arith}
-use borrow.Author.Count.{below_more}
-use borrow.Author.Tests.{le-ltb}
-use Rattle.model.proofs.Search.{some_below_holds, some_below_fails}
-use Rattle.levels.specs.declared.points.PointTable.{PointTable}
 use Rattle.levels.specs.PointTables.{table_of, points_of, dropped_by}
-use Rattle.levels.proofs.PointTables.{length_points_of}
-use Rattle.levels.proofs.Dropping.{in_order, drop_test}
 use Rattle.levels.proofs.working.dropped_from.Given as goal
 
 abbrev pub invariant-loop-c : goal.invariant-loop-c

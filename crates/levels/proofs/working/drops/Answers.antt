@@ -2,7 +2,6 @@
 -- Assumes nothing.
 use mathlib.Core.Path.{refl}
 use native.Mathlib.Omega.{arith}
-use borrow.Author.Rules.{rules}
 use Rattle.model.specs.Points.{drops}
 use Rattle.level_tables.proofs.Products.{product_below}
 use Rattle.levels.proofs.working.drops.Goals as goal

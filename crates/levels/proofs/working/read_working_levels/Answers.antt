@@ -1,7 +1,6 @@
 -- `working::read_working_levels` meets its contract. It rests on `read_levels`, whose levels stand in the arrays
 -- (proofs/Read.antt of the crate level_tables), and on `working_up_to`. Assumes nothing.
 use mathlib.Core.Path.{◌≡◌, ◌∙◌}
-use borrow.Author.Rules.{rules}
 use Rattle.model.specs.Outcome.{answer}
 use Rattle.model.specs.LevelTables.{read_levels}
 use Rattle.model.proofs.LevelTables.{levels_valid}

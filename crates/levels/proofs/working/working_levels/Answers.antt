@@ -2,7 +2,6 @@
 -- table (proofs/SmallPoints.antt). Assumes nothing.
 use mathlib.Core.Path.{◌∙◌}
 use mathlib.Core.List.{List}
-use borrow.Author.Rules.{rules}
 use Rattle.model.specs.declared.Level.{Level}
 use Rattle.model.specs.Processors.{processor_of}
 use Rattle.level_tables.specs.Tables.{levels_in}

@@ -1,9 +1,5 @@
-use mathlib.Core.Path.{◌≡◌}
-use Prim.Native.Nat.{◌+◌, ◌*◌, ◌-◌, ◌≤◌}
 use native.Mathlib.Omega.{arith}
 use Rattle.model.specs.Limits.{max_marks}
-use Rattle.model.specs.Bytes.{number32}
-use Rattle.reading.specs.Column.{column_of}
 use Rattle.reading.proofs.Column.{column_none, column_more, column_whole}
 use Rattle.mark_tables.proofs.marks.mark_column.Goals as goal
 

@@ -1,6 +1,4 @@
-use Prim.Native.Nat.{ℕ, ◌+◌, ◌-◌, ◌<◌, ◌≤◌}
 use native.Mathlib.Omega.{arith}
-use lib.ListN.{get_or}
 use Rattle.mark_tables.proofs.MarksIn.{falls_at, rises_all}
 use borrow.Author.Count.{below_none, below_more}
 use Rattle.mark_tables.proofs.marks.not_rising.Goals as goal

@@ -1,10 +1,7 @@
 -- `marks::not_rising` meets its contract. The loop's invariant: each mark passed is below the next one (proofs/MarksIn.antt).
 -- Assumes nothing.
 use Prim.Native.Nat.{ℕ, ◌+◌, ◌-◌, ◌<◌, ◌≤◌}
-use native.Mathlib.Omega.{arith}
 use lib.ListN.{get_or}
-use Rattle.mark_tables.proofs.MarksIn.{falls_at, rises_all}
-use borrow.Author.Count.{below_none, below_more}
 use Rattle.mark_tables.proofs.marks.not_rising.Given as goal
 
 abbrev pub invariant-loop-i : goal.invariant-loop-i

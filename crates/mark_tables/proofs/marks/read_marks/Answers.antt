@@ -2,7 +2,6 @@
 -- laws of proofs/MarksIn.antt. Assumes nothing.
 use mathlib.Core.Path.{sym, ◌∙◌, ap}
 use native.Mathlib.Omega.{arith}
-use borrow.Author.Rules.{rules}
 use Rattle.mark_tables.specs.Tables.{mark_table}
 use Rattle.mark_tables.proofs.MarksIn.{marks_short, marks_many, marks_cut, marks_fall, marks_answered}
 use Rattle.mark_tables.proofs.marks.read_marks.Goals as goal

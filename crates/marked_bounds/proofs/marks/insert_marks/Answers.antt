@@ -1,9 +1,8 @@
 use mathlib.Core.Path.{sym, ◌∙◌, ap}
-use Prim.Native.Nat.{◌+◌, ◌-◌, ◌≤◌}
+use Prim.Native.Nat.{◌-◌}
 use native.Mathlib.Omega.{arith}
-use lib.ListN.{length, get_or, take, drop}
-use Rattle.model.specs.Marks.{insert_mark, insert_marks}
-use Rattle.mark_tables.specs.Tables.{marks_in}
+use lib.ListN.{length, get_or, take}
+use Rattle.model.specs.Marks.{insert_mark}
 use Rattle.intervals.specs.Times.{HoldsTimes}
 use Rattle.intervals.proofs.Padded.{length_padded, times_taken, holds_padded, holds_rising, holds_next}
 use Rattle.marked_bounds.proofs.MarkedTimes.{marks_none, marks_more, marks_whole, marked_times_rise}

@@ -5,7 +5,6 @@ use mathlib.Core.List.{[]}
 use Prim.Native.Nat.{ℕ, ◌*◌, ◌≤◌}
 use native.Mathlib.Omega.{arith}
 use lib.ListN.{get_or}
-use borrow.Author.Rules.{rules}
 use Rattle.model.specs.Limits.{max_jobs}
 use Rattle.model.proofs.BoundsOf.{length_bounds_of, bounds_of_rises}
 use Rattle.job_tables.specs.Tables.{jobs_in}

@@ -39,4 +39,4 @@ list_rooms-requires c =
 
 pub returns : goal.returns
 returns c = λ jobs bounds arrays fits.
-    list_written _ jobs _ c.job_rooms.new.1.1.1.1.1.1.1.0 _ _ _ arrays.counted refl c.if-list-wanted.false (c.job_rooms.ensures jobs bounds arrays fits) c.list_rooms.ensures
+    list_written _ jobs _ c.job_rooms.new.rooms _ _ _ arrays.counted refl c.if-list-wanted.false (c.job_rooms.ensures jobs bounds arrays fits) c.list_rooms.ensures

@@ -1,7 +1,6 @@
 -- `altered_levels::alter_levels` meets its contract. Each way out rests on the tests that led there (proofs/KeptLevels.antt).
 -- Assumes nothing.
 use native.Mathlib.Omega.{arith}
-use borrow.Author.Rules.{rules}
 use Rattle.parameters.proofs.KeptLevels.{none_allowed, too_high, allowed}
 use Rattle.parameters.proofs.altered_levels.alter_levels.Goals as goal
 

@@ -1,7 +1,6 @@
 -- `altered_levels::as_given` meets its contract. It rests on `read_levels`, whose levels stand in the arrays (proofs/Read.antt of the
 -- crate level_tables). Assumes nothing.
 use mathlib.Core.Path.{◌≡◌}
-use borrow.Author.Rules.{rules}
 use Rattle.model.specs.Outcome.{answer}
 use Rattle.model.specs.LevelTables.{read_levels}
 use Rattle.model.specs.SiteParameters.{as_given}

@@ -1,14 +1,10 @@
-use mathlib.Core.Path.{◌≡◌, ◌∙◌}
-use Prim.Native.Nat.{◌-◌, ◌≤◌}
+use mathlib.Core.Path.{◌∙◌}
 use native.Mathlib.Omega.{arith}
-use Rattle.model.specs.Limits.{max_points}
-use Rattle.model.specs.Entries.{list_of}
-use Rattle.pricing.specs.SecondHalf.{cheaper_set}
-use Rattle.pricing.proofs.PricedSets.{cheaper_none, cheaper_more, filled_to, filled_none, filled_more, filled_all}
+use Rattle.pricing.proofs.PricedSets.{cheaper_none, cheaper_more, filled_none, filled_more, filled_all}
 use Rattle.pricing.proofs.cheapest.cheaper_sets.Goals as goal
 
 pub loop-price-init : goal.loop-price-init
-loop-price-init c = (omega arith, c.none-union.ensures ∙ cheaper_none c.args.t1, rw c.none-union.ensures (filled_none c.args.t1))
+loop-price-init c = (omega arith, c.none-union.ensures ∙ cheaper_none c.args.priced, rw c.none-union.ensures (filled_none c.args.priced))
 
 pub offset_bounds-cheaper-price : goal.offset_bounds-cheaper-price
 offset_bounds-cheaper-price c = omega arith
@@ -31,11 +27,11 @@ loop-price-smaller c = omega arith
 pub loop-price-preserved : goal.loop-price-preserved
 loop-price-preserved c =
     let inv = c.loop-price.invariant in
-    let priced = c.args.t1 in (
+    let priced = c.args.priced in (
       omega arith,
       c.either-union.ensures ∙ rw inv.1 (cheaper_more priced c.loop-price.price _ (omega (arith, c.well_formed.0))),
       filled_more priced _ _ _ inv.2 inv.1 (omega arith),
     )
 
 pub returns : goal.returns
-returns c = filled_all c.args.t1 _ _ c.loop-price.invariant.2 c.loop-price-test.false
+returns c = filled_all c.args.priced _ _ c.loop-price.invariant.2 c.loop-price-test.false

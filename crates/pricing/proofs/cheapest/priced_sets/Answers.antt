@@ -1,12 +1,8 @@
 use mathlib.Core.Path.{◌≡◌}
-use Prim.Native.Nat.{◌-◌, ◌≤◌, ◌<◌}
+use Prim.Native.Nat.{◌-◌}
 use native.Mathlib.Omega.{arith}
-use lib.ListN.{get_or}
-use Rattle.model.specs.Limits.{max_points}
-use Rattle.pricing.specs.SecondHalf.{priced_sets}
 use Rattle.pricing.proofs.PricedSets.{priced_none, priced_more}
 use Rattle.pricing.proofs.cheapest.priced_sets.Goals as goal
-use Rattle.pricing.proofs.cheapest.priced_sets.Goals.{After-price-1}
 
 pub loop-i-init : goal.loop-i-init
 loop-i-init c = (omega arith, rw c.none-nobody.ensures (priced_none c.args.sets.now c.args.numbers.now))
@@ -20,25 +16,20 @@ offset_bounds-numbers-i c = omega arith
 pub bounds-numbers-i : goal.bounds-numbers-i
 bounds-numbers-i c = omega arith
 
--- the price of this turn's interval
-inside : (c : After-price-1)
-    → get_or c.args.numbers.now c.loop-i.i 0 < max_points
-inside c = c.requires.1 c.loop-i.i (omega arith)
-
 pub offset_bounds-priced-price : goal.offset_bounds-priced-price
-offset_bounds-priced-price c = omega (arith, inside (goal.at.offset_bounds-priced-price c).After-price-1)
+offset_bounds-priced-price c = omega (arith, c.requires.1 c.loop-i.i (omega arith))
 
 pub bounds-priced-price : goal.bounds-priced-price
-bounds-priced-price c = inside (goal.at.bounds-priced-price c).After-price-1
+bounds-priced-price c = c.requires.1 c.loop-i.i (omega arith)
 
 pub set_at-requires : goal.set_at-requires
 set_at-requires c = omega arith
 
 pub offset_bounds-priced-price-in-loop-i : goal.offset_bounds-priced-price-in-loop-i
-offset_bounds-priced-price-in-loop-i c = omega (arith, inside (goal.at.offset_bounds-priced-price-in-loop-i c).After-price-1)
+offset_bounds-priced-price-in-loop-i c = omega (arith, c.requires.1 c.loop-i.i (omega arith))
 
 pub bounds-priced-price-in-loop-i : goal.bounds-priced-price-in-loop-i
-bounds-priced-price-in-loop-i c = inside (goal.at.bounds-priced-price-in-loop-i c).After-price-1
+bounds-priced-price-in-loop-i c = c.requires.1 c.loop-i.i (omega arith)
 
 pub overflow_add-i-in-loop-i : goal.overflow_add-i-in-loop-i
 overflow_add-i-in-loop-i c = omega arith
@@ -51,7 +42,7 @@ loop-i-preserved c =
     let a = c.args in (
       omega arith,
       rw (c.either.ensures, c.set_at.ensures)
-          (priced_more a.sets.now a.numbers.now _ _ _ c.loop-i.invariant.1 (inside (goal.at.loop-i-preserved c).After-price-1)),
+          (priced_more a.sets.now a.numbers.now _ _ _ c.loop-i.invariant.1 (c.requires.1 c.loop-i.i (omega arith))),
     )
 
 pub returns : goal.returns

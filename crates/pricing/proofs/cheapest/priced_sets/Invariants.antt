@@ -1,12 +1,8 @@
 -- `cheapest::priced_sets` meets its contract. The loop's invariant: the sets have the jobs that are open in the intervals
 -- passed (proofs/PricedSets.antt). Assumes nothing.
 use mathlib.Core.Path.{◌≡◌}
-use Prim.Native.Nat.{◌-◌, ◌≤◌, ◌<◌}
-use native.Mathlib.Omega.{arith}
-use lib.ListN.{get_or}
-use Rattle.model.specs.Limits.{max_points}
+use Prim.Native.Nat.{◌-◌, ◌≤◌}
 use Rattle.pricing.specs.SecondHalf.{priced_sets}
-use Rattle.pricing.proofs.PricedSets.{priced_none, priced_more}
 use Rattle.pricing.proofs.cheapest.priced_sets.Given as goal
 
 abbrev pub invariant-loop-i : goal.invariant-loop-i

@@ -1,10 +1,7 @@
 -- `pricing::check_entries` meets its contract. The loop's invariant: no interval passed has a fault. Assumes nothing.
-use mathlib.Core.Path.{◌≡◌, sym, ◌∙◌}
+use mathlib.Core.Path.{◌≡◌}
 use Prim.Native.Nat.{ℕ, ◌-◌, ◌≤◌, ◌<◌}
-use native.Mathlib.Omega.{arith}
-use borrow.Author.Count.{below_none, below_more}
 use Rattle.pricing.specs.SecondHalf.{entry_fault_in}
-use Rattle.fitting.proofs.Verdicts.{verdict_stops, verdict_passes}
 use Rattle.pricing.proofs.pricing.check_entries.Given as goal
 
 abbrev pub invariant-loop-i : goal.invariant-loop-i

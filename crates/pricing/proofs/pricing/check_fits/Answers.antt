@@ -1,5 +1,5 @@
 use mathlib.Core.Path.{◌≡◌, sym, ◌∙◌}
-use Prim.Native.Nat.{ℕ, ◌-◌, ◌≤◌, ◌<◌}
+use Prim.Native.Nat.{◌+◌, ◌≤◌, ◌<◌}
 use native.Mathlib.Omega.{arith}
 use lib.ListN.{get_or}
 use borrow.Author.Count.{below_none, below_more}
@@ -10,7 +10,7 @@ use Rattle.fitting.proofs.Verdicts.{verdict_stops, verdict_passes}
 use Rattle.pricing.specs.SecondHalf.{price_fault_in}
 use Rattle.pricing.proofs.PriceFaults.{band_fault}
 use Rattle.pricing.proofs.pricing.check_fits.Goals as goal
-use Rattle.pricing.proofs.pricing.check_fits.Goals.{After-k-1, After-load_fault-number}
+use Rattle.pricing.proofs.pricing.check_fits.Goals.{In-loop-i, After-load_fault-number}
 
 pub loop-i-init : goal.loop-i-init
 loop-i-init c = (omega arith, below_none _)
@@ -25,11 +25,12 @@ pub bounds-numbers-i : goal.bounds-numbers-i
 bounds-numbers-i c = omega (arith, c.requires.small_bounds.0.rising.few)
 
 -- the price of this turn's interval is the number of a band
-banded : (c : After-k-1)
+banded : (c : In-loop-i)
+    → c.loop-i.i + 1 < c.args.bounds
     → let a = c.args in
     let number = get_or a.numbers.now c.loop-i.i 0 in
-    (1 ≤ number) × (number < a.t1.count) × (number < 9)
-banded c =
+    (1 ≤ number) × (number < a.working.count) × (number < 9)
+banded c test =
     let i = c.loop-i.i in
     let numbered = c.requires.small_bounds.1 in
     let low = numbered.low i (omega arith) in
@@ -37,19 +38,19 @@ banded c =
     (low, omega (arith, low, high), omega (arith, low, high, c.requires.small_points.0.few))
 
 pub overflow_sub-low : goal.overflow_sub-low
-overflow_sub-low c = omega (arith, banded (goal.at.overflow_sub-low c).After-k-1)
+overflow_sub-low c = omega (arith, banded (goal.at.overflow_sub-low c).In-loop-i c.loop-i-test.true)
 
 pub offset_bounds-working-k : goal.offset_bounds-working-k
-offset_bounds-working-k c = omega (arith, banded (goal.at.offset_bounds-working-k c).After-k-1)
+offset_bounds-working-k c = omega (arith, banded (goal.at.offset_bounds-working-k c).In-loop-i c.loop-i-test.true)
 
 pub bounds-working-k : goal.bounds-working-k
-bounds-working-k c = omega (arith, banded (goal.at.bounds-working-k c).After-k-1)
+bounds-working-k c = omega (arith, banded (goal.at.bounds-working-k c).In-loop-i c.loop-i-test.true)
 
 pub offset_bounds-working-k-in-loop-i : goal.offset_bounds-working-k-in-loop-i
-offset_bounds-working-k-in-loop-i c = omega (arith, banded (goal.at.offset_bounds-working-k-in-loop-i c).After-k-1)
+offset_bounds-working-k-in-loop-i c = omega (arith, banded (goal.at.offset_bounds-working-k-in-loop-i c).In-loop-i c.loop-i-test.true)
 
 pub bounds-working-k-in-loop-i : goal.bounds-working-k-in-loop-i
-bounds-working-k-in-loop-i c = omega (arith, banded (goal.at.bounds-working-k-in-loop-i c).After-k-1)
+bounds-working-k-in-loop-i c = omega (arith, banded (goal.at.bounds-working-k-in-loop-i c).In-loop-i c.loop-i-test.true)
 
 pub overflow_add-i-in-loop-i : goal.overflow_add-i-in-loop-i
 overflow_add-i-in-loop-i c = omega arith
@@ -68,7 +69,7 @@ bounds-times-i-in-loop-i c = omega (arith, c.requires.small_bounds.0.rising.few)
 
 pub overflow_sub-times : goal.overflow_sub-times
 overflow_sub-times c =
-omega (arith, bounds_rise _ _ c.requires.small_bounds.0 _ c.loop-i-test.true)
+    omega (arith, bounds_rise _ _ c.requires.small_bounds.0 _ c.loop-i-test.true)
 
 pub offset_bounds-loads-i : goal.offset_bounds-loads-i
 offset_bounds-loads-i c = omega (arith, c.requires.small_bounds.0.rising.few)
@@ -79,7 +80,7 @@ bounds-loads-i c = omega (arith, c.requires.small_bounds.0.rising.few)
 pub load_fault-number-requires : goal.load_fault-number-requires
 load_fault-number-requires c =
     let small = c.requires.small_points.0 in
-    let number = banded (goal.at.load_fault-number-requires c).After-k-1 in (
+    let number = banded (goal.at.load_fault-number-requires c).In-loop-i c.loop-i-test.true in (
       length_small _ _ c.requires.small_bounds.0 c.loop-i.i c.loop-i-test.true,
       frequency_high _ small _ (omega (arith, number)),
       frequency_high _ small _ number.1,
@@ -87,20 +88,21 @@ load_fault-number-requires c =
 
 -- the number found in this turn is the interval's fault
 here : (c : After-load_fault-number)
+    → let number = get_or c.args.numbers.now c.loop-i.i 0 in
+    (1 ≤ number) × (number < c.args.working.count) × (number < 9)
     → let args = c.args in
     c.load_fault-number.result
-    ≡ price_fault_in (points_of args.t1) args.times.now args.loads.now args.numbers.now c.loop-i.i
-here c =
-    let number = banded c.before.before.before.before.before.before.before.before in
+    ≡ price_fault_in (points_of args.working) args.times.now args.loads.now args.numbers.now c.loop-i.i
+here c number =
     let some = bounds_rise _ _ c.requires.small_bounds.0 c.loop-i.i c.loop-i-test.true in
-    band_fault c.args.t1 c.requires.small_points.1 _ _ _ (omega (arith, some)) number.0 number.1 _ c.load_fault-number.ensures
+    band_fault c.args.working c.requires.small_points.1 _ _ _ (omega (arith, some)) number.0 number.1 _ c.load_fault-number.ensures
 
 pub overflow_cast-result : goal.overflow_cast-result
 overflow_cast-result c = omega (arith, c.requires.small_bounds.0.rising.few)
 
 pub returns-then-number-ne0 : goal.returns-then-number-ne0
 returns-then-number-ne0 c =
-    verdict_stops _ _ _ _ c.loop-i.invariant.1 (omega arith) (here (goal.at.returns-then-number-ne0 c).After-load_fault-number) c.if-number-ne0.true
+    verdict_stops _ _ _ _ c.loop-i.invariant.1 (omega arith) (here (goal.at.returns-then-number-ne0 c).After-load_fault-number (banded (goal.at.returns-then-number-ne0 c).In-loop-i c.loop-i-test.true)) c.if-number-ne0.true
 
 pub overflow_add-i-in-loop-i-2 : goal.overflow_add-i-in-loop-i-2
 overflow_add-i-in-loop-i-2 c = omega arith
@@ -110,7 +112,7 @@ loop-i-smaller c = omega arith
 
 pub loop-i-preserved : goal.loop-i-preserved
 loop-i-preserved c =
-    (omega arith, below_more _ _ c.loop-i.invariant.1 (sym (here (goal.at.loop-i-preserved c).After-load_fault-number) ∙ c.if-number-ne0.false))
+    (omega arith, below_more _ _ c.loop-i.invariant.1 (sym (here (goal.at.loop-i-preserved c).After-load_fault-number (banded (goal.at.loop-i-preserved c).In-loop-i c.loop-i-test.true)) ∙ c.if-number-ne0.false))
 
 pub returns : goal.returns
 returns c = verdict_passes _ _ (λ k below. c.loop-i.invariant.1 k (omega arith))

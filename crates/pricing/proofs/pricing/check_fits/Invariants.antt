@@ -1,16 +1,9 @@
 -- `pricing::check_fits` meets its contract. The loop's invariant: no interval passed has a fault (proofs/PriceFaults.antt).
 -- Assumes nothing.
-use mathlib.Core.Path.{◌≡◌, sym, ◌∙◌}
+use mathlib.Core.Path.{◌≡◌}
 use Prim.Native.Nat.{ℕ, ◌-◌, ◌≤◌, ◌<◌}
-use native.Mathlib.Omega.{arith}
-use lib.ListN.{get_or}
-use borrow.Author.Count.{below_none, below_more}
 use Rattle.levels.specs.PointTables.{points_of}
-use Rattle.levels.proofs.Frequencies.{frequency_high}
-use Rattle.fitting.proofs.BoundsIn.{bounds_rise, length_small}
-use Rattle.fitting.proofs.Verdicts.{verdict_stops, verdict_passes}
 use Rattle.pricing.specs.SecondHalf.{price_fault_in}
-use Rattle.pricing.proofs.PriceFaults.{band_fault}
 use Rattle.pricing.proofs.pricing.check_fits.Given as goal
 
 abbrev pub invariant-loop-i : goal.invariant-loop-i

@@ -2,16 +2,15 @@
 -- proofs/SecondHalf.antt. Assumes nothing.
 use mathlib.Core.Path.{◌≡◌, sym, ◌∙◌}
 use mathlib.Core.Bool.{false}
-use Prim.Native.Nat.{◌+◌, ◌-◌, ◌*◌, ◌≤◌}
+use Prim.Native.Nat.{◌+◌, ◌*◌, ◌≤◌}
 use native.Mathlib.Omega.{arith}
 use lib.ListN.{length}
-use borrow.Author.Rules.{rules}
 use Rattle.model.specs.Limits.{max_intervals}
 use Rattle.levels.proofs.PointTables.{length_points_of}
-use Rattle.pricing.specs.SecondHalf.{BandNumbers, wrong_length_in}
+use Rattle.pricing.specs.SecondHalf.{wrong_length_in}
 use Rattle.pricing.proofs.SecondHalf.{wrong_length_refused, price_size, entries_refuse, band_numbers, fits_refuse, cheapest_decides}
 use Rattle.pricing.proofs.pricing.price.Goals as goal
-use Rattle.pricing.proofs.pricing.price.Goals.{After-numbers-2-1, Else-wrong_price_length}
+use Rattle.pricing.proofs.pricing.price.Goals.{Else-wrong_price_length}
 
 pub returns-then-wrong_price_length : goal.returns-then-wrong_price_length
 returns-then-wrong_price_length c =
@@ -54,21 +53,20 @@ returns-in-Refused c =
     entries_refuse
     _ c.args.sets.now _ _ _ _ _ _
     c.requires.small_bounds.0 c.requires.small_bounds.1 c.requires.planned _ c.interval_count-intervals.ensures processor is-working jobs (right (goal.at.returns-in-Refused c).Else-wrong_price_length)
-    _ c.price_numbers-numbers.ensures _ c.check_entries-entries.ensures _ _ c.entries-1.given.1
+    _ c.price_numbers-numbers.ensures _ c.check_entries-entries.ensures _ _ c.in-Refused.is
 
 -- past the refusal 22 each price is the number of a band
-banded : (c : After-numbers-2-1)
-    → let a = c.args in
-    BandNumbers (a.working.count - 1) (a.bounds - 1) c.price_numbers-numbers.result
-banded c =
-    let a = c.args in
-    band_numbers
-    _ a.times.now _ c.requires.small_bounds.0.rising.few _ c.interval_count-intervals.ensures (right c.before.before.before.before.before.before.before)
-    _ c.price_numbers-numbers.ensures _ _ c.check_entries-entries.ensures c.enum_told-1.given.1
-
 pub check_fits-fits-requires : goal.check_fits-fits-requires
 check_fits-fits-requires c =
-    record { small_points = c.requires.small_points; small_bounds = (c.requires.small_bounds.0, banded (goal.at.check_fits-fits-requires c).After-numbers-2-1) }
+    record {
+      small_points = c.requires.small_points;
+      small_bounds = (
+        c.requires.small_bounds.0,
+        band_numbers
+            _ c.args.times.now _ c.requires.small_bounds.0.rising.few _ c.interval_count-intervals.ensures (right (goal.at.check_fits-fits-requires c).Else-wrong_price_length)
+            _ c.price_numbers-numbers.ensures _ _ c.check_entries-entries.ensures c.in_default.is,
+      );
+    }
 
 pub returns-in-Refused-fits : goal.returns-in-Refused-fits
 returns-in-Refused-fits c =
@@ -76,13 +74,23 @@ returns-in-Refused-fits c =
     fits_refuse
     _ _ _ _ _ _ _ _
     c.requires.small_bounds.0 c.requires.small_bounds.1 c.requires.planned _ c.interval_count-intervals.ensures processor is-working jobs (right (goal.at.returns-in-Refused-fits c).Else-wrong_price_length)
-    _ c.price_numbers-numbers.ensures _ c.check_entries-entries.ensures c.enum_told-1.given.1
-    jobs_counted opened _ c.check_fits-fits.ensures _ _ c.fits2.given.1
+    _ c.price_numbers-numbers.ensures _ c.check_entries-entries.ensures c.in_default.is
+    jobs_counted opened _ c.check_fits-fits.ensures _ _ c.in-Refused-fits.is
 
 pub check_cheapest-requires : goal.check_cheapest-requires
 check_cheapest-requires c =
     let planned = c.requires.planned in
-    let points = c.requires.small_points.0 in record { bounds_le_max_bounds = (c.requires.small_bounds.0.rising.few, planned.size); by_index = λ i below. omega (arith, (banded (goal.at.check_cheapest-requires c).After-numbers-2-1).high i below, points.few); by_index_2 = planned.step_interval }
+    let points = c.requires.small_points.0 in record {
+      bounds_le_max_bounds = (c.requires.small_bounds.0.rising.few, planned.size);
+      by_index = λ i below. omega (
+        arith,
+        (band_numbers
+            _ c.args.times.now _ c.requires.small_bounds.0.rising.few _ c.interval_count-intervals.ensures (right (goal.at.check_cheapest-requires c).Else-wrong_price_length)
+            _ c.price_numbers-numbers.ensures _ _ c.check_entries-entries.ensures c.in_default.is).high i below,
+        points.few,
+      );
+      by_index_2 = planned.step_interval;
+    }
 
 pub returns : goal.returns
 returns c =
@@ -90,5 +98,5 @@ returns c =
     cheapest_decides
     _ _ _ _ _ _ _ _
     c.requires.small_bounds.0 c.requires.small_bounds.1 c.requires.planned _ c.interval_count-intervals.ensures processor is-working jobs (right (goal.at.returns c).Else-wrong_price_length)
-    _ c.price_numbers-numbers.ensures _ c.check_entries-entries.ensures c.enum_told-1.given.1
-    jobs_counted opened _ c.check_fits-fits.ensures c.enum_told-in_default-fits-1.given.1 _ c.check_cheapest.ensures
+    _ c.price_numbers-numbers.ensures _ c.check_entries-entries.ensures c.in_default.is
+    jobs_counted opened _ c.check_fits-fits.ensures c.in_default-fits.is _ c.check_cheapest.ensures

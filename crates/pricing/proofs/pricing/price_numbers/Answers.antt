@@ -1,9 +1,6 @@
-use mathlib.Core.Path.{◌≡◌, refl}
-use Prim.Native.Nat.{◌+◌, ◌-◌, ◌*◌, ◌≤◌}
+use mathlib.Core.Path.{refl}
 use native.Mathlib.Omega.{arith}
-use lib.ListN.{get_or}
 use Rattle.model.specs.Limits.{max_intervals}
-use Rattle.reading.specs.Column.{column_of}
 use Rattle.reading.proofs.Column.{column_none, column_more, column_whole}
 use Rattle.pricing.proofs.pricing.price_numbers.Goals as goal
 
@@ -21,9 +18,6 @@ overflow_add-numbers-in-loop-i c = omega arith
 
 pub bounds-prices-intervals : goal.bounds-prices-intervals
 bounds-prices-intervals c = omega arith
-
-pub overflow_cast-numbers : goal.overflow_cast-numbers
-overflow_cast-numbers c = omega (arith, c.shared_slice_known-1.given (2 + 4 * c.args.intervals + c.loop-i.i))
 
 pub offset_bounds-numbers-i : goal.offset_bounds-numbers-i
 offset_bounds-numbers-i c = omega arith

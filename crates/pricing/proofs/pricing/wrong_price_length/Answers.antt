@@ -1,6 +1,5 @@
 -- `pricing::wrong_price_length` meets its contract. Each way out rests on the tests that led there. Assumes nothing.
 use mathlib.Core.Path.{sym, ◌∙◌}
-use borrow.Author.Rules.{rules}
 use borrow.Author.Tests.{lt-ltb, le-ltb, eq-eqb, ne_eqb}
 use Rattle.pricing.proofs.pricing.wrong_price_length.Goals as goal
 

@@ -1,10 +1,6 @@
-use mathlib.Core.Path.{◌≡◌, ◌∙◌, ap}
-use Prim.Native.Nat.{◌+◌, ◌*◌, ◌-◌, ◌≤◌}
+use mathlib.Core.Path.{◌∙◌, ap}
 use native.Mathlib.Omega.{arith}
 use lib.ListN.{length}
-use Rattle.model.specs.Bytes.{number16}
-use Rattle.reading.specs.Column.{column_of}
-use Rattle.reading.specs.Tables.{SmallNumbers}
 use Rattle.reading.proofs.Column.{length_column, column_none, column_more, column_whole}
 use Rattle.reading.proofs.SmallNumbers.{small_none, small_more}
 use Rattle.reading.proofs.numbers.column16.Goals as goal

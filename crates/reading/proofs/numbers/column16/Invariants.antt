@@ -1,14 +1,10 @@
 -- `numbers::column16` meets its contract. The loop's invariant: the first `i` numbers are filled, zeros after them
 -- (proofs/Column.antt). Assumes nothing.
-use mathlib.Core.Path.{◌≡◌, ◌∙◌, ap}
+use mathlib.Core.Path.{◌≡◌}
 use Prim.Native.Nat.{◌+◌, ◌*◌, ◌-◌, ◌≤◌}
-use native.Mathlib.Omega.{arith}
-use lib.ListN.{length}
 use Rattle.model.specs.Bytes.{number16}
 use Rattle.reading.specs.Column.{column_of}
 use Rattle.reading.specs.Tables.{SmallNumbers}
-use Rattle.reading.proofs.Column.{length_column, column_none, column_more, column_whole}
-use Rattle.reading.proofs.SmallNumbers.{small_none, small_more}
 use Rattle.reading.proofs.numbers.column16.Given as goal
 
 abbrev pub invariant-loop-i : goal.invariant-loop-i

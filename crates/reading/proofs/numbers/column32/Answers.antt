@@ -1,9 +1,7 @@
-use mathlib.Core.Path.{◌≡◌, ◌∙◌}
-use Prim.Native.Nat.{◌+◌, ◌*◌, ◌-◌, ◌≤◌}
+use mathlib.Core.Path.{◌∙◌}
+use Prim.Native.Nat.{◌+◌, ◌*◌, ◌≤◌}
 use native.Mathlib.Omega.{arith}
 use lib.ListN.{length}
-use Rattle.model.specs.Bytes.{number32}
-use Rattle.reading.specs.Column.{column_of}
 use Rattle.reading.proofs.Column.{column_none, column_more, column_whole}
 use Rattle.reading.proofs.numbers.column32.Goals as goal
 use Rattle.reading.proofs.numbers.column32.Goals.{In-loop-i}

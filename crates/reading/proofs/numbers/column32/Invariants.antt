@@ -1,12 +1,9 @@
 -- `numbers::column32` meets its contract. The loop's invariant: the first `i` numbers are filled, zeros after them
 -- (proofs/Column.antt). Assumes nothing.
-use mathlib.Core.Path.{◌≡◌, ◌∙◌}
+use mathlib.Core.Path.{◌≡◌}
 use Prim.Native.Nat.{◌+◌, ◌*◌, ◌-◌, ◌≤◌}
-use native.Mathlib.Omega.{arith}
-use lib.ListN.{length}
 use Rattle.model.specs.Bytes.{number32}
 use Rattle.reading.specs.Column.{column_of}
-use Rattle.reading.proofs.Column.{column_none, column_more, column_whole}
 use Rattle.reading.proofs.numbers.column32.Given as goal
 
 abbrev pub invariant-loop-i : goal.invariant-loop-i

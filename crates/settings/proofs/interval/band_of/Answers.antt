@@ -1,8 +1,8 @@
-use Prim.Native.Nat.{ℕ, ◌+◌, ◌-◌, ◌<◌, ◌≤◌}
+use Prim.Native.Nat.{◌+◌}
 use native.Mathlib.Omega.{arith}
 use borrow.Author.Count.{below_none, below_more}
 use Rattle.levels.proofs.Frequencies.{table_some}
-use Rattle.settings.proofs.Loads.{load_high, Past, band_past, band_found, band_none}
+use Rattle.settings.proofs.Loads.{load_high, band_past, band_found, band_none}
 use Rattle.settings.proofs.interval.band_of.Goals as goal
 
 pub overflow_sub-last : goal.overflow_sub-last

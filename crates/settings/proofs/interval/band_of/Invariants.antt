@@ -1,10 +1,7 @@
 -- `interval::band_of` meets its contract. The loop's invariant: the upper ends of the bands below `k`, over the length, are
 -- below the load (proofs/Loads.antt). Assumes nothing.
-use Prim.Native.Nat.{ℕ, ◌+◌, ◌-◌, ◌<◌, ◌≤◌}
-use native.Mathlib.Omega.{arith}
-use borrow.Author.Count.{below_none, below_more}
-use Rattle.levels.proofs.Frequencies.{table_some}
-use Rattle.settings.proofs.Loads.{load_high, Past, band_past, band_found, band_none}
+use Prim.Native.Nat.{ℕ, ◌-◌, ◌<◌, ◌≤◌}
+use Rattle.settings.proofs.Loads.{Past}
 use Rattle.settings.proofs.interval.band_of.Given as goal
 
 abbrev pub invariant-loop-k : goal.invariant-loop-k

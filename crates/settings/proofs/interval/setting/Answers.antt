@@ -1,7 +1,6 @@
 -- `interval::setting` meets its contract. It rests on `read_levels`, whose levels stand in the arrays (proofs/Read.antt
 -- of the crate level_tables), and on `setting_up_to` (proofs/Answers.antt). Assumes nothing.
 use mathlib.Core.Path.{◌≡◌, ◌∙◌, ap}
-use borrow.Author.Rules.{rules}
 use Rattle.model.specs.Outcome.{answer}
 use Rattle.model.specs.LevelTables.{read_levels}
 use Rattle.model.proofs.LevelTables.{levels_valid}

@@ -1,7 +1,6 @@
 -- `interval::setting_in` meets its contract. Each way out rests on the tests that led there and on what the callees ensure
 -- (proofs/Answers.antt). Assumes nothing.
 use native.Mathlib.Omega.{arith}
-use borrow.Author.Rules.{rules}
 use Rattle.level_tables.proofs.Read.{levels_count}
 use Rattle.settings.proofs.Answers.{too_short, too_long, top_load, overloaded, working_fits, settled}
 use Rattle.settings.proofs.interval.setting_in.Goals as goal

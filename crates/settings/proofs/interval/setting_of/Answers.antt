@@ -2,7 +2,6 @@
 -- band's lower end (proofs/Loads.antt). Assumes nothing.
 use Prim.Native.Nat.{◌+◌, ◌<◌, ◌≤◌}
 use native.Mathlib.Omega.{arith}
-use borrow.Author.Rules.{rules}
 use Rattle.settings.proofs.Loads.{load_high, band_inside, lower_below, frequency_above, setting_found, setting_idle}
 use Rattle.settings.proofs.interval.setting_of.Goals as goal
 use Rattle.settings.proofs.interval.setting_of.Goals.{After-band_of-k}

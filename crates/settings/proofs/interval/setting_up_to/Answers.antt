@@ -1,7 +1,6 @@
 -- `interval::setting_up_to` meets its contract. It rests on `alter_levels` (proofs/KeptLevels.antt of the crate parameters) and on
 -- `setting_in`. Assumes nothing.
 use mathlib.Core.Path.{◌≡◌, ◌∙◌}
-use borrow.Author.Rules.{rules}
 use Rattle.model.specs.Outcome.{answer}
 use Rattle.model.specs.SiteParameters.{alter_levels}
 use Rattle.level_tables.specs.Tables.{levels_in}

@@ -1,6 +1,6 @@
 -- `forms::climbing` meets its contract. The loop's invariant: the number has grown by at most 8 at each entry. Assumes
 -- nothing.
-use Rattle.std.proofs.Common.{◌≡◌, ◌+◌, ◌-◌, ◌*◌, ◌≤◌, length, rules}
+use Rattle.std.proofs.Common.{◌≡◌, ◌+◌, ◌-◌, ◌*◌, ◌≤◌, length}
 use Rattle.test_forms.proofs.forms.climbing.Given as goal
 
 abbrev pub invariant-loop-i : goal.invariant-loop-i

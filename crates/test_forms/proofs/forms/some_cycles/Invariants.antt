@@ -1,5 +1,5 @@
 -- `forms::some_cycles` meets its contract. The loop's invariant: the column keeps its length. Assumes nothing.
-use Rattle.std.proofs.Common.{◌≡◌, ◌-◌, ◌<◌, ◌≤◌, length, rules}
+use Rattle.std.proofs.Common.{◌≡◌, ◌-◌, ◌<◌, ◌≤◌, length}
 use Rattle.test_forms.proofs.forms.some_cycles.Given as goal
 
 abbrev pub invariant-loop-j : goal.invariant-loop-j

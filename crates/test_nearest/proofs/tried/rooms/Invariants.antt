@@ -1,8 +1,5 @@
 -- `tried::rooms` meets its contract: both places of a pair lie in the list, and the job table keeps its length. Assumes nothing.
-use mathlib.Core.Path.{◌≡◌}
-use Prim.Native.Nat.{◌-◌}
-use lib.ListN.{length}
-use borrow.Author.Rules.{rules}
+use Rattle.std.proofs.Common.{◌≡◌, ◌-◌, length}
 use Rattle.test_nearest.proofs.tried.rooms.Given as goal
 
 abbrev pub invariant-loop-i : goal.invariant-loop-i

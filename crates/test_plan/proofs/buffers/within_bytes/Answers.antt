@@ -1,6 +1,6 @@
 -- `buffers::within_bytes` meets its contract, by the test. Assumes nothing.
 use Rattle.io.proofs.Counting.{prefix_len_of_le}
-use borrow.Author.Rules.{rules}
+use Rattle.std.proofs.Common.{rules}
 use Rattle.test_plan.proofs.buffers.within_bytes.Goals as goal
 
 pub returns-then-length-buffer : goal.returns-then-length-buffer

@@ -1,7 +1,5 @@
 -- `print::steps` meets its contract: each turn goes on in the shares. Assumes nothing.
-use Prim.Native.Nat.{◌-◌}
-use lib.ListN.{length}
-use borrow.Author.Rules.{rules}
+use Rattle.std.proofs.Common.{◌-◌, length}
 use Rattle.test_plan.proofs.print.steps.Given as goal
 
 abbrev pub invariant-loop-place : goal.invariant-loop-place

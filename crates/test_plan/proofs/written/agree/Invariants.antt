@@ -1,6 +1,5 @@
 -- `written::agree` meets its contract: the position stays below the number of steps. Assumes nothing.
-use Prim.Native.Nat.{◌-◌}
-use borrow.Author.Rules.{rules}
+use Rattle.std.proofs.Common.{◌-◌}
 use Rattle.test_plan.proofs.written.agree.Given as goal
 
 abbrev pub invariant-loop-position : goal.invariant-loop-position

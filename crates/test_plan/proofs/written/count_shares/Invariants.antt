@@ -1,9 +1,5 @@
 -- `written::count_shares` meets its contract: the count is at most the number of shares passed. Assumes nothing.
-use mathlib.Core.Logic.{⊎_elim}
-use Prim.Native.Nat.{◌-◌, ◌≤◌}
-use native.Mathlib.Omega.{arith}
-use lib.ListN.{length}
-use borrow.Author.Rules.{rules}
+use Rattle.std.proofs.Common.{◌-◌, ◌≤◌, length}
 use Rattle.test_plan.proofs.written.count_shares.Given as goal
 
 abbrev pub invariant-loop-i : goal.invariant-loop-i

@@ -1,7 +1,6 @@
 -- `written::product` meets its contract: the product of numbers within their limits fits. Assumes nothing.
-use native.Mathlib.Omega.{arith}
-use native.Mathlib.Nat.{mul-le-mul}
-use borrow.Author.Rules.{rules}
+use Rattle.std.proofs.Common.{arith}
+use Rattle.std.proofs.Math.Nat.{mul-le-mul}
 use Rattle.test_plan.proofs.written.product.Goals as goal
 
 pub overflow_mul-result : goal.overflow_mul-result

@@ -1,6 +1,5 @@
 -- `print::entries` meets its contract: the index is below the arrays' length. Assumes nothing.
-use Prim.Native.Nat.{◌-◌}
-use borrow.Author.Rules.{rules}
+use Rattle.std.proofs.Common.{◌-◌}
 use Rattle.test_rounds.proofs.print.entries.Given as goal
 
 abbrev pub invariant-loop-j : goal.invariant-loop-j

@@ -1,4 +1,4 @@
-use Rattle.std.proofs.Common.{◌≡◌, ◌-◌, ◌≤◌, length, rules}
+use Rattle.std.proofs.Common.{rules}
 use Rattle.test_search.proofs.cuts.first_cuts.Goals as goal
 
 pub loop-j-preserved : goal.loop-j-preserved

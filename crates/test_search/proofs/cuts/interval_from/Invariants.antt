@@ -1,5 +1,5 @@
 -- `cuts::interval_from` meets its contract. The loop's invariant: the index is within the intervals. Assumes nothing.
-use Rattle.std.proofs.Common.{◌≡◌, ◌-◌, ◌≤◌, length, rules}
+use Rattle.std.proofs.Common.{◌≡◌, ◌-◌, ◌≤◌, length}
 use Rattle.test_search.proofs.cuts.interval_from.Given as goal
 
 abbrev pub invariant-loop-i : goal.invariant-loop-i

@@ -1,5 +1,5 @@
 -- `cuts::intervals_inside` meets its contract. The loop's invariant: the index is within the intervals. Assumes nothing.
-use Rattle.std.proofs.Common.{◌≡◌, ◌-◌, ◌≤◌, length, rules}
+use Rattle.std.proofs.Common.{◌≡◌, ◌-◌, ◌≤◌, length}
 use Rattle.test_search.proofs.cuts.intervals_inside.Given as goal
 
 abbrev pub invariant-loop-i : goal.invariant-loop-i

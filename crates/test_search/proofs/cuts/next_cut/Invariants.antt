@@ -1,5 +1,5 @@
 -- `cuts::next_cut` meets its contract. The loop's measure is what is left of the intervals. Assumes nothing.
-use Rattle.std.proofs.Common.{◌-◌, ◌≤◌, rules}
+use Rattle.std.proofs.Common.{◌-◌, ◌≤◌}
 use Rattle.test_search.proofs.cuts.next_cut.Given as goal
 
 abbrev pub invariant-loop-i : goal.invariant-loop-i

@@ -1,5 +1,5 @@
 -- `cuts::next_cuts` meets its contract. The loop's invariant: the columns keep their length. Assumes nothing.
-use Rattle.std.proofs.Common.{◌≡◌, ◌-◌, ◌≤◌, length, rules}
+use Rattle.std.proofs.Common.{◌≡◌, ◌-◌, ◌≤◌, length}
 use Rattle.test_search.proofs.cuts.next_cuts.Given as goal
 
 abbrev pub invariant-loop-j : goal.invariant-loop-j

@@ -1,5 +1,5 @@
 -- `mixes::least_from` meets its contract. The loop's invariant: the least energy so far is small. Assumes nothing.
-use Rattle.std.proofs.Common.{◌+◌, ◌-◌, ◌≤◌, length, rules}
+use Rattle.std.proofs.Common.{◌+◌, ◌-◌, ◌≤◌}
 use Rattle.test_search.specs.Sizes.{SmallEnergy, SmallPoint}
 use Rattle.test_search.proofs.mixes.least_from.Given as goal
 

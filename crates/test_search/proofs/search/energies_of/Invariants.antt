@@ -1,5 +1,5 @@
 -- `search::energies_of` meets its contract. The loop's invariant: the table keeps its length. Assumes nothing.
-use Rattle.std.proofs.Common.{◌≡◌, ◌-◌, ◌≤◌, length, rules}
+use Rattle.std.proofs.Common.{◌≡◌, ◌-◌, ◌≤◌, length}
 use Rattle.test_search.proofs.search.energies_of.Given as goal
 
 abbrev pub invariant-loop-n : goal.invariant-loop-n

@@ -1,5 +1,5 @@
 -- `search::least_energy` meets its contract. The loop's measure is what is left of the cuts allowed. Assumes nothing.
-use Rattle.std.proofs.Common.{◌-◌, ◌≤◌, rules}
+use Rattle.std.proofs.Common.{◌-◌, ◌≤◌}
 use Rattle.test_search.proofs.search.least_energy.Given as goal
 
 abbrev pub invariant-loop-n : goal.invariant-loop-n

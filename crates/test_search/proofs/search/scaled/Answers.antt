@@ -1,5 +1,5 @@
 -- `search::scaled` meets its contract. The product fits, since numerator and quotient are small. Assumes nothing.
-use Rattle.std.proofs.Common.{div-le_self, arith, rules}
+use Rattle.std.proofs.Common.{div-le_self, arith}
 use Rattle.level_tables.proofs.Products.{product_below}
 use Rattle.test_search.proofs.search.scaled.Goals as goal
 

@@ -1,4 +1,4 @@
-use Rattle.std.proofs.Common.{◌≡◌, ◌-◌, ◌≤◌, length, rules}
+use Rattle.std.proofs.Common.{rules}
 use Rattle.io.proofs.Counting.{prefix_len_of_le}
 use Rattle.test_search.proofs.table.put_column.Goals as goal
 

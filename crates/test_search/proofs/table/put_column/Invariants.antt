@@ -1,7 +1,6 @@
 -- `table::put_column` meets its contract. The loop's invariant: the slice keeps its length, and the place is within
 -- it. Assumes nothing.
-use Rattle.std.proofs.Common.{◌≡◌, ◌-◌, ◌≤◌, length, rules}
-use Rattle.io.proofs.Counting.{prefix_len_of_le}
+use Rattle.std.proofs.Common.{◌≡◌, ◌-◌, ◌≤◌, length}
 use Rattle.test_search.proofs.table.put_column.Given as goal
 
 abbrev pub invariant-loop-i : goal.invariant-loop-i

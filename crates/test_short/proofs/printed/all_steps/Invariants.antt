@@ -1,6 +1,5 @@
 -- `printed::all_steps` meets its contract: each turn goes on to the next step. Assumes nothing.
-use Prim.Native.Nat.{◌-◌}
-use borrow.Author.Rules.{rules}
+use Rattle.std.proofs.Common.{◌-◌}
 use Rattle.test_short.proofs.printed.all_steps.Given as goal
 
 abbrev pub invariant-loop-position : goal.invariant-loop-position

@@ -1,5 +1,5 @@
 -- `compare::loads_of` meets its contract. The loop's measure is what is left of the steps. Assumes nothing.
-use Rattle.std.proofs.Common.{◌-◌, ◌≤◌, rules}
+use Rattle.std.proofs.Common.{◌-◌, ◌≤◌}
 use Rattle.test_sites.proofs.compare.loads_of.Given as goal
 
 abbrev pub invariant-loop-position : goal.invariant-loop-position

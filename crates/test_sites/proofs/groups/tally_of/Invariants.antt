@@ -1,5 +1,5 @@
 -- `groups::tally_of` meets its contract. The loop's invariant: neither count is above that of the sites. Assumes nothing.
-use Rattle.std.proofs.Common.{◌-◌, ◌≤◌, rules}
+use Rattle.std.proofs.Common.{◌-◌, ◌≤◌}
 use Rattle.test_sites.proofs.groups.tally_of.Given as goal
 
 abbrev pub invariant-loop-n : goal.invariant-loop-n

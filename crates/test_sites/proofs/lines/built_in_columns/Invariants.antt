@@ -1,5 +1,5 @@
 -- `lines::built_in_columns` meets its contract. The loop's invariant: the columns keep their length. Assumes nothing.
-use Rattle.std.proofs.Common.{◌≡◌, ◌-◌, ◌≤◌, length, rules}
+use Rattle.std.proofs.Common.{◌≡◌, ◌-◌, ◌≤◌, length}
 use Rattle.test_sites.proofs.lines.built_in_columns.Given as goal
 
 abbrev pub invariant-loop-i : goal.invariant-loop-i

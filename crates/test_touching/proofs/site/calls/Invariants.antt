@@ -1,9 +1,6 @@
 -- `site::calls` meets its contract. The loop's invariant: the place is within the line. A turn goes on in the line, by `next`.
 -- Assumes nothing.
-use Prim.Native.Nat.{◌-◌, ◌≤◌}
-use native.Mathlib.Omega.{arith}
-use lib.ListN.{length}
-use borrow.Author.Rules.{rules}
+use Rattle.std.proofs.Common.{◌-◌, ◌≤◌, length}
 use Rattle.test_touching.proofs.site.calls.Given as goal
 
 abbrev pub invariant-loop-place : goal.invariant-loop-place

@@ -57,7 +57,7 @@ pub overflow_cast-result-3 : goal.overflow_cast-result-3
 overflow_cast-result-3 c = omega (arith, (few (goal.at.overflow_cast-result-3 c).After-count_steps-steps_wanted).2)
 
 pub nearest_deadline-requires : goal.nearest_deadline-requires
-nearest_deadline-requires c = let start = (goal.at.nearest_deadline-requires c).After-count_steps-steps_wanted.before.before.before.before.before.before.before.before in (start.pre.0, start.pre.2)
+nearest_deadline-requires c = (c.requires.0, c.requires.2)
 
 pub returns : goal.returns
 unfolding touched_in

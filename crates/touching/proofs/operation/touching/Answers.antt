@@ -16,7 +16,7 @@ returns-then-end-gt-MAX_DEADLINE c = refused_answers _ _ (touching_wrong_span _ 
 pub touching_jobs-requires : goal.touching_jobs-requires
 touching_jobs-requires c =
     let decoded = c.decode_jobs-reading.ensures in
-    let counted = c.reading-in-Entries-1.given.1 in
+    let counted = c.in-Entries.is in
     record {
       valid = jobs_valid _ _ (jobs_decoded _ _ _ _ _ decoded _ counted);
       deadlines_past = decoded_deadlines_padded _ _ _ _ _ decoded _ counted;
@@ -27,11 +27,11 @@ pub returns-in-Refused : goal.returns-in-Refused
 returns-in-Refused c =
     let decoded = c.decode_jobs-reading.ensures in
     refused_answers _ _
-    (touching_jobs_refused _ _ _ _ _ _ _ _ (omega arith) (omega arith) _ _ (jobs_decoded_refused _ _ _ _ _ decoded _ _ c.reading-1.given.1))
+    (touching_jobs_refused _ _ _ _ _ _ _ _ (omega arith) (omega arith) _ _ (jobs_decoded_refused _ _ _ _ _ decoded _ _ c.in-Refused.is))
 
 pub returns-in-Entries : goal.returns-in-Entries
 returns-in-Entries c =
     let decoded = c.decode_jobs-reading.ensures in
     same-answers
-    (touching_read _ _ _ _ _ _ _ _ (omega arith) (omega arith) _ (jobs_decoded _ _ _ _ _ decoded _ c.reading-in-Entries-1.given.1))
+    (touching_read _ _ _ _ _ _ _ _ (omega arith) (omega arith) _ (jobs_decoded _ _ _ _ _ decoded _ c.in-Entries.is))
     c.touching_jobs.ensures

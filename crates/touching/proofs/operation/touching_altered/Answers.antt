@@ -11,7 +11,7 @@ use Rattle.touching.proofs.operation.touching_altered.Goals as goal
 pub marked_bounds-bounds-requires : goal.marked_bounds-bounds-requires
 marked_bounds-bounds-requires c =
     let (valid, rising) = c.requires in
-    record { count_le_max_jobs = (jobs_count _ _ _ _ valid, omega (arith, rising.few, length_marks_in c.args.mark-count c.args.ticks.now), refl); by_index = jobs_ordered _ _ _ _ valid }
+    record { count_le_max_jobs = (jobs_count _ _ _ _ valid, omega (arith, rising.few, length_marks_in c.args.mark_count c.args.ticks.now), refl); by_index = jobs_ordered _ _ _ _ valid }
 
 pub touching_bounds-requires : goal.touching_bounds-requires
 touching_bounds-requires c =

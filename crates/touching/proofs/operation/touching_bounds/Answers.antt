@@ -12,23 +12,27 @@ use Rattle.touching.proofs.operation.touching_bounds.Goals as goal
 
 pub bound_numbers-requires : goal.bound_numbers-requires
 bound_numbers-requires c =
-    let (valid, (bounds, held)) = c.requires in
+    let valid = c.requires.valid_jobs in
+    let (bounds, held) = c.requires.by_index in
     (jobs_count _ _ _ _ valid, times_rise _ _ _ _ valid held, refl)
 
 pub bound_numbers-requires-2 : goal.bound_numbers-requires-2
 bound_numbers-requires-2 c =
-    let (valid, (bounds, held)) = c.requires in
+    let valid = c.requires.valid_jobs in
+    let (bounds, held) = c.requires.by_index in
     (jobs_count _ _ _ _ valid, times_rise _ _ _ _ valid held, refl)
 
 pub open_sets-requires : goal.open_sets-requires
 open_sets-requires c =
-    let (valid, (bounds, held)) = c.requires in
+    let valid = c.requires.valid_jobs in
+    let (bounds, held) = c.requires.by_index in
     let few = numbers_few _ _ _ _ valid held c.bound_numbers.ensures c.bound_numbers-2.ensures in
     record { jobs_le_max_jobs = (jobs_count _ _ _ _ valid, refl); by_index = few }
 
 pub check_steps-checked-requires : goal.check_steps-checked-requires
 check_steps-checked-requires c =
-    let (valid, (bounds, held)) = (entry (releasing (goal.at.check_steps-checked-requires c).After-bound_numbers-2)).requires in
+    let valid = c.requires.valid_jobs in
+    let (bounds, held) = c.requires.by_index in
     (jobs_count _ _ _ _ valid, (times_rise _ _ _ _ valid held).few, no-jobs)
 
 pub returns-in-Refused : goal.returns-in-Refused
@@ -36,11 +40,12 @@ returns-in-Refused c = λ bounds held.
     refused_answers _ _
     (steps_refused _ _ _ _ c.requires.valid_jobs held
     c.bound_numbers.ensures c.bound_numbers-2.ensures c.open_sets.ensures
-    _ _ c.check_steps-checked.ensures.value _ _ _ _ _ c.checked-1.given.1)
+    _ _ c.check_steps-checked.ensures.value _ _ _ _ _ c.in-Refused.is)
 
 pub list_touched-requires : goal.list_touched-requires
 list_touched-requires c =
-    let (valid, (bounds, held)) = (entry (releasing (numbering (goal.at.list_touched-requires c).After-open_sets))).requires in
+    let valid = c.requires.valid_jobs in
+    let (bounds, held) = c.requires.by_index in
     let few = (times_rise _ _ _ _ valid held).few in
     (jobs_count _ _ _ _ valid, omega (arith, c.interval_count.ensures), deadlines_high _ _ _ _ valid)
 
@@ -49,6 +54,6 @@ returns c = λ bounds held.
     same-answers
     (steps_passed _ _ _ _ c.requires.valid_jobs held
     c.bound_numbers.ensures c.bound_numbers-2.ensures c.open_sets.ensures
-    _ _ c.check_steps-checked.ensures.value _ _ _ _ c.enum_told-1.given.1 c.check_steps-checked.ensures.cells_seen
+    _ _ c.check_steps-checked.ensures.value _ _ _ _ c.in_default.is c.check_steps-checked.ensures.cells_seen
     _ c.interval_count.ensures)
     c.list_touched.ensures

@@ -7,12 +7,12 @@ use Rattle.touching.proofs.operation.touching_jobs.Goals as goal
 
 pub touching_marked-requires : goal.touching_marked-requires
 touching_marked-requires c =
-    (c.requires, marks_valid _ _ (marks_read _ _ c.read_marks-table.ensures _ c.reading-in-Entries-1.given.1))
+    (c.requires, marks_valid _ _ (marks_read _ _ c.read_marks-table.ensures _ c.in-Entries.is))
 
 pub returns-in-Refused : goal.returns-in-Refused
 returns-in-Refused c =
-    refused_answers _ _ (rw (marks_read_refused _ _ c.read_marks-table.ensures _ _ c.reading-1.given.1))
+    refused_answers _ _ (rw (marks_read_refused _ _ c.read_marks-table.ensures _ _ c.in-Refused.is))
 
 pub returns-in-Entries : goal.returns-in-Entries
 returns-in-Entries c =
-    same-answers (rw (marks_read _ _ c.read_marks-table.ensures _ c.reading-in-Entries-1.given.1)) c.touching_marked.ensures
+    same-answers (rw (marks_read _ _ c.read_marks-table.ensures _ c.in-Entries.is)) c.touching_marked.ensures

@@ -9,12 +9,12 @@ use Rattle.touching.proofs.operation.touching_marked.Goals as goal
 pub touching_altered-requires : goal.touching_altered-requires
 touching_altered-requires c =
     let (arrays, rising) = c.requires in
-    (altered_are_valid.1 _ _ _ _ arrays.valid (c.alter_jobs-altered.ensures.held _ c.altered-in-Entries-1.given.1), rising)
+    (altered_are_valid.1 _ _ _ _ arrays.valid (c.alter_jobs-altered.ensures.held _ c.in-Entries.is), rising)
 
 pub returns-in-Refused : goal.returns-in-Refused
 returns-in-Refused c =
-    refused_answers _ _ (rw (refused_altering c.alter_jobs-altered.ensures _ _ c.altered-1.given.1))
+    refused_answers _ _ (rw (refused_altering c.alter_jobs-altered.ensures _ _ c.in-Refused.is))
 
 pub returns-in-Entries : goal.returns-in-Entries
 returns-in-Entries c =
-    same-answers (rw (c.alter_jobs-altered.ensures.held _ c.altered-in-Entries-1.given.1)) c.touching_altered.ensures
+    same-answers (rw (c.alter_jobs-altered.ensures.held _ c.in-Entries.is)) c.touching_altered.ensures
