@@ -1,16 +1,13 @@
--- The turns of a walk: what was taken in a turn stands at some number of the plan, and where it is a step the next turn's
--- number is one higher and no higher than the plan's step count. So a walk ends.
+-- The turns of a walk: while what was taken is a step, the reading that it leaves goes on in the same plan, and the next step,
+-- whose number is below the plan's step count, leaves a higher number. So a walk ends.
 -- Assumes nothing.
 use mathlib.Core.Path.{◌≡◌, refl, sym, ◌∙◌, ap}
 use mathlib.Core.Bool.{Bool, true, false}
 use mathlib.Core.Logic.{◌⊎◌, inl, inr}
 use mathlib.Core.List.{List}
-use mathlib.Core.WellFounded.InvImage
-use mathlib.Core.WellFounded.{WellFounded}
-use Prim.Native.Nat.{ℕ, suc, ◌-◌, ◌<◌, ◌≤◌, zero-le}
-use native.Mathlib.Omega.{arith}
-use lib.WfN.{lt-wf_rel}
+use Prim.Native.Nat.{ℕ, zero, suc, ◌-◌, ◌<◌, ◌≤◌}
 use denote.Ref.{Bor}
+use native.Mathlib.Omega.{arith}
 use Rattle.model.specs.Steps.{step_count, step_at, wrong_plan_length, walk}
 use Rattle.model.proofs.Numbers.{lt_or_le, true≢false}
 use Rattle.walking.specs.declared.steps.StepAnswer.{StepAnswer}
@@ -18,7 +15,7 @@ use Rattle.walking.specs.declared.steps.StepAnswer.TheVariants.{Step as Found, E
 use Rattle.walking.specs.declared.walk.StepReading.{StepReading}
 use Rattle.walking.specs.declared.walk.Taken.{Taken}
 use Rattle.walking.specs.Walking.{step_answer, number_after}
-use Rattle.walking.specs.Readings.{answer_of, taken}
+use Rattle.walking.specs.Readings.{started, answer_of, taken}
 use Rattle.walking.proofs.Walking.{step_past, walk_refused, walk_answered}
 use Rattle.test_check.specs.Printing.{is_step}
 
@@ -42,45 +39,46 @@ number_suc (Found step) number e = refl
 number_suc End number e = absurd (true≢false (sym e))
 number_suc (Refused n place) number e = absurd (true≢false (sym e))
 
-less : (count number : ℕ) → number < count → count - suc number < count - number
-less count number below = omega arith
+-- what holds of what was taken in a turn
+pub record Turn (plan : List ℕ) (got : Taken) : Type 0 where
+  pub same : is_step got.answer ≡ true → got.rest.plan.now ≡ plan
 
-module _ (plan : Bor (List ℕ)) where
-  abbrev pub reading : ℕ → StepReading
-  reading number = record { plan = plan; next = number }
+-- how many turns are left at most
+abbrev pub left_after : (step : Bool) → (count number : ℕ) → ℕ
+left_after true count number = suc (count - number)
+left_after false count number = zero
 
-  -- what was taken in a turn, and the number that it stands at
-  pub record Turn : Type 0 where
-    pub got : Taken
-    pub number : ℕ
-    pub within : number ≤ step_count plan.now
-    pub stands : got ≡ taken (reading number)
+abbrev pub turns_left : (plan : List ℕ) → Taken → ℕ
+turns_left plan got = left_after (is_step got.answer) (step_count plan) got.rest.next
 
-  -- a turn is nearer to the end when less is left
-  abbrev pub Nearer : Turn → Turn → Type 0
-  Nearer later turn = step_count plan.now - later.number < step_count plan.now - turn.number
+module _ (reading : StepReading) (step : is_step (answer_of reading) ≡ true) where
+  pub below : reading.next < step_count reading.plan.now
+  below = step_below reading.plan.now reading.next step
 
-  pub nearer_ends : WellFounded Nearer
-  nearer_ends = InvImage.wf (λ (turn : Turn). step_count plan.now - turn.number) lt-wf_rel.wf
+  pub goes_on : (taken reading).rest.next ≡ suc reading.next
+  goes_on = number_suc (answer_of reading) reading.next step
 
-  -- the first turn, and the turn after one that took a step
-  abbrev pub first_turn : (got : Taken) → got ≡ taken (reading 0) → Turn
-  first_turn got stands = record { got = got; number = 0; within = zero-le; stands = stands }
+-- what a reading over the plan gives
+turn_of : (reading : StepReading) → Turn reading.plan.now (taken reading)
+turn_of reading = record {
+  same = λ step. refl;
+}
 
-  module _ (turn : Turn) (step : is_step turn.got.answer ≡ true) where
-    pub here : is_step (answer_of (reading turn.number)) ≡ true
-    here = rw (sym (ap (λ (x : Taken). x.answer) turn.stands)) step
+fewer : (reading : StepReading) → turns_left reading.plan.now (taken reading) < suc (step_count reading.plan.now - reading.next)
+fewer reading = go (is_step (answer_of reading)) refl
+  where
+    go : (step : Bool) → is_step (answer_of reading) ≡ step
+        → left_after step (step_count reading.plan.now) (taken reading).rest.next < suc (step_count reading.plan.now - reading.next)
+    go false e = omega arith
+    go true e = omega (arith, goes_on reading e, below reading e)
 
-    pub rest_is : turn.got.rest ≡ reading (suc turn.number)
-    rest_is = ap (λ (x : Taken). x.rest) turn.stands ∙ ap reading (number_suc (answer_of (reading turn.number)) turn.number here)
+pub first_turn : (plan : Bor (List ℕ)) (reading : StepReading) (got : Taken) → reading ≡ started plan → got ≡ taken reading → Turn plan.now got
+first_turn plan reading got e e' = rw (e', e) (turn_of (started plan))
 
-    abbrev pub next_turn : (got : Taken) → got ≡ taken turn.got.rest → Turn
-    next_turn got stands = record {
-      got = got;
-      number = suc turn.number;
-      within = step_below plan.now turn.number here;
-      stands = stands ∙ ap taken rest_is;
-    }
+-- the turn after one that took a step, with fewer turns left
+module _ (plan : List ℕ) (got later : Taken) (turn : Turn plan got) (step : is_step got.answer ≡ true) (e : later ≡ taken got.rest) where
+  pub next_turn : Turn plan later
+  next_turn = rw (e, sym (turn.same step)) (turn_of got.rest)
 
-    pub next_nearer : (got : Taken) (stands : got ≡ taken turn.got.rest) → Nearer (next_turn got stands) turn
-    next_nearer got stands = less (step_count plan.now) turn.number (step_below plan.now turn.number here)
+  pub nearer : turns_left plan later < turns_left plan got
+  nearer = rw (e, step, sym (turn.same step)) (fewer got.rest)

@@ -1,6 +1,4 @@
-use Prim.Native.Nat.{◌-◌, ◌≤◌}
 use native.Mathlib.Omega.{arith}
-use borrow.Author.Rules.{rules}
 use Rattle.levels.proofs.SmallPoints.{read_few}
 use Rattle.test_setting.proofs.show.working.Goals as goal
 

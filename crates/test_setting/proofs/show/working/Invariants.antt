@@ -1,8 +1,5 @@
 -- `show::working` is safe. The loop's invariant: there are at most nine points, idling and eight levels. Assumes nothing.
 use Prim.Native.Nat.{◌-◌, ◌≤◌}
-use native.Mathlib.Omega.{arith}
-use borrow.Author.Rules.{rules}
-use Rattle.levels.proofs.SmallPoints.{read_few}
 use Rattle.test_setting.proofs.show.working.Given as goal
 
 abbrev pub invariant-loop-k : goal.invariant-loop-k

@@ -1,6 +1,5 @@
 -- `built_in::print` meets its contract: the index is below 5. Assumes nothing.
 use Prim.Native.Nat.{◌-◌}
-use borrow.Author.Rules.{rules}
 use Rattle.test_tables.proofs.built_in.print.Given as goal
 
 abbrev pub invariant-loop-i : goal.invariant-loop-i

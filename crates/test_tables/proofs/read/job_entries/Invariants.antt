@@ -1,6 +1,5 @@
 -- `read::job_entries` meets its contract: the index is below the arrays' length. Assumes nothing.
 use Prim.Native.Nat.{◌-◌}
-use borrow.Author.Rules.{rules}
 use Rattle.test_tables.proofs.read.job_entries.Given as goal
 
 abbrev pub invariant-loop-j : goal.invariant-loop-j

@@ -1,6 +1,5 @@
 -- `read::level_entries` meets its contract: the index is below the arrays' length. Assumes nothing.
 use Prim.Native.Nat.{◌-◌}
-use borrow.Author.Rules.{rules}
 use Rattle.test_tables.proofs.read.level_entries.Given as goal
 
 abbrev pub invariant-loop-i : goal.invariant-loop-i

@@ -1,6 +1,5 @@
 -- `read::mark_entries` meets its contract: the index is below the array's length. Assumes nothing.
 use Prim.Native.Nat.{◌-◌}
-use borrow.Author.Rules.{rules}
 use Rattle.test_tables.proofs.read.mark_entries.Given as goal
 
 abbrev pub invariant-loop-i : goal.invariant-loop-i
