@@ -76,11 +76,11 @@ fill_starts {p} sound {loads} fillable cross starts =
     }
 
 -- what is left of the jobs, and what must cross the bounds, only falls
-module _ {i j d amount : ℕ} {left cross left_After cross-after : ℕ → ℕ} (takes : Takes i j d amount left cross left_After cross-after) where
-  pub left_falls : (q : ℕ) → left_After q ≤ left q
+module _ {i j d amount : ℕ} {left cross left_after cross-after : ℕ → ℕ} (takes : Takes i j d amount left cross left_after cross-after) where
+  pub left_falls : (q : ℕ) → left_after q ≤ left q
   left_falls q = go (ℕ_discrete q j)
     where
-      go : Dec (q ≡ j) → left_After q ≤ left q
+      go : Dec (q ≡ j) → left_after q ≤ left q
       go (yes e) = rw e (omega (arith, takes.here))
       go (no other) = omega (arith, takes.others q other)
 
@@ -93,31 +93,31 @@ module _ {i j d amount : ℕ} {left cross left_After cross-after : ℕ → ℕ} 
       go (inl after) (inr late) = omega (arith, takes.lowered.outside b (inr late))
 
 -- a cell
-module _ (p : Problem) {left cross left_After cross-after : ℕ → ℕ} {i j amount : ℕ} (below : j < p.jobs) (takes : Takes i j (p.last j) amount left cross left_After cross-after) where
-  due_taken : (b : ℕ) → due_by p left b ≡ due_by p left_After b + only_if (leb (p.last j) b) amount
+module _ (p : Problem) {left cross left_after cross-after : ℕ → ℕ} {i j amount : ℕ} (below : j < p.jobs) (takes : Takes i j (p.last j) amount left cross left_after cross-after) where
+  due_taken : (b : ℕ) → due_by p left b ≡ due_by p left_after b + only_if (leb (p.last j) b) amount
   unfolding due_by
   due_taken b =
-      sum_update p.jobs (λ q. only_if (leb (p.last q) b) (left_After q)) (λ q. only_if (leb (p.last q) b) (left q)) j (only_if (leb (p.last j) b) amount)
+      sum_update p.jobs (λ q. only_if (leb (p.last q) b) (left_after q)) (λ q. only_if (leb (p.last q) b) (left q)) j (only_if (leb (p.last j) b) amount)
       below (own (leb (p.last j) b)) (λ q h other. rw (takes.others q other))
     where
-      own : (t : Bool) → only_if t (left j) ≡ only_if t (left_After j) + only_if t amount
+      own : (t : Bool) → only_if t (left j) ≡ only_if t (left_after j) + only_if t amount
       own true = sym takes.here
       own false = refl
 
   -- a job finishes or a cross comes to 0
   steps_grow : p.last j ≤ p.intervals → 0 < amount
-      → zero_count p.jobs left + zero_count p.intervals cross < zero_count p.jobs left_After + zero_count p.intervals cross-after
+      → zero_count p.jobs left + zero_count p.intervals cross < zero_count p.jobs left_after + zero_count p.intervals cross-after
   steps_grow inside some = go takes.most
     where
-      less : zero_count p.jobs left ≤ zero_count p.jobs left_After
-      less = zeros_mono p.jobs left left_After (λ q h. left_falls takes q)
+      less : zero_count p.jobs left ≤ zero_count p.jobs left_after
+      less = zeros_mono p.jobs left left_after (λ q h. left_falls takes q)
 
       fewer : zero_count p.intervals cross ≤ zero_count p.intervals cross-after
       fewer = zeros_mono p.intervals cross cross-after (λ b h. cross_falls takes b)
 
-      go : (left_After j ≡ 0) ⊎ ((b : ℕ) × (i < b) × (b < p.last j) × (cross-after b ≡ 0))
-          → zero_count p.jobs left + zero_count p.intervals cross < zero_count p.jobs left_After + zero_count p.intervals cross-after
-      go (inl none) = omega (arith, fewer, zeros_more p.jobs left left_After j below (λ q h. left_falls takes q) (omega (arith, takes.here)) none)
+      go : (left_after j ≡ 0) ⊎ ((b : ℕ) × (i < b) × (b < p.last j) × (cross-after b ≡ 0))
+          → zero_count p.jobs left + zero_count p.intervals cross < zero_count p.jobs left_after + zero_count p.intervals cross-after
+      go (inl none) = omega (arith, fewer, zeros_more p.jobs left left_after j below (λ q h. left_falls takes q) (omega (arith, takes.here)) none)
       go (inr (b, after, before, none)) =
           omega (
             arith,
@@ -125,11 +125,11 @@ module _ (p : Problem) {left cross left_After cross-after : ℕ → ℕ} {i j am
             zeros_more p.intervals cross cross-after b (omega arith) (λ b h. cross_falls takes b) (omega (arith, takes.lowered.inside b after before)) none,
           )
 
-pub fill_takes : {p : Problem} → SoundProblem p → {loads left cross left_After cross-after : ℕ → ℕ} {i j amount placed steps : ℕ}
+pub fill_takes : {p : Problem} → SoundProblem p → {loads left cross left_after cross-after : ℕ → ℕ} {i j amount placed steps : ℕ}
     → i < p.intervals → j < p.jobs → Open p i j
-    → Crossing p loads left cross i j placed steps → Takes i j (p.last j) amount left cross left_After cross-after
-    → Crossing p loads left_After cross-after i (suc j) (placed + amount) (steps + only_if (ltb 0 amount) 1)
-fill_takes {p} sound {loads} {left} {cross} {left_After} {cross-after} {i} {j} {amount} {placed} {steps} inside below is_open_true now takes =
+    → Crossing p loads left cross i j placed steps → Takes i j (p.last j) amount left cross left_after cross-after
+    → Crossing p loads left_after cross-after i (suc j) (placed + amount) (steps + only_if (ltb 0 amount) 1)
+fill_takes {p} sound {loads} {left} {cross} {left_after} {cross-after} {i} {j} {amount} {placed} {steps} inside below is_open_true now takes =
     record {
       balance = λ b after within. balance b after within (lt_or_le b (p.last j));
       first = takes.lowered.outside 0 (inl (omega arith)) ∙ now.first;
@@ -143,26 +143,26 @@ fill_takes {p} sound {loads} {left} {cross} {left_After} {cross-after} {i} {j} {
     early_other : (q : ℕ) → i < p.first q → q ≡ j → ⊥
     early_other q early e = let other : i < p.first j = rw e at early in omega (arith, is_open_true.from)
 
-    balance : (b : ℕ) → i < b → b ≤ p.intervals → (b < p.last j) ⊎ (p.last j ≤ b) → cross-after b + due_by p left_After b + (placed + amount) ≡ sum b loads
+    balance : (b : ℕ) → i < b → b ≤ p.intervals → (b < p.last j) ⊎ (p.last j ≤ b) → cross-after b + due_by p left_after b + (placed + amount) ≡ sum b loads
     balance b after within (inl before) =
-        let due : due_by p left b ≡ due_by p left_After b + 0 = rw (lt-leb (p.last j) b before) at (due_taken p below takes b) in
+        let due : due_by p left b ≡ due_by p left_after b + 0 = rw (lt-leb (p.last j) b before) at (due_taken p below takes b) in
         omega (arith, now.balance b after within, takes.lowered.inside b after before)
     balance b after within (inr late) =
-        let due : due_by p left b ≡ due_by p left_After b + amount = rw (le-leb (p.last j) b late) at (due_taken p below takes b) in
+        let due : due_by p left b ≡ due_by p left_after b + amount = rw (le-leb (p.last j) b late) at (due_taken p below takes b) in
         omega (arith, now.balance b after within, takes.lowered.outside b (inr late))
 
-    tight : (q : ℕ) → q ≡ j → 0 < left_After q → (left_After j ≡ 0) ⊎ ((b : ℕ) × (i < b) × (b < p.last j) × (cross-after b ≡ 0))
+    tight : (q : ℕ) → q ≡ j → 0 < left_after q → (left_after j ≡ 0) ⊎ ((b : ℕ) × (i < b) × (b < p.last j) × (cross-after b ≡ 0))
         → (b : ℕ) × (i < b) × (b < p.last q) × (cross-after b ≡ 0)
-    tight q e more (inl none) = absurd (let some : 0 < left_After j = rw e at more in omega arith)
+    tight q e more (inl none) = absurd (let some : 0 < left_after j = rw e at more in omega arith)
     tight q e more (inr found) = rw e found
 
-    passed : (q : ℕ) → p.first q ≤ i → 0 < left_After q → (q ≡ j) ⊎ (q < j) → (b : ℕ) × (i < b) × (b < p.last q) × (cross-after b ≡ 0)
+    passed : (q : ℕ) → p.first q ≤ i → 0 < left_after q → (q ≡ j) ⊎ (q < j) → (b : ℕ) × (i < b) × (b < p.last q) × (cross-after b ≡ 0)
     passed q begun more (inl e) = tight q e more takes.most
     passed q begun more (inr h) =
         let (b, after, before, none) = now.passed q h begun (omega (arith, left_falls takes q)) in
         (b, after, before, omega (arith, cross_falls takes b))
 
-    few : (0 < amount) ⊎ (amount ≤ 0) → steps + only_if (ltb 0 amount) 1 ≤ zero_count p.jobs left_After + zero_count p.intervals cross-after - 1
+    few : (0 < amount) ⊎ (amount ≤ 0) → steps + only_if (ltb 0 amount) 1 ≤ zero_count p.jobs left_after + zero_count p.intervals cross-after - 1
     few (inl some) = rw (lt-ltb 0 amount some) (omega (
       arith,
       now.few,
@@ -174,7 +174,7 @@ fill_takes {p} sound {loads} {left} {cross} {left_After} {cross-after} {i} {j} {
         (omega (
           arith,
           now.few,
-          zeros_mono p.jobs left left_After (λ q h. left_falls takes q),
+          zeros_mono p.jobs left left_after (λ q h. left_falls takes q),
           zeros_mono p.intervals cross cross-after (λ b h. cross_falls takes b),
         ))
 

@@ -195,11 +195,11 @@ refill_starts {p} sound {loads} fillable cross starts shares none =
     nothing k q (inr (e, h)) = omega arith
 
 -- one cell takes what it can
-pub refill_takes : {p : Problem} → SoundProblem p → {loads : ℕ → ℕ} {shares after : Shares} {left cross left_After cross-after : ℕ → ℕ} {i j amount : ℕ}
+pub refill_takes : {p : Problem} → SoundProblem p → {loads : ℕ → ℕ} {shares after : Shares} {left cross left_after cross-after : ℕ → ℕ} {i j amount : ℕ}
     → Open p i j → Refilling p loads shares left cross i j
-    → Grown p shares after i j amount → Takes i j (p.last j) amount left cross left_After cross-after
-    → Refilling p loads after left_After cross-after i (suc j)
-refill_takes {p} sound {loads} {shares} {after} {left} {cross} {left_After} {cross-after} {i} {j} {amount} is_open_true now grown takes =
+    → Grown p shares after i j amount → Takes i j (p.last j) amount left cross left_after cross-after
+    → Refilling p loads after left_after cross-after i (suc j)
+refill_takes {p} sound {loads} {shares} {after} {left} {cross} {left_after} {cross-after} {i} {j} {amount} is_open_true now grown takes =
     record {
       crossing =
           rw (total_grown grown, cells_grown grown (own_zero inside below now))
@@ -221,7 +221,7 @@ refill_takes {p} sound {loads} {shares} {after} {left} {cross} {left_After} {cro
     shut k q h l more (inl same) = now.shut k q h l (omega arith)
     shut k q h l more (inr (there, its)) = rw (there, its) is_open_true
 
-    rest : (q : ℕ) → q < p.jobs → Dec (q ≡ j) → placed_of p after q + left_After q ≡ p.cycles q
+    rest : (q : ℕ) → q < p.jobs → Dec (q ≡ j) → placed_of p after q + left_after q ≡ p.cycles q
     rest q l (yes e) =
         let own : placed_of p after j ≡ placed_of p shares j + amount = rw (eq-eqb j j refl) at (grown_placed grown j below) in
         rw e (omega (arith, takes.here, now.rest j below))
@@ -237,7 +237,7 @@ refill_takes {p} sound {loads} {shares} {after} {left} {cross} {left_After} {cro
     here : (rival : Shares) → Rival p loads rival → Agree p i j rival shares → rival i j ≤ after i j
     here rival against agree = go takes.most
       where
-        go : (left_After j ≡ 0) ⊎ ((b : ℕ) × (i < b) × (b < p.last j) × (cross-after b ≡ 0)) → rival i j ≤ after i j
+        go : (left_after j ≡ 0) ⊎ ((b : ℕ) × (i < b) × (b < p.last j) × (cross-after b ≡ 0)) → rival i j ≤ after i j
         go (inl none) = omega (arith, within_left inside below now rival against agree, takes.here, grown.here)
         go (inr (b, late, early, none)) =
             omega (

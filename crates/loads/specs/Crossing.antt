@@ -14,11 +14,11 @@ pub record Lowered (i d amount : ℕ) (before after : ℕ → ℕ) : Type 0 wher
   pub outside : (b : ℕ) → (b ≤ i) ⊎ (d ≤ b) → after b ≡ before b
 
 -- One cell: job j, due at bound d, takes `amount` of what is left of it in interval i, the most that leaves no cross below 0.
-pub record Takes (i j d amount : ℕ) (left cross left_After cross-after : ℕ → ℕ) : Type 0 where
-  pub here : left_After j + amount ≡ left j
-  pub others : (q : ℕ) → (q ≡ j → ⊥) → left_After q ≡ left q
+pub record Takes (i j d amount : ℕ) (left cross left_after cross-after : ℕ → ℕ) : Type 0 where
+  pub here : left_after j + amount ≡ left j
+  pub others : (q : ℕ) → (q ≡ j → ⊥) → left_after q ≡ left q
   pub lowered : Lowered i d amount cross cross-after
-  pub most : (left_After j ≡ 0) ⊎ ((b : ℕ) × (i < b) × (b < d) × (cross-after b ≡ 0))
+  pub most : (left_after j ≡ 0) ⊎ ((b : ℕ) × (i < b) × (b < d) × (cross-after b ≡ 0))
 
 module _ (p : Problem) where
   -- Of numbers of cycles, those of the jobs due by a bound.

@@ -50,8 +50,8 @@ module _ {work : Workload} {loads : ℕ → ℕ} {table holders left cross : Lis
         left_small = omega (arith, tables.refilling.rest j below, sound.cycles_most j below);
       }
 
-  module _ (is_open_true : Open (problem_in work) i j) {table-after holders-after left_After cross-after : List ℕ}
-      (taken : CellTaken work.jobs work.last table holders left cross table-after holders-after left_After cross-after i j) where
+  module _ (is_open_true : Open (problem_in work) i j) {table-after holders-after left_after cross-after : List ℕ}
+      (taken : CellTaken work.jobs work.last table holders left cross table-after holders-after left_after cross-after i j) where
     grown : Grown (problem_in work) (shares_in work.jobs table) (shares_in work.jobs table-after) i j taken.amount
     grown = rw taken.table_is (grown_put {p = problem_in work} inside below table tables.room)
 
@@ -62,7 +62,7 @@ module _ {work : Workload} {loads : ℕ → ℕ} {table holders left cross : Lis
         go (inl none) = rw (taken.not_joined none) (holding_same tables.holding (rw none at grown))
         go (inr some) = holding_put tables.sound.jobs_most tables.holding some grown (taken.joined some)
 
-    pub cell_taken : RefillTables work loads table-after holders-after left_After cross-after i (suc j)
+    pub cell_taken : RefillTables work loads table-after holders-after left_after cross-after i (suc j)
     cell_taken =
         record {
           sound = tables.sound;

@@ -110,35 +110,35 @@ module _ {work : Workload} {loads : ℕ → ℕ} {table holders left cross next 
           after member (inl less) = absurd (true≢false (sym member ∙ none_before q less))
           after member (inr order) = omega (arith, other)
 
-  module _ {table-after holders-after left_After cross-after : List ℕ}
-      (taken : CellTaken work.jobs work.last table holders left cross table-after holders-after left_After cross-after i job) where
+  module _ {table-after holders-after left_after cross-after : List ℕ}
+      (taken : CellTaken work.jobs work.last table holders left cross table-after holders-after left_after cross-after i job) where
     pub next_kept : KeptPast (work.intervals * work.jobs) table table-after
     next_kept = cell_kept before.inside job_below tables_at job_open taken
 
-    pub tables_next : RefillTables work loads table-after holders-after left_After cross-after i (suc job)
+    pub tables_next : RefillTables work loads table-after holders-after left_after cross-after i (suc job)
     tables_next = cell_taken before.inside job_below tables_at job_open taken
 
     uncrossed_next_job : Uncrossed work.intervals (suc i) row.uncrossed cross-after next
     uncrossed_next_job = uncrossed_stay before.uncrossed_are (cross_falls taken.takes)
 
-    still_finished : (q : ℕ) → q < work.jobs → is_member row.finished q ≡ true → numbers_in left_After q ≡ 0
+    still_finished : (q : ℕ) → q < work.jobs → is_member row.finished q ≡ true → numbers_in left_after q ≡ 0
     still_finished q below has = omega (arith, left_falls taken.takes q, before.are_finished q below has)
 
     -- of the others after it that are no members nothing can be taken, as before
     still_others : (q : ℕ) → suc job ≤ q → q < work.jobs → Open (problem_in work) i q → is_member (without_job row.rest job) q ≡ false
-        → (numbers_in left_After q ≡ 0) ⊎ (row.uncrossed < numbers_in work.last q)
+        → (numbers_in left_after q ≡ 0) ⊎ (row.uncrossed < numbers_in work.last q)
     still_others q from below is_open_true hasn't =
         let other : q ≡ job → ⊥ = λ e. omega arith in
         go other (before.others q (omega (arith, (before.rest_are job is_member_true).0)) below is_open_true (sym (without_other row.rest job q other) ∙ hasn't))
       where
         go : (q ≡ job → ⊥) → (numbers_in left q ≡ 0) ⊎ (row.uncrossed < numbers_in work.last q)
-            → (numbers_in left_After q ≡ 0) ⊎ (row.uncrossed < numbers_in work.last q)
+            → (numbers_in left_after q ≡ 0) ⊎ (row.uncrossed < numbers_in work.last q)
         go other (inl none) = inl (taken.takes.others q other ∙ none)
         go other (inr past) = inr past
 
     -- it is finished
-    pub row_finishes : numbers_in left_After job ≡ 0
-        → InRow work loads table-after holders-after left_After cross-after next i
+    pub row_finishes : numbers_in left_after job ≡ 0
+        → InRow work loads table-after holders-after left_after cross-after next i
         (record { uncrossed = row.uncrossed; finished = with_job row.finished job; rest = without_job row.rest job })
     row_finishes none =
         record {
@@ -155,13 +155,13 @@ module _ {work : Workload} {loads : ℕ → ℕ} {table holders left cross next 
           others = still_others;
         }
       where
-        finished : (q : ℕ) → q < work.jobs → is_member (with_job row.finished job) q ≡ true → Dec (q ≡ job) → numbers_in left_After q ≡ 0
+        finished : (q : ℕ) → q < work.jobs → is_member (with_job row.finished job) q ≡ true → Dec (q ≡ job) → numbers_in left_after q ≡ 0
         finished q below has (yes e) = rw e none
         finished q below has (no other) = still_finished q below (sym (with_other row.finished job q job_small other) ∙ has)
 
     -- some of it is left, and a nearer bound is found that nothing must cross
     pub row_narrows : {sets : List ℕ} {nearer : ℕ} → OpenSets work sets → i < nearer → nearer < numbers_in work.last job → numbers_in cross-after nearer ≡ 0
-        → InRow work loads table-after holders-after left_After cross-after (set next nearer row.uncrossed) i
+        → InRow work loads table-after holders-after left_after cross-after (set next nearer row.uncrossed) i
         (record { uncrossed = nearer; finished = row.finished; rest = due_set sets work.intervals (without_job row.rest job) nearer })
     row_narrows {sets} {nearer} opens late early none =
         record {
@@ -186,14 +186,14 @@ module _ {work : Workload} {loads : ℕ → ℕ} {table holders left cross next 
             (from, known.1, known.2, due_by_bound before.tables.sound.sound opens late rest known.1 known.2 has)
 
         others : (q : ℕ) → suc job ≤ q → q < work.jobs → Open (problem_in work) i q → is_member (due_set sets work.intervals rest nearer) q ≡ false
-            → (numbers_in left_After q ≡ 0) ⊎ (nearer < numbers_in work.last q)
+            → (numbers_in left_after q ≡ 0) ⊎ (nearer < numbers_in work.last q)
         others q from below is_open_true hasn't = go (due-after before.tables.sound.sound opens late rest below is_open_true hasn't)
           where
-            further : (numbers_in left_After q ≡ 0) ⊎ (row.uncrossed < numbers_in work.last q) → (numbers_in left_After q ≡ 0) ⊎ (nearer < numbers_in work.last q)
+            further : (numbers_in left_after q ≡ 0) ⊎ (row.uncrossed < numbers_in work.last q) → (numbers_in left_after q ≡ 0) ⊎ (nearer < numbers_in work.last q)
             further (inl e) = inl e
             further (inr past) = inr (omega (arith, job_due))
 
-            go : (is_member rest q ≡ false) ⊎ (nearer < numbers_in work.last q) → (numbers_in left_After q ≡ 0) ⊎ (nearer < numbers_in work.last q)
+            go : (is_member rest q ≡ false) ⊎ (nearer < numbers_in work.last q) → (numbers_in left_after q ≡ 0) ⊎ (nearer < numbers_in work.last q)
             go (inr past) = inr past
             go (inl hasn't) = further (still_others q from below is_open_true hasn't)
 

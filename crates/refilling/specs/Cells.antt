@@ -26,11 +26,11 @@ pub record CanTake (jobs : ℕ) (last table holders left cross : List ℕ) (i j 
   pub left_small : numbers_in left j < 2 ^ 32
 
 -- The job joins the interval's set where it takes some.
-pub record CellTaken (jobs : ℕ) (last table holders left cross table-after holders-after left_After cross-after : List ℕ) (i j : ℕ) : Type 0 where
+pub record CellTaken (jobs : ℕ) (last table holders left cross table-after holders-after left_after cross-after : List ℕ) (i j : ℕ) : Type 0 where
   pub amount : ℕ
-  pub takes : Takes i j (numbers_in last j) amount (numbers_in left) (numbers_in cross) (numbers_in left_After) (numbers_in cross-after)
+  pub takes : Takes i j (numbers_in last j) amount (numbers_in left) (numbers_in cross) (numbers_in left_after) (numbers_in cross-after)
   pub table_is : table-after ≡ put_at table (i * jobs + j) amount
   pub joined : 0 < amount → Added holders holders-after i j
   pub not_joined : amount ≡ 0 → holders-after ≡ holders
-  pub left_length : length left_After ≡ max_jobs
+  pub left_length : length left_after ≡ max_jobs
   pub cross_length : length cross-after ≡ max_bounds

@@ -1,9 +1,6 @@
-use mathlib.Core.Path.{◌≡◌, refl, ◌∙◌}
-use Prim.Native.Nat.{◌+◌, ◌-◌, ◌≤◌}
+use mathlib.Core.Path.{refl, ◌∙◌}
 use native.Mathlib.Omega.{arith}
-use lib.ListN.{get_or}
 use Rattle.model.specs.Limits.{max_intervals}
-use Rattle.reading.specs.Column.{column_of}
 use Rattle.reading.proofs.Column.{column_none, column_more, column_whole}
 use Rattle.planning.proofs.making.sizes.Goals as goal
 

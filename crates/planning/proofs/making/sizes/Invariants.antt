@@ -1,12 +1,10 @@
 -- `making::sizes` meets its contract. The loop's invariant: the first `i` lengths are filled, zeros after them.
 -- Assumes nothing.
-use mathlib.Core.Path.{◌≡◌, refl, ◌∙◌}
+use mathlib.Core.Path.{◌≡◌}
 use Prim.Native.Nat.{◌+◌, ◌-◌, ◌≤◌}
-use native.Mathlib.Omega.{arith}
 use lib.ListN.{get_or}
 use Rattle.model.specs.Limits.{max_intervals}
 use Rattle.reading.specs.Column.{column_of}
-use Rattle.reading.proofs.Column.{column_none, column_more, column_whole}
 use Rattle.planning.proofs.making.sizes.Given as goal
 
 abbrev pub invariant-loop-i : goal.invariant-loop-i

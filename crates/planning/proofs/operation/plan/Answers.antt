@@ -1,6 +1,5 @@
 -- `operation::plan` meets its contract: a site is refused as reading refuses it, and what holds of planning the site that was
 -- read is the whole promise (proofs/PlanStages.antt). Assumes nothing.
-use borrow.Author.Rules.{rules}
 use Rattle.model.proofs.Sites.{sites_are_valid}
 use Rattle.site.proofs.ReadSites.{refused-site, held_site}
 use Rattle.planning.proofs.PlanStages.{refused_contract, site_contract}
@@ -8,7 +7,7 @@ use Rattle.planning.proofs.operation.plan.Goals as goal
 
 pub plan_site-requires : goal.plan_site-requires
 plan_site-requires c =
-    let (site, is, holds) = held_site c.read_site-site.ensures c.enum_told-1.given.1 in
+    let (site, is, holds) = held_site c.read_site-site.ensures c.in-Read.is in
     (site, sites_are_valid _ _ _ _ site is, holds)
 
 pub returns-in-Refused : goal.returns-in-Refused
