@@ -4,7 +4,6 @@ use mathlib.Core.Option.{none}
 use Prim.Native.Nat.{ℕ, ◌-◌, ◌≤◌}
 use native.Mathlib.Numerals.{add-one}
 use lib.ListN.{length-replicate}
-use borrow.Author.Tests.{not-false}
 use Rattle.model.specs.declared.Job.{Job}
 use Rattle.model.specs.Limits.{max_intervals, max_bounds}
 use Rattle.model.specs.Windows.{earliest_overfull}
@@ -92,7 +91,7 @@ loop-start-preserved c =
             | else-not-is_empty w ↦
                 rw (w.due-is, w.spares-is, w.rooms-is)
                 (taken_over arrays _ slow fits _ inside _ _ _ _ taken
-                (rw (← here-are (goal.at.loop-start-preserved c).After-both-released) (sym c.is_empty.ensures ∙ not-false _ w.if-not-is_empty.false-raw)))
+                (rw (← here-are (goal.at.loop-start-preserved c).After-both-released) (sym c.is_empty.ensures ∙ w.if-not-is_empty.false)))
           ]),
     )
 

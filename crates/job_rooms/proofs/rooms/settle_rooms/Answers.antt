@@ -3,7 +3,6 @@ use mathlib.Core.Bool.{false}
 use mathlib.Core.List.{List}
 use Prim.Native.Nat.{ℕ, ◌^◌, ◌<◌, ◌≤◌}
 use lib.ListN.{get_or}
-use borrow.Author.Tests.{not-true, not-false}
 use Rattle.model.specs.Limits.{max_jobs, max_bounds}
 use Rattle.job_sets.specs.JobSets.{is_empty, least_member, member_count}
 use Rattle.job_rooms.proofs.SettleSteps.{Settling, settling_first, settling_done, least_few, end_few, end_small, cycles_small, due_enough, fewer, settling_next}
@@ -17,7 +16,7 @@ loop-rest-init c = settling_first c.requires.can_settle _ _ c.requires.due_len.0
 
 -- within the loop some job is left
 some : (c : In-loop-rest) → is_empty c.loop-rest.rest ≡ false
-some c = sym c.is_empty.ensures ∙ not-true _ c.loop-rest-test.true-raw
+some c = sym c.is_empty.ensures ∙ c.loop-rest-test.true
 
 -- what this turn knows of the least of them
 record Turn (last cycles due : List ℕ) (intervals job : ℕ) : Type 0 where
@@ -92,4 +91,4 @@ loop-rest-preserved c =
     settling_next c.requires.can_settle _ _ c.loop-rest.invariant (some (goal.at.loop-rest-preserved c).In-loop-rest) _ c.least-job.ensures _ _ c.least_among.ensures refl _ c.without-rest.ensures
 
 pub returns : goal.returns
-returns c = settling_done c.requires.can_settle _ _ c.loop-rest.invariant (sym c.is_empty.ensures ∙ not-false _ c.loop-rest-test.false-raw)
+returns c = settling_done c.requires.can_settle _ _ c.loop-rest.invariant (sym c.is_empty.ensures ∙ c.loop-rest-test.false)

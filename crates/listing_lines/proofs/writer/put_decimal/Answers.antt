@@ -7,16 +7,15 @@ use borrow.Author.Rules.{rules}
 use Rattle.listing_lines.proofs.AppendedText.{appended_as}
 use Rattle.listing_lines.proofs.Decimals.{fewest_digits, twenty_digits}
 use Rattle.listing_lines.proofs.writer.put_decimal.Goals as goal
-use Rattle.listing_lines.proofs.writer.put_decimal.Goals.{After-put_bytes-arg-1}
-
-few : (c : After-put_bytes-arg-1) → c.decimal-count.result ≤ 20
-few c = twenty_digits _ _ c.decimal-count.ensures.len (search rules)
 
 pub put_bytes-requires : goal.put_bytes-requires
-put_bytes-requires c = omega (arith, few (goal.at.put_bytes-requires c).After-put_bytes-arg-1, c.decimal-count.ensures.in_bounds.1)
+put_bytes-requires c =
+    let few : c.decimal-count.result ≤ 20 = twenty_digits _ _ c.decimal-count.ensures.len (search rules) in
+    omega (arith, c.decimal-count.ensures.in_bounds.1)
 
 pub returns : goal.returns
 returns c =
+    let few : c.decimal-count.result ≤ 20 = twenty_digits _ _ c.decimal-count.ensures.len (search rules) in
     appended_as _ _ c.put_bytes.ensures _ _
     (c.decimal-count.ensures.digits ∙ fewest_digits _ _ c.decimal-count.ensures.len)
-    (omega (arith, few (goal.at.returns c).After-put_bytes-arg-1, c.decimal-count.ensures.in_bounds.1))
+    (omega (arith, c.decimal-count.ensures.in_bounds.1))

@@ -27,10 +27,10 @@ pub bounds-shares-interval : goal.bounds-shares-interval
 bounds-shares-interval c = omega arith
 
 pub overflow_cast-load : goal.overflow_cast-load
-overflow_cast-load c = let a = c.args in omega (arith, c.shared_slice_known-1.given (a.interval * a.jobs + c.loop-j.j))
+overflow_cast-load c = let a = c.args in omega (arith, c.type_inv.shares (a.interval * a.jobs + c.loop-j.j))
 
 pub overflow_add-load-in-loop-j : goal.overflow_add-load-in-loop-j
-overflow_add-load-in-loop-j c = let a = c.args in omega (arith, c.shared_slice_known-1.given (a.interval * a.jobs + c.loop-j.j))
+overflow_add-load-in-loop-j c = let a = c.args in omega (arith, c.type_inv.shares (a.interval * a.jobs + c.loop-j.j))
 
 pub overflow_add-j : goal.overflow_add-j
 overflow_add-j c = omega arith
@@ -43,7 +43,7 @@ loop-j-preserved c =
     let a = c.args in (
       omega (arith, sum_next c.loop-j.j (shares_in a.jobs a.shares.now a.interval)),
       omega arith,
-      omega (arith, c.shared_slice_known-1.given (a.interval * a.jobs + c.loop-j.j)),
+      omega (arith, c.type_inv.shares (a.interval * a.jobs + c.loop-j.j)),
     )
 
 pub returns : goal.returns

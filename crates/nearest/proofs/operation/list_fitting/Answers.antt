@@ -3,23 +3,26 @@
 use mathlib.Core.Path.{refl, ap}
 use Prim.Native.Nat.{ℕ, ◌*◌, ◌<◌, ◌≤◌}
 use lib.ListN.{length, length-replicate}
+use mathlib.Core.List.{List}
+use Rattle.model.specs.declared.Job.{Job}
 use Rattle.model.specs.Limits.{max_jobs}
+use Rattle.job_rooms.specs.RoomArrays.{RoomArrays}
 use native.Mathlib.Omega.{arith}
 use borrow.Author.Rules.{rules}
 use borrow.Author.Rules.{rules}
 use Rattle.nearest.proofs.NearestStages.{list_short, list_written, room_small}
 use Rattle.nearest.proofs.operation.list_fitting.Goals as goal
-use Rattle.nearest.proofs.operation.list_fitting.Goals.{After-slice_known-1}
 
 -- the jobs are few
-few : (c : After-slice_known-1) → c.args.count ≤ max_jobs
-few c = let (jobs, bounds, arrays, fits) = c.requires.by_index in omega (arith, arrays.counted, arrays.tests.valid.few)
+few-jobs : {jobs : List Job} {bounds times cycles sets last : List ℕ} {count intervals : ℕ}
+    → RoomArrays jobs bounds times cycles sets last count intervals → count ≤ max_jobs
+few-jobs arrays = omega (arith, arrays.counted, arrays.tests.valid.few)
 
 pub overflow_mul-wanted : goal.overflow_mul-wanted
-overflow_mul-wanted c = omega (arith, few (goal.at.overflow_mul-wanted c).After-slice_known-1)
+overflow_mul-wanted c = let (jobs, bounds, arrays, fits) = c.requires.by_index in omega (arith, few-jobs arrays)
 
 pub overflow_cast-result : goal.overflow_cast-result
-overflow_cast-result c = omega (arith, few (goal.at.overflow_cast-result c).After-slice_known-1)
+overflow_cast-result c = let (jobs, bounds, arrays, fits) = c.requires.by_index in omega (arith, few-jobs arrays)
 
 pub returns-then-list-wanted : goal.returns-then-list-wanted
 returns-then-list-wanted c = λ jobs bounds arrays fits. list_short _ _ _ _ (ap (λ (n : ℕ). 2 * n) arrays.counted) c.if-list-wanted.true
@@ -30,7 +33,7 @@ job_rooms-requires c = record { by_index = c.requires.by_index; top_le_max_frequ
 pub list_rooms-requires : goal.list_rooms-requires
 list_rooms-requires c =
     let (jobs, bounds, arrays, fits) = c.requires.by_index in (
-      few (goal.at.list_rooms-requires c).After-slice_known-1,
+      few-jobs arrays,
       c.if-list-wanted.false,
       λ j below.
           let inside : j < length jobs = omega (arith, arrays.counted) in

@@ -9,7 +9,7 @@ use Rattle.model.proofs.Bytes.{length_bytes_of}
 use Rattle.price_writing.specs.PriceListBytes.{price_bytes}
 use Rattle.writing.proofs.NumberStores.{numbers_none, length_numbers, numbers_next, numbers_whole}
 use Rattle.price_writing.proofs.prices.write_price_bytes.Goals as goal
-use Rattle.price_writing.proofs.prices.write_price_bytes.Goals.{After-way_told-1, At-loop-i}
+use Rattle.price_writing.proofs.prices.write_price_bytes.Goals.{At-loop-i, In-loop-i}
 
 one_byte : (out : List ℕ) (start i price : ℕ) → price < 255 → set out (start + i) (price + 1) ≡ sets out (start + 1 * i) (bytes_of 1 (suc price))
 unfolding bytes_of
@@ -23,7 +23,7 @@ long : (c : At-loop-i) → length c.loop-i.out ≡ length c.args.out.now
 long c = length_numbers (bytes_of 1) 1 (length_bytes_of 1) _ _ _ _ _ c.loop-i.invariant.1
 
 -- a price fits its byte
-small : (c : After-way_told-1) → let a = c.args in get_or a.prices.now c.loop-i.i 0 < 255
+small : (c : In-loop-i) → let a = c.args in get_or a.prices.now c.loop-i.i 0 < 255
 small c = c.requires.by_index _ c.loop-i-test.true
 
 pub loop-i-init : goal.loop-i-init
@@ -33,7 +33,7 @@ pub bounds-prices-i : goal.bounds-prices-i
 bounds-prices-i c = omega arith
 
 pub overflow_add-out : goal.overflow_add-out
-overflow_add-out c = omega (arith, small (goal.at.overflow_add-out c).After-way_told-1)
+overflow_add-out c = omega (arith, small (goal.at.overflow_add-out c).In-loop-i)
 
 pub overflow_mul-out : goal.overflow_mul-out
 overflow_mul-out c = omega arith
@@ -55,7 +55,7 @@ loop-i-smaller c = omega arith
 
 pub loop-i-preserved : goal.loop-i-preserved
 loop-i-preserved c =
-    (omega arith, numbers_next (bytes_of 1) 1 (length_bytes_of 1) _ _ _ _ _ _ c.loop-i.invariant.1 (one_byte _ _ _ _ (small (goal.at.loop-i-preserved c).After-way_told-1)))
+    (omega arith, numbers_next (bytes_of 1) 1 (length_bytes_of 1) _ _ _ _ _ _ c.loop-i.invariant.1 (one_byte _ _ _ _ (small (goal.at.loop-i-preserved c).In-loop-i)))
 
 pub shape_of-out : goal.shape_of-out
 shape_of-out c = long (goal.at.shape_of-out c).At-loop-i

@@ -4,10 +4,10 @@ use native.Mathlib.Omega.{arith}
 use lib.ListN.{length, get_or, length-set}
 use Rattle.room_order.proofs.RoomStores.{RoomsPut, put_none, length_put, put_next, put_whole}
 use Rattle.room_order.proofs.lists.write_rooms.Goals as goal
-use Rattle.room_order.proofs.lists.write_rooms.Goals.{After-way_told-1, At-loop-place}
+use Rattle.room_order.proofs.lists.write_rooms.Goals.{At-loop-place, In-loop-place}
 
 -- the job at the place is one of the jobs
-listed-job : (c : After-way_told-1)
+listed-job : (c : In-loop-place)
     → get_or c.args.order.now c.loop-place.place 0 < c.args.count
 listed-job c = c.requires.ordered_in.ordered.within c.loop-place.place c.loop-place-test.true
 
@@ -22,10 +22,10 @@ pub bounds-order-place : goal.bounds-order-place
 bounds-order-place c = omega arith
 
 pub overflow_cast-job : goal.overflow_cast-job
-overflow_cast-job c = omega (arith, listed-job (goal.at.overflow_cast-job c).After-way_told-1)
+overflow_cast-job c = omega (arith, listed-job (goal.at.overflow_cast-job c).In-loop-place)
 
 pub overflow_cast-list : goal.overflow_cast-list
-overflow_cast-list c = omega (arith, listed-job (goal.at.overflow_cast-list c).After-way_told-1)
+overflow_cast-list c = omega (arith, listed-job (goal.at.overflow_cast-list c).In-loop-place)
 
 pub overflow_mul-list : goal.overflow_mul-list
 overflow_mul-list c = omega arith
@@ -37,13 +37,13 @@ pub bounds-list-place : goal.bounds-list-place
 bounds-list-place c = omega (arith, same (goal.at.bounds-list-place c).At-loop-place)
 
 pub offset_bounds-rooms-job : goal.offset_bounds-rooms-job
-offset_bounds-rooms-job c = omega (arith, listed-job (goal.at.offset_bounds-rooms-job c).After-way_told-1)
+offset_bounds-rooms-job c = omega (arith, listed-job (goal.at.offset_bounds-rooms-job c).In-loop-place)
 
 pub bounds-rooms-job : goal.bounds-rooms-job
-bounds-rooms-job c = omega (arith, listed-job (goal.at.bounds-rooms-job c).After-way_told-1)
+bounds-rooms-job c = omega (arith, listed-job (goal.at.bounds-rooms-job c).In-loop-place)
 
 pub overflow_cast-list-in-loop-place : goal.overflow_cast-list-in-loop-place
-overflow_cast-list-in-loop-place c = omega (arith, c.requires.count_le_max_jobs.2 _ (listed-job (goal.at.overflow_cast-list-in-loop-place c).After-way_told-1))
+overflow_cast-list-in-loop-place c = omega (arith, c.requires.count_le_max_jobs.2 _ (listed-job (goal.at.overflow_cast-list-in-loop-place c).In-loop-place))
 
 pub overflow_mul-list-in-loop-place : goal.overflow_mul-list-in-loop-place
 overflow_mul-list-in-loop-place c = omega arith

@@ -3,7 +3,6 @@ use mathlib.Core.Bool.{false}
 use Prim.Native.Nat.{◌<◌}
 use native.Mathlib.Omega.{arith}
 use lib.ListN.{length}
-use borrow.Author.Tests.{not-true, not-false}
 use Rattle.model.specs.Limits.{max_jobs}
 use Rattle.job_sets.specs.JobSets.{member_count, is_empty}
 use Rattle.spans.proofs.MemberStores.{MembersPut, least_small, least_room, fewer_left, put_next, put_whole}
@@ -12,7 +11,7 @@ use Rattle.spans.proofs.lists.write_members.Goals.{After-least-job, In-loop-rest
 
 -- within the loop some member is left, and the least is a job
 some : (c : In-loop-rest) → is_empty c.loop-rest.rest ≡ false
-some c = sym c.is_empty.ensures ∙ not-true _ c.loop-rest-test.true-raw
+some c = sym c.is_empty.ensures ∙ c.loop-rest-test.true
 
 small : (c : After-least-job) → c.least-job.result < max_jobs
 small c = least_small _ _ _ _ _ _ _ c.loop-rest.invariant (some c.before) _ c.least-job.ensures
@@ -56,5 +55,5 @@ shape_of-list c = c.loop-rest.invariant.long
 
 pub returns : goal.returns
 returns c =
-    let put = put_whole _ _ _ _ _ _ _ c.loop-rest.invariant (sym c.is_empty.ensures ∙ not-false _ c.loop-rest-test.false-raw) in
+    let put = put_whole _ _ _ _ _ _ _ c.loop-rest.invariant (sym c.is_empty.ensures ∙ c.loop-rest-test.false) in
     record { value = put.0; list_after = put.1 }

@@ -1,23 +1,18 @@
 use mathlib.Core.Path.{◌≡◌, ◌∙◌, sym, ap}
 use mathlib.Core.List.{List}
-use Prim.Native.Nat.{ℕ, ◌-◌, ◌*◌, ◌≤◌, ◌<◌}
+use Prim.Native.Nat.{ℕ, ◌≤◌, ◌<◌}
 use native.Mathlib.Nat.{le_trans}
 use native.Mathlib.Omega.{arith}
 use lib.ListN.{get_or}
-use Rattle.model.specs.declared.Job.{Job}
-use Rattle.model.specs.Limits.{max_jobs, max_cycles}
-use Rattle.model.specs.Sum.{sum as total, only_if}
+use Rattle.model.specs.Limits.{max_cycles}
 use Rattle.model.specs.Jobs.{job_of}
-use Rattle.model.specs.Windows.{is_inside, cycles_inside}
+use Rattle.model.specs.Windows.{cycles_inside}
 use Rattle.job_tables.specs.Tables.{jobs_in}
 use Rattle.job_tables.proofs.Read.{length_jobs_in, job-in, jobs_count, sound_in}
 use Rattle.model.proofs.Sum.{sum_none, sum_more, sum_whole}
+use Rattle.spare.proofs.window.cycles_inside.Invariants.{counted}
 use Rattle.spare.proofs.window.cycles_inside.Goals as goal
 use Rattle.spare.proofs.window.cycles_inside.Goals.{After-cycles_if_inside-sum}
-
--- a job's cycles where it is inside the window, otherwise 0
-abbrev counted : (start end : ℕ) → Job → ℕ
-counted start end job = only_if (is_inside start end job) job.cycles
 
 -- what the job at place j counts, as the code has it
 counts : (count : ℕ) (releases deadlines cycles : List ℕ) (start end j value : ℕ) → j < count
@@ -61,13 +56,12 @@ pub loop-j-smaller : goal.loop-j-smaller
 loop-j-smaller c = omega arith
 
 pub loop-j-preserved : goal.loop-j-preserved
-loop-j-preserved c =
-(
-      omega arith,
-      omega arith,
-      sum_more _ _ _ _ c.loop-j.invariant.2 (counts _ _ _ _ _ _ _ _ c.loop-j-test.true c.cycles_if_inside-sum.ensures.0),
-      omega (arith, little (goal.at.loop-j-preserved c).After-cycles_if_inside-sum),
-    )
+loop-j-preserved c = (
+  omega arith,
+  omega arith,
+  sum_more _ _ _ _ c.loop-j.invariant.2 (counts _ _ _ _ _ _ _ _ c.loop-j-test.true c.cycles_if_inside-sum.ensures.0),
+  omega (arith, little (goal.at.loop-j-preserved c).After-cycles_if_inside-sum),
+)
 
 pub returns : goal.returns
 unfolding cycles_inside

@@ -7,7 +7,6 @@ use native.Mathlib.Nat.{lt_of_le_of_lt}
 use native.Mathlib.Omega.{arith}
 use lib.Dec.{lit<}
 use lib.IntN.{pos, ◌-ℤ◌}
-use borrow.Author.Rules.{rules}
 use Rattle.model.specs.declared.Job.{Job}
 use Rattle.model.specs.Windows.{cycles_inside, spare_of}
 use Rattle.windows.proofs.Capacity.{capacity_small}

@@ -3,7 +3,6 @@ use mathlib.Core.Bool.{false}
 use Prim.Native.Nat.{ℕ, ◌<◌}
 use native.Mathlib.Omega.{arith}
 use lib.ListN.{length}
-use borrow.Author.Tests.{not-true, not-false}
 use Rattle.model.specs.Plans.{shares_in}
 use Rattle.job_sets.specs.JobSets.{member_count, least_member, is_empty}
 use Rattle.writing.specs.StepList.{step_of}
@@ -18,7 +17,7 @@ long c = length_put _ _ _ _ _ _ _ c.loop-rest.invariant.put
 
 -- within the loop some member is left, and the least is a job with a share
 some : (c : In-loop-rest) → is_empty c.loop-rest.rest ≡ false
-some c = sym c.is_empty.ensures ∙ not-true _ c.loop-rest-test.true-raw
+some c = sym c.is_empty.ensures ∙ c.loop-rest-test.true
 
 share : (c : In-loop-rest) (job : ℕ) → job ≡ least_member c.loop-rest.rest
     → (job < c.args.jobs) × (0 < shares_in c.args.jobs c.args.shares.now c.args.interval job)
@@ -58,5 +57,5 @@ pub returns : goal.returns
 returns c =
     let put =
     members_whole _ _ _ _ _ _ _ c.requires.shares_held _ _ _ c.loop-rest.invariant c.requires.jobs_le_max_jobs.0
-    (sym c.is_empty.ensures ∙ not-false _ c.loop-rest-test.false-raw) in
+    (sym c.is_empty.ensures ∙ c.loop-rest-test.false) in
     record { value = put.next_is; plan_after = put.plan_is }

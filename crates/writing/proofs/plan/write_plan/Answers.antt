@@ -9,25 +9,24 @@ use Rattle.writing.specs.StepList.{steps_of}
 use Rattle.writing.proofs.HeldShares.{members_are_steps}
 use Rattle.writing.proofs.PlanStores.{whole_plan}
 use Rattle.writing.proofs.plan.write_plan.Goals as goal
-use Rattle.writing.proofs.plan.write_plan.Goals.{After-put16-arg-1}
 
 -- the count is the number of steps
-counted : (c : After-put16-arg-1)
-    → let a = c.args in
-    c.count_all-count.result ≡ length (steps_of a.jobs a.intervals (shares_in a.jobs a.shares.now))
-counted c =
-    c.count_all-count.ensures ∙ members_are_steps _ _ _ _ c.requires.jobs_le_max_jobs.0 c.requires.by_index
-
 pub write_steps-requires : goal.write_steps-requires
 write_steps-requires c =
+    let a = c.args in
     let pre = c.requires in
-    record { jobs_le_max_jobs = pre.jobs_le_max_jobs; by_index = pre.by_index; count_value = (counted (goal.at.write_steps-requires c).After-put16-arg-1, omega (arith, counted (goal.at.write_steps-requires c).After-put16-arg-1)) }
+    let counted : c.count_all-count.result ≡ length (steps_of a.jobs a.intervals (shares_in a.jobs a.shares.now)) =
+    c.count_all-count.ensures ∙ members_are_steps _ _ _ _ pre.jobs_le_max_jobs.0 pre.by_index in
+    record { jobs_le_max_jobs = pre.jobs_le_max_jobs; by_index = pre.by_index; count_value = (counted, omega arith) }
 
 pub returns : goal.returns
 returns c =
-    let count = counted (goal.at.returns c).After-put16-arg-1 in record {
-      value = count;
-      plan_after = whole_plan _ _ _ count _ _ _ _ (omega arith)
+    let a = c.args in
+    let counted : c.count_all-count.result ≡ length (steps_of a.jobs a.intervals (shares_in a.jobs a.shares.now)) =
+    c.count_all-count.ensures ∙ members_are_steps _ _ _ _ c.requires.jobs_le_max_jobs.0 c.requires.by_index in
+    record {
+      value = counted;
+      plan_after = whole_plan _ _ _ counted _ _ _ _ (omega arith)
           c.put16.ensures
           c.put16-2.ensures
           c.write_steps.ensures;

@@ -25,7 +25,7 @@ one-step count next interval job share plan with_cell after first second some_Sh
 pub overflow_cast-share : goal.overflow_cast-share
 overflow_cast-share c =
     let a = c.args in
-    omega (arith, c.shared_slice_known-2-1.given (a.interval * a.jobs + a.job))
+    omega (arith, c.type_inv.shares (a.interval * a.jobs + a.job))
 
 pub returns : goal.returns
 returns c =
