@@ -1,12 +1,10 @@
--- The turns of a walk: while what was taken is a step, the reading that it leaves goes on in the same plan, and the next step,
--- whose number is below the plan's step count, leaves a higher number. So a walk ends.
+-- The turns of a walk: a step's number is below the plan's step count, and the reading after it has a higher number. So a walk ends.
 -- Assumes nothing.
 use mathlib.Core.Path.{◌≡◌, refl, sym, ◌∙◌, ap}
 use mathlib.Core.Bool.{Bool, true, false}
 use mathlib.Core.Logic.{◌⊎◌, inl, inr}
 use mathlib.Core.List.{List}
 use Prim.Native.Nat.{ℕ, zero, suc, ◌-◌, ◌<◌, ◌≤◌}
-use denote.Ref.{Bor}
 use native.Mathlib.Omega.{arith}
 use Rattle.model.specs.Steps.{step_count, step_at, wrong_plan_length, walk}
 use Rattle.model.proofs.Numbers.{lt_or_le, true≢false}
@@ -15,7 +13,7 @@ use Rattle.walking.specs.declared.steps.StepAnswer.TheVariants.{Step as Found, E
 use Rattle.walking.specs.declared.walk.StepReading.{StepReading}
 use Rattle.walking.specs.declared.walk.Taken.{Taken}
 use Rattle.walking.specs.Walking.{step_answer, number_after}
-use Rattle.walking.specs.Readings.{started, answer_of, taken}
+use Rattle.walking.specs.Readings.{answer_of, taken}
 use Rattle.walking.proofs.Walking.{step_past, walk_refused, walk_answered}
 use Rattle.test_check.specs.Printing.{is_step}
 
@@ -39,10 +37,6 @@ number_suc (Found step) number e = refl
 number_suc End number e = absurd (true≢false (sym e))
 number_suc (Refused n place) number e = absurd (true≢false (sym e))
 
--- what holds of what was taken in a turn
-pub record Turn (plan : List ℕ) (got : Taken) : Type 0 where
-  pub same : is_step got.answer ≡ true → got.rest.plan.now ≡ plan
-
 -- how many turns are left at most
 abbrev pub left_after : (step : Bool) → (count number : ℕ) → ℕ
 left_after true count number = suc (count - number)
@@ -51,34 +45,16 @@ left_after false count number = zero
 abbrev pub turns_left : (plan : List ℕ) → Taken → ℕ
 turns_left plan got = left_after (is_step got.answer) (step_count plan) got.rest.next
 
-module _ (reading : StepReading) (step : is_step (answer_of reading) ≡ true) where
-  pub below : reading.next < step_count reading.plan.now
-  below = step_below reading.plan.now reading.next step
-
-  pub goes_on : (taken reading).rest.next ≡ suc reading.next
-  goes_on = number_suc (answer_of reading) reading.next step
-
--- what a reading over the plan gives
-turn_of : (reading : StepReading) → Turn reading.plan.now (taken reading)
-turn_of reading = record {
-  same = λ step. refl;
-}
-
+-- taking from a reading leaves at most as many turns as there are numbers from the reading's to the step count
 fewer : (reading : StepReading) → turns_left reading.plan.now (taken reading) < suc (step_count reading.plan.now - reading.next)
 fewer reading = go (is_step (answer_of reading)) refl
   where
     go : (step : Bool) → is_step (answer_of reading) ≡ step
         → left_after step (step_count reading.plan.now) (taken reading).rest.next < suc (step_count reading.plan.now - reading.next)
     go false e = omega arith
-    go true e = omega (arith, goes_on reading e, below reading e)
+    go true e = omega (arith, number_suc (answer_of reading) reading.next e, step_below reading.plan.now reading.next e)
 
-pub first_turn : (plan : Bor (List ℕ)) (reading : StepReading) (got : Taken) → reading ≡ started plan → got ≡ taken reading → Turn plan.now got
-first_turn plan reading got e e' = rw (e', e) (turn_of (started plan))
-
--- the turn after one that took a step, with fewer turns left
-module _ (plan : List ℕ) (got later : Taken) (turn : Turn plan got) (step : is_step got.answer ≡ true) (e : later ≡ taken got.rest) where
-  pub next_turn : Turn plan later
-  next_turn = rw (e, sym (turn.same step)) (turn_of got.rest)
-
-  pub nearer : turns_left plan later < turns_left plan got
-  nearer = rw (e, step, sym (turn.same step)) (fewer got.rest)
+-- after a turn that took a step of the plan, the next has fewer turns left
+pub nearer : (plan : List ℕ) (got later : Taken) → got.rest.plan.now ≡ plan → is_step got.answer ≡ true → later ≡ taken got.rest
+    → turns_left plan later < turns_left plan got
+nearer plan got later same step e = rw (e, step, sym same) (fewer got.rest)

@@ -1,7 +1,6 @@
 -- `cases` meets its contract. Each turn goes on in the text, by what `find` ensures. Assumes nothing.
 use Prim.Native.Nat.{◌-◌}
 use lib.ListN.{length}
-use borrow.Author.Rules.{rules}
 use Rattle.test_fits.proofs.cases.Given as goal
 
 abbrev pub invariant-loop-start : goal.invariant-loop-start

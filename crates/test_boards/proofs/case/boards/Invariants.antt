@@ -1,9 +1,7 @@
 -- `case::boards` meets its contract. The loop's invariant: the place is within the line. A turn goes on in the line, by `next`.
 -- Assumes nothing.
 use Prim.Native.Nat.{◌-◌, ◌≤◌}
-use native.Mathlib.Omega.{arith}
 use lib.ListN.{length}
-use borrow.Author.Rules.{rules}
 use Rattle.test_boards.proofs.case.boards.Given as goal
 
 abbrev pub invariant-loop-place : goal.invariant-loop-place

@@ -1,6 +1,5 @@
 -- `common::same_frequencies` is safe: each turn goes on in the frequencies. Assumes nothing.
 use Prim.Native.Nat.{◌-◌}
-use borrow.Author.Rules.{rules}
 use Rattle.test_boards.proofs.common.same_frequencies.Given as goal
 
 abbrev pub invariant-loop-k : goal.invariant-loop-k
