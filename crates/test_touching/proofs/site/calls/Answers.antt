@@ -1,4 +1,4 @@
-use Rattle.std.proofs.Common.{◌-◌, arith, rules}
+use Rattle.std.proofs.Common.{arith, rules}
 use Rattle.test_touching.proofs.site.calls.Goals as goal
 
 pub loop-place-smaller : goal.loop-place-smaller
