@@ -24,7 +24,6 @@ use Rattle.model.proofs.Numbers.{lt_or_le}
 use Rattle.model.proofs.Outcome.{and_then_answered}
 use Rattle.model.proofs.Sites.{tables_are_valid}
 use Rattle.model.proofs.Windows.{overfull_iff, spare_negative, earliest_overfull_found}
-use Rattle.spans.specs.SpanAnswers.{listed}
 use Rattle.spans.proofs.Listed.{length_listed}
 use Rattle.room_order.specs.RoomOrder.{job_at_place}
 use Rattle.room_order.specs.Ordered.{Ordered}
@@ -36,19 +35,7 @@ use Rattle.nearest.specs.Nearest.{nearest_list, list_fitting, nearest_for, neare
 use Rattle.nearest.specs.declared.operation.NearestAnswer.TheVariants.{Listed, Overfull}
 use Rattle.nearest.specs.NearestAnswers.{nearest_job_answer}
 use Rattle.nearest.proofs.NearestStages.{room_small}
-use Rattle.demands.specs.NearestToTrouble.{
-  NearestCall,
-  ReadAs,
-  list_written,
-  MostCycles,
-  job_at,
-  cycles_at,
-  NearestFirst,
-  ListComesOut,
-  NoList,
-  RefusedCall,
-  NearestToTrouble,
-}
+use Rattle.demands.specs.NearestToTrouble.{NearestCall, ReadAs, list_written, job_at, cycles_at, NearestFirst, ListComesOut, NoList, RefusedCall, NearestToTrouble}
 use Rattle.demands.proofs.MostCycles.{room_most, most_one, most_fits, never_served}
 
 -- tables and marks that were read make a site

@@ -1,7 +1,6 @@
 -- `ramyearly_check` meets its contract: each case of the check's answer becomes its struct. Assumes nothing.
 use Rattle.capi.proofs.Cases.{check_accepted, check_refused}
 use mathlib.Core.Path.{◌∙◌, sym}
-use borrow.Author.Rules.{rules}
 use Rattle.capi.proofs.ramyearly_check.Goals as goal
 
 pub returns-in-Accepted : goal.returns-in-Accepted

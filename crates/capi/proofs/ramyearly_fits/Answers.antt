@@ -1,7 +1,6 @@
 -- `ramyearly_fits` meets its contract: each case of the answer becomes its struct. Assumes nothing.
 use Rattle.capi.proofs.Cases.{plan_fits, plan_refused}
 use mathlib.Core.Path.{◌∙◌, sym}
-use borrow.Author.Rules.{rules}
 use Rattle.capi.proofs.ramyearly_fits.Goals as goal
 
 pub returns-in-Fits : goal.returns-in-Fits

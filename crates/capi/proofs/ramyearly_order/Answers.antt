@@ -1,6 +1,5 @@
 -- `ramyearly_order` meets its contract: each case of the answer becomes its struct. Assumes nothing.
 use Rattle.capi.proofs.Cases.{order_ordered, order_refused}
-use borrow.Author.Rules.{rules}
 use Rattle.capi.proofs.ramyearly_order.Goals as goal
 
 pub returns-in-Ordered : goal.returns-in-Ordered

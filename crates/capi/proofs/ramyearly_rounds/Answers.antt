@@ -1,6 +1,5 @@
 -- `ramyearly_rounds` meets its contract: each case of the answer becomes its struct. Assumes nothing.
 use Rattle.capi.proofs.Cases.{rounds_laid_out, rounds_refused}
-use borrow.Author.Rules.{rules}
 use Rattle.capi.proofs.ramyearly_rounds.Goals as goal
 
 pub returns-in-LaidOut : goal.returns-in-LaidOut

@@ -3,7 +3,6 @@
 use Rattle.capi.proofs.Cases.{setting_set, setting_refused, gap_small}
 use mathlib.Core.Path.{◌∙◌, sym}
 use native.Mathlib.Omega.{arith}
-use borrow.Author.Rules.{rules}
 use Rattle.capi.proofs.ramyearly_setting.Goals as goal
 
 pub overflow_cast-result : goal.overflow_cast-result

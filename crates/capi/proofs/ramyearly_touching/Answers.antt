@@ -1,6 +1,5 @@
 -- `ramyearly_touching` meets its contract: each case of the answer becomes its struct. Assumes nothing.
 use Rattle.capi.proofs.Cases.{touching_touched, touching_refused}
-use borrow.Author.Rules.{rules}
 use Rattle.capi.proofs.ramyearly_touching.Goals as goal
 
 pub returns-in-Touching : goal.returns-in-Touching
