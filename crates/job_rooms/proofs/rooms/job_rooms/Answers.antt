@@ -1,16 +1,14 @@
 use mathlib.Core.Path.{◌≡◌, sym, ◌∙◌, refl}
 use mathlib.Core.List.{List}
-use mathlib.Core.Option.{none}
-use Prim.Native.Nat.{ℕ, ◌-◌, ◌≤◌}
+use Prim.Native.Nat.{ℕ, ◌≤◌}
 use native.Mathlib.Numerals.{add-one}
 use lib.ListN.{length-replicate}
 use Rattle.model.specs.declared.Job.{Job}
 use Rattle.model.specs.Limits.{max_intervals, max_bounds}
-use Rattle.model.specs.Windows.{earliest_overfull}
 use Rattle.job_sets.specs.JobSets.{in_both}
 use Rattle.job_sets.specs.IntervalSets.{set_in}
 use Rattle.job_rooms.specs.RoomArrays.{RoomArrays}
-use Rattle.job_rooms.proofs.RoomSteps.{Taken, taken_none, capacity_fits, all_few, ends_small, can_lower, can-settle, taken_over, taken_on, taken_all}
+use Rattle.job_rooms.proofs.RoomSteps.{taken_none, capacity_fits, all_few, ends_small, can_lower, can-settle, taken_over, taken_on, taken_all}
 use native.Mathlib.Omega.{arith}
 use Rattle.job_rooms.proofs.rooms.job_rooms.Goals as goal
 use Rattle.job_rooms.proofs.rooms.job_rooms.Goals.{After-both-released, then-not-is_empty, else-not-is_empty}

@@ -4,10 +4,9 @@ use mathlib.Core.List.{List}
 use Prim.Native.Nat.{ℕ, ◌^◌, ◌<◌, ◌≤◌}
 use lib.ListN.{get_or}
 use Rattle.model.specs.Limits.{max_jobs, max_bounds}
-use Rattle.job_sets.specs.JobSets.{is_empty, least_member, member_count}
-use Rattle.job_rooms.proofs.SettleSteps.{Settling, settling_first, settling_done, least_few, end_few, end_small, cycles_small, due_enough, fewer, settling_next}
+use Rattle.job_sets.specs.JobSets.{is_empty, least_member}
+use Rattle.job_rooms.proofs.SettleSteps.{settling_first, settling_done, least_few, end_few, end_small, cycles_small, due_enough, fewer, settling_next}
 use native.Mathlib.Omega.{arith}
-use borrow.Author.Rules.{rules}
 use Rattle.job_rooms.proofs.rooms.settle_rooms.Goals as goal
 use Rattle.job_rooms.proofs.rooms.settle_rooms.Goals.{In-loop-rest}
 

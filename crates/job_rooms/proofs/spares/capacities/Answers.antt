@@ -1,6 +1,6 @@
 use mathlib.Core.Path.{◌≡◌, refl, ◌∙◌}
-use Prim.Native.Nat.{ℕ, ◌+◌, ◌-◌, ◌*◌, ◌^◌, ◌<◌, ◌≤◌}
-use lib.ListN.{length, get_or, length-set}
+use Prim.Native.Nat.{◌*◌, ◌^◌, ◌<◌}
+use lib.ListN.{get_or, length-set}
 use Rattle.model.specs.Limits.{max_bounds}
 use Rattle.workloads.proofs.StoredNumbers.{stored_more}
 use native.Mathlib.Omega.{arith}

@@ -1,11 +1,9 @@
 -- `spares::capacities` meets its contract. The loop's invariant: what the top frequency gives before each bound so far stands in the array.
 -- Assumes nothing.
-use mathlib.Core.Path.{◌≡◌, refl, ◌∙◌}
-use Prim.Native.Nat.{ℕ, ◌+◌, ◌-◌, ◌*◌, ◌^◌, ◌<◌, ◌≤◌}
-use lib.ListN.{length, get_or, length-set}
+use mathlib.Core.Path.{◌≡◌}
+use Prim.Native.Nat.{ℕ, ◌+◌, ◌-◌, ◌*◌, ◌<◌, ◌≤◌}
+use lib.ListN.{length, get_or}
 use Rattle.model.specs.Limits.{max_bounds}
-use Rattle.workloads.proofs.StoredNumbers.{stored_more}
-use native.Mathlib.Omega.{arith}
 use Rattle.job_rooms.proofs.spares.capacities.Given as goal
 
 abbrev pub invariant-loop-i : goal.invariant-loop-i

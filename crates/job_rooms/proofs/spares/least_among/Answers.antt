@@ -1,7 +1,6 @@
 use mathlib.Core.Path.{refl}
-use Prim.Native.Nat.{◌+◌, ◌-◌, ◌≤◌}
 use native.Mathlib.Omega.{arith}
-use Rattle.job_rooms.proofs.SpareSteps.{LeastSoFar, so_far_first, so_far_lower, so_far_kept, so_far_done}
+use Rattle.job_rooms.proofs.SpareSteps.{so_far_first, so_far_lower, so_far_kept, so_far_done}
 use Rattle.job_rooms.proofs.spares.least_among.Goals as goal
 use Rattle.job_rooms.proofs.spares.least_among.Goals.{then-numbers-i, else-numbers-i}
 

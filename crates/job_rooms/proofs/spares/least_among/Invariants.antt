@@ -1,9 +1,6 @@
 -- `spares::least_among` meets its contract. The loop's invariant: the least of the numbers so far (proofs/SpareSteps.antt). Assumes nothing.
-use mathlib.Core.Path.{refl}
-use mathlib.Core.Logic.{⊎_elim}
 use Prim.Native.Nat.{◌+◌, ◌-◌, ◌≤◌}
-use native.Mathlib.Omega.{arith}
-use Rattle.job_rooms.proofs.SpareSteps.{LeastSoFar, so_far_first, so_far_lower, so_far_kept, so_far_done}
+use Rattle.job_rooms.proofs.SpareSteps.{LeastSoFar}
 use Rattle.job_rooms.proofs.spares.least_among.Given as goal
 
 abbrev pub invariant-loop-i : goal.invariant-loop-i

@@ -1,11 +1,10 @@
 use mathlib.Core.Path.{refl}
 use mathlib.Core.List.{List}
-use Prim.Native.Nat.{ℕ, ◌+◌, ◌-◌, ◌^◌, ◌<◌, ◌≤◌}
+use Prim.Native.Nat.{ℕ, ◌+◌, ◌^◌, ◌<◌, ◌≤◌}
 use lib.ListN.{length, get_or}
 use Rattle.model.specs.Limits.{max_bounds}
 use native.Mathlib.Omega.{arith}
-use Rattle.job_rooms.specs.Spares.{CanLower}
-use Rattle.job_rooms.proofs.SpareSteps.{Lowering, lowering_first, end_small, total_fits, lowering_next, lowering_done}
+use Rattle.job_rooms.proofs.SpareSteps.{lowering_first, end_small, total_fits, lowering_next, lowering_done}
 use Rattle.job_rooms.proofs.spares.lower_spares.Goals as goal
 use Rattle.job_rooms.proofs.spares.lower_spares.Goals.{In-loop-end, Start}
 

@@ -1,13 +1,8 @@
 -- `spares::lower_spares` meets its contract. The loop's invariant: the spares of the ends so far are lowered, and the sum has what the jobs
 -- inside need (proofs/SpareSteps.antt). Assumes nothing.
-use mathlib.Core.Path.{refl}
-use mathlib.Core.List.{List}
-use Prim.Native.Nat.{ℕ, ◌+◌, ◌-◌, ◌^◌, ◌<◌, ◌≤◌}
-use lib.ListN.{length, get_or}
-use Rattle.model.specs.Limits.{max_bounds}
-use native.Mathlib.Omega.{arith}
+use Prim.Native.Nat.{ℕ, ◌+◌, ◌-◌, ◌<◌, ◌≤◌}
 use Rattle.job_rooms.specs.Spares.{CanLower}
-use Rattle.job_rooms.proofs.SpareSteps.{Lowering, lowering_first, end_small, total_fits, lowering_next, lowering_done}
+use Rattle.job_rooms.proofs.SpareSteps.{Lowering}
 use Rattle.job_rooms.proofs.spares.lower_spares.Given as goal
 
 abbrev pub invariant-loop-end : goal.invariant-loop-end

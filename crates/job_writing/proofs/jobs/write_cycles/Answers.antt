@@ -1,10 +1,7 @@
 use mathlib.Core.Path.{◌≡◌}
-use Prim.Native.Nat.{◌+◌, ◌-◌, ◌*◌, ◌≤◌}
 use lib.ListN.{length}
-use lib.Seq.{sets}
 use Rattle.model.specs.Bytes.{bytes32}
 use Rattle.model.proofs.Bytes.{length_bytes_of}
-use Rattle.job_writing.specs.JobBytes.{job_cycle_bytes}
 use Rattle.writing.proofs.NumberStores.{numbers_none, length_numbers, numbers_next, numbers_whole}
 use native.Mathlib.Omega.{arith}
 use Rattle.job_writing.proofs.jobs.write_cycles.Goals as goal

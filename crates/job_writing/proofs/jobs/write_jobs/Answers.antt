@@ -1,7 +1,6 @@
 -- `jobs::write_jobs` meets its contract. Its three parts make the whole table (proofs/JobStores.antt).
 -- Assumes nothing.
 use Rattle.job_writing.proofs.JobStores.{whole_job_table}
-use borrow.Author.Rules.{rules}
 use Rattle.job_writing.proofs.jobs.write_jobs.Goals as goal
 
 pub returns : goal.returns

@@ -1,7 +1,6 @@
 use mathlib.Core.Path.{◌≡◌}
-use Prim.Native.Nat.{◌-◌, ◌≤◌}
 use lib.ListN.{length}
-use Rattle.job_writing.proofs.JobStores.{WindowsPut, windows_none, windows_long, windows_next, windows_whole}
+use Rattle.job_writing.proofs.JobStores.{windows_none, windows_long, windows_next, windows_whole}
 use native.Mathlib.Omega.{arith}
 use Rattle.job_writing.proofs.jobs.write_windows.Goals as goal
 use Rattle.job_writing.proofs.jobs.write_windows.Goals.{At-loop-j}

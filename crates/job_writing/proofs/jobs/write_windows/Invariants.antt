@@ -1,10 +1,7 @@
 -- `jobs::write_windows` meets its contract. The loop's invariant: the first `j` windows are written (proofs/JobStores.antt).
 -- Assumes nothing.
-use mathlib.Core.Path.{◌≡◌}
 use Prim.Native.Nat.{◌-◌, ◌≤◌}
-use lib.ListN.{length}
-use Rattle.job_writing.proofs.JobStores.{WindowsPut, windows_none, windows_long, windows_next, windows_whole}
-use native.Mathlib.Omega.{arith}
+use Rattle.job_writing.proofs.JobStores.{WindowsPut}
 use Rattle.job_writing.proofs.jobs.write_windows.Given as goal
 
 abbrev pub invariant-loop-j : goal.invariant-loop-j

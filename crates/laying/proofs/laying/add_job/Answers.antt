@@ -1,7 +1,6 @@
 -- `laying::add_job` meets its contract. Assumes nothing.
 use mathlib.Core.Path.{refl}
 use Rattle.laying.proofs.ListedJobs.{put_stored, stored_room}
-use borrow.Author.Rules.{rules}
 use Rattle.laying.proofs.laying.add_job.Goals as goal
 
 pub returns-then-number-lt-MAX_JOBS : goal.returns-then-number-lt-MAX_JOBS

@@ -1,6 +1,4 @@
-use Prim.Native.Nat.{◌-◌, ◌≤◌}
 use mathlib.Core.Path.{◌≡◌}
-use Rattle.laying.specs.NextReleases.{Earliest}
 use Rattle.laying.proofs.NextReleases.{earliest_none, earliest_kept, earliest_taken}
 use native.Mathlib.Omega.{arith}
 use Rattle.laying.proofs.laying.earliest.Goals as goal

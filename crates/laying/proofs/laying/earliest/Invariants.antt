@@ -1,11 +1,7 @@
 -- `laying::earliest` meets its contract. The loop's invariant: the earliest of the first `i` next releases and of the end
 -- was found. Assumes nothing.
 use Prim.Native.Nat.{◌-◌, ◌≤◌}
-use mathlib.Core.Path.{◌≡◌}
-use mathlib.Core.Logic.{⊎_elim}
 use Rattle.laying.specs.NextReleases.{Earliest}
-use Rattle.laying.proofs.NextReleases.{earliest_none, earliest_kept, earliest_taken}
-use native.Mathlib.Omega.{arith}
 use Rattle.laying.proofs.laying.earliest.Given as goal
 
 abbrev pub invariant-loop-i : goal.invariant-loop-i

@@ -1,11 +1,9 @@
 use native.Mathlib.Omega.{arith}
-use borrow.Author.Rules.{rules}
-use Prim.Native.Nat.{◌-◌, ◌≤◌}
 use mathlib.Core.Path.{◌≡◌, sym, ◌∙◌}
 use lib.ListN.{length}
 use Rattle.tasks.specs.Tasks.{task_entries}
 use Rattle.task_tables.proofs.TaskReading.{count_entries, entry_at}
-use Rattle.laying.proofs.NextReleases.{FirstReleases, first_none, first_next, first_all}
+use Rattle.laying.proofs.NextReleases.{first_none, first_next, first_all}
 use native.Mathlib.Omega.{arith}
 use Rattle.laying.proofs.laying.first_releases.Goals as goal
 

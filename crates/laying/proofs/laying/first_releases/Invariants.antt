@@ -1,14 +1,8 @@
 -- `laying::first_releases` meets its contract. The loop's invariant: the first `i` tasks have their phase as next release.
 -- Assumes nothing.
-use native.Mathlib.Omega.{arith}
-use borrow.Author.Rules.{rules}
 use Prim.Native.Nat.{◌-◌, ◌≤◌}
-use mathlib.Core.Path.{◌≡◌, sym, ◌∙◌}
-use lib.ListN.{length}
 use Rattle.tasks.specs.Tasks.{task_entries}
-use Rattle.task_tables.proofs.TaskReading.{count_entries, entry_at}
-use Rattle.laying.proofs.NextReleases.{FirstReleases, first_none, first_next, first_all}
-use native.Mathlib.Omega.{arith}
+use Rattle.laying.proofs.NextReleases.{FirstReleases}
 use Rattle.laying.proofs.laying.first_releases.Given as goal
 
 abbrev pub invariant-loop-i : goal.invariant-loop-i

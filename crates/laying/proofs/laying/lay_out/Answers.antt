@@ -1,5 +1,5 @@
 use mathlib.Core.List.{List}
-use Prim.Native.Nat.{ℕ, ◌-◌, ◌<◌}
+use Prim.Native.Nat.{ℕ, ◌<◌}
 use lib.ListN.{length}
 use Rattle.tasks.specs.Tasks.{task_entries}
 use Rattle.task_tables.specs.TaskBytes.{TaskBytes}

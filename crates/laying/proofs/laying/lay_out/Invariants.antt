@@ -1,14 +1,8 @@
 -- `laying::lay_out` meets its contract. The loop's invariant: all jobs that are released before the tick are listed
 -- (proofs/TickByTick.antt). Assumes nothing.
-use mathlib.Core.List.{List}
-use Prim.Native.Nat.{ℕ, ◌-◌, ◌<◌}
-use lib.ListN.{length}
+use Prim.Native.Nat.{◌-◌}
 use Rattle.tasks.specs.Tasks.{task_entries}
-use Rattle.task_tables.specs.TaskBytes.{TaskBytes}
-use Rattle.laying.specs.NextReleases.{Earliest}
-use Rattle.task_tables.proofs.TaskReading.{count_entries}
-use Rattle.laying.proofs.TickByTick.{Laying, laying_start, laying_next, laying_ends, laying_stops}
-use native.Mathlib.Omega.{arith}
+use Rattle.laying.proofs.TickByTick.{Laying}
 use Rattle.laying.proofs.laying.lay_out.Given as goal
 
 abbrev pub invariant-loop-tick : goal.invariant-loop-tick

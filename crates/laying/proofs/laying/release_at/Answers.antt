@@ -1,11 +1,10 @@
 use mathlib.Core.Path.{◌≡◌}
-use Prim.Native.Nat.{◌-◌, ◌≤◌}
 use native.Mathlib.Omega.{arith}
 use lib.ListN.{length}
 use Rattle.tasks.specs.declared.Task.{Task}
 use Rattle.tasks.specs.Tasks.{task_at, task_entries}
 use Rattle.task_tables.proofs.TaskReading.{count_entries, RoundTask, round_task}
-use Rattle.laying.proofs.Releasing.{Releasing, releasing_none, releasing_one, releasing_kept, releasing_next, releasing_listed}
+use Rattle.laying.proofs.Releasing.{releasing_none, releasing_one, releasing_kept, releasing_next, releasing_listed}
 use Rattle.laying.proofs.laying.release_at.Goals as goal
 use Rattle.laying.proofs.laying.release_at.Goals.{In-loop-i, then-next-i, else-next-i}
 

@@ -8,7 +8,6 @@ use lib.IntN.{ℤ}
 use mir.Syntax.{w64}
 use mir.Val.{SFits, to_z, of_z}
 use mir.Facts.{to_z-of_z}
-use borrow.Author.Rules.{rules}
 use Rattle.listing_lines.specs.TextLines.{newline, space, signed_decimal, fields, overfull_word, overfull_line}
 use Rattle.listing_lines.proofs.AppendedText.{appended_then, appended_as}
 use Rattle.listing_lines.proofs.lines.put_overfull.Goals as goal

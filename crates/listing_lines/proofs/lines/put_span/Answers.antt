@@ -1,7 +1,6 @@
 -- `lines::put_span` meets its contract: the setting that is answered is the one of the definition (proofs/LineTexts.antt).
 -- Assumes nothing.
 use native.Mathlib.Omega.{arith}
-use borrow.Author.Rules.{rules}
 use Rattle.listing_lines.proofs.AppendedText.{appended_as}
 use Rattle.listing_lines.proofs.LineTexts.{never_refused, span_text}
 use Rattle.listing_lines.proofs.lines.put_span.Goals as goal

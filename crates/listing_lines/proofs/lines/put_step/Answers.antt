@@ -1,7 +1,6 @@
 -- `lines::put_step` meets its contract: a share that is not 0 has one step, and a share of 0 none.
 -- Assumes nothing.
 use native.Mathlib.Omega.{arith}
-use borrow.Author.Rules.{rules}
 use Rattle.listing_lines.proofs.AppendedText.{appended_none, appended_as}
 use Rattle.listing_lines.proofs.LineTexts.{no_step_text, step_text}
 use Rattle.listing_lines.proofs.lines.put_step.Goals as goal

@@ -2,7 +2,6 @@
 -- Assumes nothing.
 use mathlib.Core.List.{[], ◌∷◌}
 use Prim.Native.Nat.{◌+◌}
-use borrow.Author.Rules.{rules}
 use Rattle.listing_lines.specs.Appending.{Appended}
 use Rattle.listing_lines.proofs.AppendedText.{appended_one, appended_past, same_room}
 use Rattle.listing_lines.proofs.writer.put_byte.Goals as goal

@@ -1,10 +1,7 @@
 use mathlib.Core.Path.{◌∙◌}
 use mathlib.Core.List.{[], ◌∷◌}
-use Prim.Native.Nat.{◌-◌, ◌*◌, ◌≤◌}
 use native.Mathlib.Omega.{arith}
-use lib.ListN.{length, get_or}
-use Rattle.model.specs.Entries.{joined}
-use Rattle.listing_lines.specs.Appending.{Appended}
+use lib.ListN.{length}
 use Rattle.listing_lines.proofs.AppendedText.{same_room, next_most, pieces_none, pieces_next, pieces_whole, joined_each, each_byte}
 use Rattle.listing_lines.proofs.writer.put_bytes.Goals as goal
 

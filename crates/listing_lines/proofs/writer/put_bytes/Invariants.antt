@@ -1,13 +1,10 @@
 -- `writer::put_bytes` meets its contract. The loop's invariant: the first `i` bytes are put.
 -- Assumes nothing.
-use mathlib.Core.Path.{◌∙◌}
 use mathlib.Core.List.{[], ◌∷◌}
 use Prim.Native.Nat.{◌-◌, ◌*◌, ◌≤◌}
-use native.Mathlib.Omega.{arith}
 use lib.ListN.{length, get_or}
 use Rattle.model.specs.Entries.{joined}
 use Rattle.listing_lines.specs.Appending.{Appended}
-use Rattle.listing_lines.proofs.AppendedText.{same_room, next_most, pieces_none, pieces_next, pieces_whole, joined_each, each_byte}
 use Rattle.listing_lines.proofs.writer.put_bytes.Given as goal
 
 abbrev pub invariant-loop-i : goal.invariant-loop-i

@@ -2,7 +2,6 @@
 -- Assumes nothing.
 use mathlib.Core.Path.{refl}
 use native.Mathlib.Omega.{arith}
-use borrow.Author.Rules.{rules}
 use Rattle.listing_lines.specs.TextLines.{line}
 use Rattle.listing_lines.proofs.AppendedText.{appended_then, appended_as}
 use Rattle.listing_lines.proofs.writer.put_line.Goals as goal

@@ -1,6 +1,5 @@
 -- `writer::put_number` meets its contract: a space, and then the digits.
 -- Assumes nothing.
-use borrow.Author.Rules.{rules}
 use Rattle.listing_lines.proofs.AppendedText.{appended_then}
 use Rattle.listing_lines.proofs.writer.put_number.Goals as goal
 

@@ -1,9 +1,8 @@
-use Prim.Native.Nat.{◌-◌, ◌*◌, ◌≤◌}
+use Prim.Native.Nat.{◌*◌}
 use native.Mathlib.Omega.{arith}
-use lib.ListN.{length, get_or}
-use Rattle.model.specs.Entries.{joined}
+use lib.ListN.{length}
 use Rattle.listing_lines.specs.TextLines.{field, fields}
-use Rattle.listing_lines.specs.Appending.{number_room, Appended}
+use Rattle.listing_lines.specs.Appending.{number_room}
 use Rattle.listing_lines.proofs.AppendedText.{same_room, next_most, pieces_none, pieces_next, pieces_whole, joined_each}
 use Rattle.listing_lines.proofs.writer.put_numbers.Goals as goal
 

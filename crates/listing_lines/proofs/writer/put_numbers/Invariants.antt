@@ -1,12 +1,10 @@
 -- `writer::put_numbers` meets its contract. The loop's invariant: the first `i` numbers are put.
 -- Assumes nothing.
 use Prim.Native.Nat.{◌-◌, ◌*◌, ◌≤◌}
-use native.Mathlib.Omega.{arith}
 use lib.ListN.{length, get_or}
 use Rattle.model.specs.Entries.{joined}
-use Rattle.listing_lines.specs.TextLines.{field, fields}
+use Rattle.listing_lines.specs.TextLines.{field}
 use Rattle.listing_lines.specs.Appending.{number_room, Appended}
-use Rattle.listing_lines.proofs.AppendedText.{same_room, next_most, pieces_none, pieces_next, pieces_whole, joined_each}
 use Rattle.listing_lines.proofs.writer.put_numbers.Given as goal
 
 abbrev pub invariant-loop-i : goal.invariant-loop-i

@@ -10,7 +10,6 @@ use lib.Signed.{lt_z}
 use mir.Syntax.{w64}
 use mir.Val.{SFits, to_z, of_z}
 use mir.Facts.{to_z-of_z}
-use borrow.Author.Rules.{rules}
 use Rattle.listing_lines.specs.TextLines.{space, minus, decimal, signed_decimal}
 use Rattle.listing_lines.proofs.AppendedText.{appended_then, appended_as}
 use Rattle.listing_lines.proofs.Decimals.{signed_negative, signed_positive}

@@ -8,8 +8,6 @@ use Rattle.model.specs.declared.Job.{Job}
 use Rattle.model.specs.Limits.{max_jobs}
 use Rattle.job_rooms.specs.RoomArrays.{RoomArrays}
 use native.Mathlib.Omega.{arith}
-use borrow.Author.Rules.{rules}
-use borrow.Author.Rules.{rules}
 use Rattle.nearest.proofs.NearestStages.{list_short, list_written, room_small}
 use Rattle.nearest.proofs.operation.list_fitting.Goals as goal
 

@@ -3,8 +3,6 @@
 use Rattle.model.proofs.Sites.{tables_are_valid}
 use Rattle.site.proofs.ReadSites.{refused-tables, held_tables}
 use Rattle.nearest.proofs.NearestStages.{tables_refused, tables_answered}
-use borrow.Author.Rules.{rules}
-use borrow.Author.Rules.{rules}
 use Rattle.nearest.proofs.operation.nearest.Goals as goal
 
 pub nearest_of_tables-requires : goal.nearest_of_tables-requires

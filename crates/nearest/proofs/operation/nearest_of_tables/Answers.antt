@@ -2,11 +2,8 @@
 -- what `nearest_or_window` keeps.
 -- Assumes nothing.
 use mathlib.Core.Path.{refl}
-use Rattle.model.specs.Sites.{Tables}
 use Rattle.model.specs.Intervals.{bounds_of}
-use Rattle.site.specs.SiteTables.{HoldsTables}
 use Rattle.site.proofs.HeldSites.{pair_count}
-use Rattle.nearest.specs.TablesInArrays.{ValidPair, InArrays}
 use Rattle.nearest.proofs.TablesInArrays.{times_rise, numbers_few, in_arrays}
 use Rattle.nearest.proofs.operation.nearest_of_tables.Goals as goal
 

@@ -1,19 +1,12 @@
 -- `operation::nearest_or_window` meets its contract: the window that is found, or what `list_fitting` keeps (proofs/NearestStages.antt).
 -- Assumes nothing.
-use mathlib.Core.Path.{◌≡◌, sym, ◌∙◌}
-use mathlib.Core.List.{List}
-use mathlib.Core.Option.{none}
-use Prim.Native.Nat.{ℕ, ◌≤◌}
+use mathlib.Core.Path.{sym, ◌∙◌}
+use Prim.Native.Nat.{◌≤◌}
 use mir.Syntax.{w64}
 use mir.Val.{SFits}
 use mir.Facts.{to_z-of_z}
 use Rattle.model.specs.Limits.{max_deadline}
-use Rattle.model.specs.Sites.{Tables}
-use Rattle.model.specs.Windows.{earliest_overfull}
-use Rattle.windows.specs.declared.overfull.Overfull.TheVariants.{Fits}
-use Rattle.windows.specs.WindowTests.{Tested}
 use Rattle.windows.proofs.Answers.{fits_none, window_inside}
-use Rattle.nearest.specs.TablesInArrays.{InArrays}
 use Rattle.nearest.proofs.NearestStages.{window_found, set_fits}
 use native.Mathlib.Omega.{arith}
 use borrow.Author.Rules.{rules}

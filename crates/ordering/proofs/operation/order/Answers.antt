@@ -1,11 +1,6 @@
 -- `operation::order` meets its contract: one law for each way out (proofs/OrderAnswers.antt). Assumes nothing.
-use mathlib.Core.Path.{◌≡◌, sym, ◌∙◌}
-use Prim.Native.Nat.{◌^◌, ◌<◌}
+use mathlib.Core.Path.{sym, ◌∙◌}
 use native.Mathlib.Omega.{arith}
-use lib.ListN.{length}
-use borrow.Author.Rules.{rules}
-use Rattle.model.specs.Outcome.{answer}
-use Rattle.model.specs.Checking.{check}
 use Rattle.job_records.proofs.SetsHave.{no-jobs}
 use Rattle.ordering.proofs.JobsWithShares.{seen_sets}
 use Rattle.ordering.proofs.OrderAnswers.{check_accepted, order_refused, order_orderable, order_small, order_short, order_written}

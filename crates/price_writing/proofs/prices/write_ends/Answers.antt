@@ -1,13 +1,12 @@
 use mathlib.Core.Path.{◌≡◌}
 use mathlib.Core.List.{List}
-use Prim.Native.Nat.{ℕ, suc, ◌+◌, ◌-◌, ◌≤◌}
+use Prim.Native.Nat.{ℕ, suc, ◌+◌}
 use native.Mathlib.Numerals.{add-one}
 use native.Mathlib.Omega.{arith}
 use lib.ListN.{length, get_or}
 use lib.Seq.{sets}
 use Rattle.model.specs.Bytes.{bytes32}
 use Rattle.model.proofs.Bytes.{length_bytes_of}
-use Rattle.price_writing.specs.PriceListBytes.{end_bytes}
 use Rattle.writing.proofs.NumberStores.{numbers_none, length_numbers, numbers_next, numbers_whole}
 use Rattle.price_writing.proofs.prices.write_ends.Goals as goal
 use Rattle.price_writing.proofs.prices.write_ends.Goals.{At-loop-i}

@@ -1,12 +1,11 @@
 use mathlib.Core.Path.{◌≡◌}
 use mathlib.Core.List.{List}
-use Prim.Native.Nat.{ℕ, suc, ◌+◌, ◌*◌, ◌-◌, ◌%◌, ◌<◌, ◌≤◌}
+use Prim.Native.Nat.{ℕ, suc, ◌+◌, ◌*◌, ◌%◌, ◌<◌}
 use native.Mathlib.Omega.{arith}
 use lib.ListN.{length, get_or, set}
 use lib.Seq.{sets}
 use Rattle.model.specs.Bytes.{bytes_of}
 use Rattle.model.proofs.Bytes.{length_bytes_of}
-use Rattle.price_writing.specs.PriceListBytes.{price_bytes}
 use Rattle.writing.proofs.NumberStores.{numbers_none, length_numbers, numbers_next, numbers_whole}
 use Rattle.price_writing.proofs.prices.write_price_bytes.Goals as goal
 use Rattle.price_writing.proofs.prices.write_price_bytes.Goals.{At-loop-i, In-loop-i}

@@ -1,6 +1,5 @@
 -- `prices::write_prices` meets its contract. Its three parts make the whole list (proofs/PriceStores.antt).
 -- Assumes nothing.
-use borrow.Author.Rules.{rules}
 use Rattle.price_writing.proofs.PriceStores.{whole_price_list}
 use Rattle.price_writing.proofs.prices.write_prices.Goals as goal
 

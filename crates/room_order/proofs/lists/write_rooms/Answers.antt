@@ -1,8 +1,8 @@
 use mathlib.Core.Path.{◌≡◌}
-use Prim.Native.Nat.{◌-◌, ◌<◌}
+use Prim.Native.Nat.{◌<◌}
 use native.Mathlib.Omega.{arith}
 use lib.ListN.{length, get_or, length-set}
-use Rattle.room_order.proofs.RoomStores.{RoomsPut, put_none, length_put, put_next, put_whole}
+use Rattle.room_order.proofs.RoomStores.{put_none, length_put, put_next, put_whole}
 use Rattle.room_order.proofs.lists.write_rooms.Goals as goal
 use Rattle.room_order.proofs.lists.write_rooms.Goals.{At-loop-place, In-loop-place}
 

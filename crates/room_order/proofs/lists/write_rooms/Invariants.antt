@@ -1,10 +1,7 @@
 -- `lists::write_rooms` meets its contract. The loop's invariant: the jobs of the first places are written (proofs/RoomStores.antt).
 -- Assumes nothing.
-use mathlib.Core.Path.{◌≡◌}
-use Prim.Native.Nat.{◌-◌, ◌<◌}
-use native.Mathlib.Omega.{arith}
-use lib.ListN.{length, get_or, length-set}
-use Rattle.room_order.proofs.RoomStores.{RoomsPut, put_none, length_put, put_next, put_whole}
+use Prim.Native.Nat.{◌-◌}
+use Rattle.room_order.proofs.RoomStores.{RoomsPut}
 use Rattle.room_order.proofs.lists.write_rooms.Given as goal
 
 abbrev pub invariant-loop-place : goal.invariant-loop-place

@@ -1,6 +1,5 @@
 -- `operation::lay_out_tasks` meets its contract: one law for each way out (proofs/RoundAnswers.antt). Assumes nothing.
 use Rattle.rounds.proofs.RoundAnswers.{round-read, empty_arrays, round_long, round_many, round_short, round_written}
-use borrow.Author.Rules.{rules}
 use Rattle.rounds.proofs.operation.lay_out_tasks.Goals as goal
 
 pub returns-then-multiple-gt-MAX_MULTIPLE : goal.returns-then-multiple-gt-MAX_MULTIPLE

@@ -3,7 +3,6 @@
 use mathlib.Core.Path.{sym, ◌∙◌}
 use Rattle.task_tables.proofs.TaskReading.{tasks_read}
 use Rattle.rounds.proofs.RoundAnswers.{round_unread}
-use borrow.Author.Rules.{rules}
 use Rattle.rounds.proofs.operation.rounds.Goals as goal
 
 pub lay_out_tasks-requires : goal.lay_out_tasks-requires

@@ -1,10 +1,6 @@
 use mathlib.Core.Path.{◌≡◌, ◌∙◌}
-use Prim.Native.Nat.{◌-◌, ◌≤◌}
 use native.Mathlib.Omega.{arith}
-use borrow.Author.Rules.{rules}
-use Rattle.job_sets.specs.JobSets.{set_below}
 use Rattle.job_sets.proofs.JobSets.{below_none}
-use Rattle.spans.specs.TouchedIn.{inside_at}
 use Rattle.spans.proofs.JobSetsWithin.{inside_more, inside_early, inside_late}
 use Rattle.spans.proofs.jobs.inside_within.Goals as goal
 use Rattle.spans.proofs.jobs.inside_within.Goals.{then-start-releases+then-deadlines-j, then-start-releases+else-deadlines-j, else-start-releases}

@@ -1,14 +1,9 @@
 -- `jobs::inside_within` meets its contract. The loop's invariant: the set has the first `j` jobs that are wholly inside the span
 -- (proofs/JobSetsWithin.antt). Assumes nothing.
-use mathlib.Core.Path.{◌≡◌, ◌∙◌}
-use mathlib.Core.Logic.{⊎_elim}
+use mathlib.Core.Path.{◌≡◌}
 use Prim.Native.Nat.{◌-◌, ◌≤◌}
-use native.Mathlib.Omega.{arith}
-use borrow.Author.Rules.{rules}
 use Rattle.job_sets.specs.JobSets.{set_below}
-use Rattle.job_sets.proofs.JobSets.{below_none}
 use Rattle.spans.specs.TouchedIn.{inside_at}
-use Rattle.spans.proofs.JobSetsWithin.{inside_more, inside_early, inside_late}
 use Rattle.spans.proofs.jobs.inside_within.Given as goal
 
 abbrev pub invariant-loop-j : goal.invariant-loop-j

@@ -1,6 +1,5 @@
 -- `jobs::nearer` meets its contract: one law for each way out (proofs/NearestDeadlines.antt). Assumes nothing.
 use mathlib.Core.Path.{sym, ◌∙◌}
-use borrow.Author.Rules.{rules}
 use Rattle.spans.proofs.NearestDeadlines.{nearer_early, nearer_first, nearer_than, not_nearer}
 use Rattle.spans.proofs.jobs.nearer.Goals as goal
 

@@ -1,8 +1,5 @@
 use mathlib.Core.Path.{◌≡◌}
-use Prim.Native.Nat.{◌-◌, ◌≤◌}
 use native.Mathlib.Omega.{arith}
-use Rattle.spans.specs.SpanAnswers.{nearest_answer}
-use Rattle.spans.specs.TouchedIn.{nearest_in}
 use Rattle.spans.proofs.NearestDeadlines.{nearest_none, nearest_more}
 use Rattle.spans.proofs.jobs.nearest_deadline.Goals as goal
 

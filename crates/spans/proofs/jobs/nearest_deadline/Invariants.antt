@@ -2,10 +2,8 @@
 -- (proofs/NearestDeadlines.antt). Assumes nothing.
 use mathlib.Core.Path.{◌≡◌}
 use Prim.Native.Nat.{◌-◌, ◌≤◌}
-use native.Mathlib.Omega.{arith}
 use Rattle.spans.specs.SpanAnswers.{nearest_answer}
 use Rattle.spans.specs.TouchedIn.{nearest_in}
-use Rattle.spans.proofs.NearestDeadlines.{nearest_none, nearest_more}
 use Rattle.spans.proofs.jobs.nearest_deadline.Given as goal
 
 abbrev pub invariant-loop-j : goal.invariant-loop-j

@@ -1,10 +1,6 @@
 use mathlib.Core.Path.{◌≡◌, ◌∙◌}
-use Prim.Native.Nat.{◌-◌, ◌≤◌}
 use native.Mathlib.Omega.{arith}
-use borrow.Author.Rules.{rules}
-use Rattle.job_sets.specs.JobSets.{set_below}
 use Rattle.job_sets.proofs.JobSets.{below_none}
-use Rattle.spans.specs.TouchedIn.{opens_at}
 use Rattle.spans.proofs.JobSetsWithin.{open_more, open_late, open_early}
 use Rattle.spans.proofs.jobs.open_within.Goals as goal
 use Rattle.spans.proofs.jobs.open_within.Goals.{then-releases-j+then-start-deadlines, then-releases-j+else-start-deadlines, else-releases-j}

@@ -4,8 +4,8 @@ use Prim.Native.Nat.{◌<◌}
 use native.Mathlib.Omega.{arith}
 use lib.ListN.{length}
 use Rattle.model.specs.Limits.{max_jobs}
-use Rattle.job_sets.specs.JobSets.{member_count, is_empty}
-use Rattle.spans.proofs.MemberStores.{MembersPut, least_small, least_room, fewer_left, put_next, put_whole}
+use Rattle.job_sets.specs.JobSets.{is_empty}
+use Rattle.spans.proofs.MemberStores.{least_small, least_room, fewer_left, put_next, put_whole}
 use Rattle.spans.proofs.lists.write_members.Goals as goal
 use Rattle.spans.proofs.lists.write_members.Goals.{After-least-job, In-loop-rest}
 

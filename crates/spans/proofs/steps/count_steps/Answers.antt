@@ -1,11 +1,9 @@
-use mathlib.Core.Path.{◌≡◌, ◌∙◌, ap}
-use Prim.Native.Nat.{◌-◌, ◌*◌, ◌≤◌}
+use mathlib.Core.Path.{◌∙◌, ap}
+use Prim.Native.Nat.{◌*◌, ◌≤◌}
 use native.Mathlib.Omega.{arith}
-use lib.ListN.{length}
 use Rattle.model.specs.Limits.{max_jobs}
 use Rattle.job_sets.specs.JobSets.{member_count}
 use Rattle.job_sets.proofs.JobSets.{count_most}
-use Rattle.spans.specs.TouchedIn.{cells_within}
 use Rattle.spans.proofs.StepLists.{cells_none, cells_more, cells_whole, cells_few}
 use Rattle.spans.proofs.steps.count_steps.Goals as goal
 use Rattle.spans.proofs.steps.count_steps.Goals.{At-loop-i}

@@ -1,8 +1,7 @@
 use mathlib.Core.Path.{◌≡◌}
-use Prim.Native.Nat.{◌-◌}
 use native.Mathlib.Omega.{arith}
 use lib.ListN.{length}
-use Rattle.spans.proofs.StepStores.{CellsPut, put_none, length_put, put_whole, put_room, put_next}
+use Rattle.spans.proofs.StepStores.{put_none, length_put, put_whole, put_room, put_next}
 use Rattle.spans.proofs.steps.write_steps.Goals as goal
 use Rattle.spans.proofs.steps.write_steps.Goals.{At-loop-i}
 

@@ -1,6 +1,5 @@
 -- `multiple::common_multiple` meets its contract. Assumes nothing.
 use Rattle.task_tables.proofs.FoundMultiples.{common_turned}
-use borrow.Author.Rules.{rules}
 use Rattle.task_tables.proofs.multiple.common_multiple.Goals as goal
 
 pub returns-then-one-other : goal.returns-then-one-other

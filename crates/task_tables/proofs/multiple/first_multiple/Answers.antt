@@ -1,6 +1,4 @@
-use Prim.Native.Nat.{◌+◌, ◌-◌}
-use Rattle.tasks.specs.Multiples.{max_multiple}
-use Rattle.task_tables.proofs.FoundMultiples.{Candidate, first_candidate, next_candidate, candidate_found, candidate_above}
+use Rattle.task_tables.proofs.FoundMultiples.{first_candidate, next_candidate, candidate_found, candidate_above}
 use native.Mathlib.Omega.{arith}
 use Rattle.task_tables.proofs.multiple.first_multiple.Goals as goal
 

@@ -2,8 +2,7 @@
 -- (proofs/FoundMultiples.antt). Assumes nothing.
 use Prim.Native.Nat.{◌+◌, ◌-◌}
 use Rattle.tasks.specs.Multiples.{max_multiple}
-use Rattle.task_tables.proofs.FoundMultiples.{Candidate, first_candidate, next_candidate, candidate_found, candidate_above}
-use native.Mathlib.Omega.{arith}
+use Rattle.task_tables.proofs.FoundMultiples.{Candidate}
 use Rattle.task_tables.proofs.multiple.first_multiple.Given as goal
 
 abbrev pub invariant-loop-multiple : goal.invariant-loop-multiple

@@ -1,10 +1,9 @@
 use mathlib.Core.Path.{◌≡◌}
-use Prim.Native.Nat.{◌-◌, ◌<◌, ◌≤◌}
-use borrow.Author.Rules.{rules}
+use Prim.Native.Nat.{◌<◌}
 use lib.ListN.{length}
 use Rattle.tasks.specs.Tasks.{task_of, task_entries}
 use Rattle.task_tables.proofs.TaskReading.{count_entries, task_read}
-use Rattle.task_tables.proofs.FoundMultiples.{MultipleSoFar, multiple_none, multiple_next, multiple_found, multiple_above}
+use Rattle.task_tables.proofs.FoundMultiples.{multiple_none, multiple_next, multiple_found, multiple_above}
 use native.Mathlib.Omega.{arith}
 use Rattle.task_tables.proofs.multiple.multiple_of.Goals as goal
 use Rattle.task_tables.proofs.multiple.multiple_of.Goals.{After-task_at-task}

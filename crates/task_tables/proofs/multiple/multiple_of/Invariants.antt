@@ -1,13 +1,8 @@
 -- `multiple::multiple_of` meets its contract. The loop's invariant: the multiple of the first `i` periods was found, or a
 -- number above the limit (proofs/FoundMultiples.antt). Assumes nothing.
-use mathlib.Core.Path.{◌≡◌}
-use Prim.Native.Nat.{◌-◌, ◌<◌, ◌≤◌}
-use borrow.Author.Rules.{rules}
-use lib.ListN.{length}
-use Rattle.tasks.specs.Tasks.{task_of, task_entries}
-use Rattle.task_tables.proofs.TaskReading.{count_entries, task_read}
-use Rattle.task_tables.proofs.FoundMultiples.{MultipleSoFar, multiple_none, multiple_next, multiple_found, multiple_above}
-use native.Mathlib.Omega.{arith}
+use Prim.Native.Nat.{◌-◌, ◌≤◌}
+use Rattle.tasks.specs.Tasks.{task_entries}
+use Rattle.task_tables.proofs.FoundMultiples.{MultipleSoFar}
 use Rattle.task_tables.proofs.multiple.multiple_of.Given as goal
 
 abbrev pub invariant-loop-i : goal.invariant-loop-i

@@ -1,13 +1,7 @@
 -- `task_table::check_tasks` meets its contract. The loop's invariant: no entry passed has a fault. Assumes nothing.
-use mathlib.Core.Path.{◌≡◌, sym, ◌∙◌, ap}
+use mathlib.Core.Path.{◌≡◌}
 use Prim.Native.Nat.{ℕ, ◌-◌, ◌<◌, ◌≤◌}
-use native.Mathlib.Omega.{arith}
-use borrow.Author.Rules.{rules}
-use borrow.Author.Count.{below_none, below_more}
-use Rattle.reading.proofs.ByEntry.{reading_stops, reading_passes}
-use Rattle.tasks.specs.Tasks.{task_entries, fault_of_task, task_fault}
-use Rattle.task_tables.proofs.TaskReading.{count_entries, entry_at}
-use native.Mathlib.Omega.{arith}
+use Rattle.tasks.specs.Tasks.{task_entries, task_fault}
 use Rattle.task_tables.proofs.task_table.check_tasks.Given as goal
 
 abbrev pub invariant-loop-i : goal.invariant-loop-i

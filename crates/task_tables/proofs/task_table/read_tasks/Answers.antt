@@ -4,7 +4,6 @@ use mathlib.Core.Path.{ap}
 use native.Mathlib.Omega.{arith}
 use Rattle.reading.specs.Tables.{reading_of}
 use Rattle.task_tables.proofs.TaskReading.{tasks_short, tasks_many, tasks_cut, checked_all}
-use borrow.Author.Rules.{rules}
 use Rattle.task_tables.proofs.task_table.read_tasks.Goals as goal
 
 pub returns-then-bytes-lt2 : goal.returns-then-bytes-lt2

@@ -4,7 +4,6 @@ use mathlib.Core.List.{List}
 use Prim.Native.Nat.{ℕ, ◌+◌, ◌*◌}
 use Rattle.model.specs.Bytes.{number32}
 use Rattle.tasks.specs.Tasks.{task_count, task_at}
-use borrow.Author.Rules.{rules}
 use Rattle.task_tables.proofs.task_table.task_at.Goals as goal
 
 -- the four numbers of a task

@@ -2,7 +2,6 @@
 -- Assumes nothing.
 use Prim.Native.Nat.{◌≤◌}
 use native.Mathlib.Omega.{arith}
-use borrow.Author.Rules.{rules}
 use Rattle.job_sets.proofs.JobSets.{count_most}
 use Rattle.spans.specs.TouchedIn.{opens_at, inside_at, touched_in}
 use Rattle.touching.proofs.Rooms.{LengthsWanted, open_too_short, inside_too_short, steps_too_short, all_listed, lengths_wanted, set_listed}

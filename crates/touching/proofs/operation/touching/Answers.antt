@@ -1,7 +1,6 @@
 -- `operation::touching` meets its contract, by the laws of proofs/TouchingOutcomes.antt. Assumes nothing.
 use mathlib.Core.Logic.{inl, inr}
 use native.Mathlib.Omega.{arith}
-use borrow.Author.Rules.{rules}
 use Rattle.model.proofs.Jobs.{jobs_valid}
 use Rattle.job_tables.proofs.Read.{jobs_decoded_refused, jobs_decoded, decoded_deadlines_padded, decoded_padded}
 use Rattle.touching.proofs.TouchingOutcomes.{touching_wrong_span, touching_jobs_refused, touching_read, refused_answers, same-answers}

@@ -2,7 +2,6 @@
 -- Assumes nothing.
 use mathlib.Core.Path.{refl}
 use native.Mathlib.Omega.{arith}
-use borrow.Author.Rules.{rules}
 use Rattle.job_tables.proofs.Read.{jobs_count}
 use Rattle.mark_tables.proofs.MarksIn.{length_marks_in}
 use Rattle.touching.proofs.TouchedArrays.{jobs_ordered, marked_bounds_held}

@@ -3,7 +3,6 @@
 -- Assumes nothing.
 use mathlib.Core.Path.{refl}
 use native.Mathlib.Omega.{arith}
-use borrow.Author.Rules.{rules}
 use Rattle.job_tables.proofs.Read.{jobs_count}
 use Rattle.job_records.proofs.SetsHave.{no-jobs}
 use Rattle.touching.proofs.TouchingOutcomes.{refused_answers, same-answers}

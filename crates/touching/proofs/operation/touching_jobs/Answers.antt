@@ -1,5 +1,4 @@
 -- `operation::touching_jobs` meets its contract: the marks that are lent on are those that were read. Assumes nothing.
-use borrow.Author.Rules.{rules}
 use Rattle.model.proofs.Marks.{marks_valid}
 use Rattle.mark_tables.proofs.MarksIn.{marks_read, marks_read_refused}
 use Rattle.touching.proofs.TouchingOutcomes.{refused_answers, same-answers}

@@ -1,6 +1,5 @@
 -- `operation::touching_marked` meets its contract: the jobs that are lent on are the altered ones (proofs/AlteredJobs.antt of the crate
 -- parameters). Assumes nothing.
-use borrow.Author.Rules.{rules}
 use Rattle.model.proofs.SiteParameters.{altered_are_valid}
 use Rattle.parameters.proofs.AlteredJobs.{refused_altering}
 use Rattle.touching.proofs.TouchingOutcomes.{refused_answers, same-answers}

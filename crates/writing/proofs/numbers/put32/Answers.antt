@@ -5,7 +5,6 @@ use mathlib.Core.List.{List, ◌++◌}
 use Prim.Native.Nat.{ℕ, ◌+◌, ◌/◌}
 use native.Mathlib.Omega.{arith}
 use lib.Seq.{sets}
-use borrow.Author.Rules.{rules}
 use Rattle.model.specs.Bytes.{bytes_of, bytes16, bytes32}
 use Rattle.model.proofs.Bytes.{length_bytes_of}
 use Rattle.writing.proofs.Stores.{sets_after}

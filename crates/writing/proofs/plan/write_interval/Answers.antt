@@ -4,9 +4,8 @@ use Prim.Native.Nat.{ℕ, ◌<◌}
 use native.Mathlib.Omega.{arith}
 use lib.ListN.{length}
 use Rattle.model.specs.Plans.{shares_in}
-use Rattle.job_sets.specs.JobSets.{member_count, least_member, is_empty}
-use Rattle.writing.specs.StepList.{step_of}
-use Rattle.writing.proofs.MemberSteps.{MembersPut, members_none, members_whole, least_share, least_room, members_next, fewer_left}
+use Rattle.job_sets.specs.JobSets.{least_member, is_empty}
+use Rattle.writing.proofs.MemberSteps.{members_none, members_whole, least_share, least_room, members_next, fewer_left}
 use Rattle.writing.proofs.PlanStores.{length_put}
 use Rattle.writing.proofs.plan.write_interval.Goals as goal
 use Rattle.writing.proofs.plan.write_interval.Goals.{At-loop-rest, In-loop-rest}

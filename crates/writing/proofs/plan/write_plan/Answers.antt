@@ -3,7 +3,6 @@
 use mathlib.Core.Path.{◌≡◌, ◌∙◌}
 use native.Mathlib.Omega.{arith}
 use lib.ListN.{length}
-use borrow.Author.Rules.{rules}
 use Rattle.model.specs.Plans.{shares_in}
 use Rattle.writing.specs.StepList.{steps_of}
 use Rattle.writing.proofs.HeldShares.{members_are_steps}

@@ -5,7 +5,6 @@ use mathlib.Core.List.{List}
 use Prim.Native.Nat.{ℕ, ◌+◌, ◌*◌, ◌<◌}
 use native.Mathlib.Omega.{arith}
 use lib.Seq.{sets}
-use borrow.Author.Rules.{rules}
 use Rattle.model.specs.Bytes.{bytes16, bytes32}
 use Rattle.model.specs.Steps.{cell_of}
 use Rattle.writing.specs.StepList.{step_of}

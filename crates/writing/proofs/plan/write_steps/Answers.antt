@@ -1,12 +1,12 @@
 use mathlib.Core.Path.{◌≡◌}
-use Prim.Native.Nat.{◌+◌, ◌-◌, ◌≤◌}
+use Prim.Native.Nat.{◌+◌, ◌≤◌}
 use native.Mathlib.Nat.{mul-le-mul_right}
 use native.Mathlib.Omega.{arith}
 use lib.ListN.{length}
 use Rattle.model.specs.Entries.{joined}
 use Rattle.model.specs.Plans.{shares_in}
 use Rattle.writing.specs.StepList.{steps_in, steps_of}
-use Rattle.writing.proofs.PlanStores.{StepsPut, put_none, length_put, put_whole, put_room, put_next}
+use Rattle.writing.proofs.PlanStores.{put_none, length_put, put_whole, put_room, put_next}
 use Rattle.writing.proofs.plan.write_steps.Goals as goal
 use Rattle.writing.proofs.plan.write_steps.Goals.{At-loop-interval}
 
