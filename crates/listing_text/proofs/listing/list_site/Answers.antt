@@ -3,11 +3,7 @@
 use mir.Syntax.{w64}
 use mir.Val.{SFits}
 use mir.Facts.{to_z-of_z}
-use mathlib.Core.Path.{◌≡◌}
 use borrow.Author.Rules.{rules}
-use Rattle.model.specs.SiteParameters.{as_given}
-use Rattle.planning.specs.PlanAnswers.{PlanContract}
-use Rattle.listing_text.specs.Listings.{zero_buffers}
 use Rattle.listing_text.proofs.ListingText.{lent_zeros, plan_listed, plan_put, overfull_put, refused_put}
 use Rattle.listing_text.proofs.listing.list_site.Goals as goal
 

@@ -4,7 +4,6 @@ use mathlib.Core.List.{List, [], ◌∷◌}
 use Prim.Native.Nat.{ℕ}
 use native.Mathlib.Omega.{arith}
 use lib.ListN.{length}
-use borrow.Author.Rules.{rules}
 use Rattle.model.specs.Marks.{no_marks}
 use Rattle.listing_text.specs.Listings.{marks_of_file}
 use Rattle.listing_text.proofs.listing.write_listing.Goals as goal

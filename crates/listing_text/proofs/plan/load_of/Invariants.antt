@@ -1,11 +1,9 @@
 -- `plan::load_of` meets its contract. The loop's invariant: the load is the sum of the first `j` shares.
 -- Assumes nothing.
 use mathlib.Core.Path.{◌≡◌}
-use Prim.Native.Nat.{ℕ, ◌+◌, ◌-◌, ◌*◌, ◌≤◌}
-use native.Mathlib.Omega.{arith}
+use Prim.Native.Nat.{◌-◌, ◌*◌, ◌≤◌}
 use Rattle.model.specs.Sum.{sum}
 use Rattle.model.specs.Plans.{shares_in}
-use Rattle.model.proofs.Sum.{sum_next}
 use Rattle.listing_text.proofs.plan.load_of.Given as goal
 
 abbrev pub invariant-loop-j : goal.invariant-loop-j

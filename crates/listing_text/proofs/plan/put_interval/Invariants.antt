@@ -1,14 +1,11 @@
 -- `plan::put_interval` meets its contract. The loop's invariant: the steps of the first `j` jobs are put.
 -- Assumes nothing.
 use Prim.Native.Nat.{◌-◌, ◌*◌, ◌≤◌}
-use native.Mathlib.Omega.{arith}
 use Rattle.model.specs.Entries.{encode_each, joined}
 use Rattle.model.specs.Plans.{shares_in}
 use Rattle.writing.specs.StepList.{step_of}
 use Rattle.listing_lines.specs.PlanText.{step_line}
 use Rattle.listing_lines.specs.Appending.{step_room, Appended}
-use Rattle.listing_lines.proofs.AppendedText.{same_room, next_most, pieces_none, pieces_next, pieces_whole}
-use Rattle.listing_lines.proofs.LineTexts.{interval_lines}
 use Rattle.listing_text.proofs.plan.put_interval.Given as goal
 
 abbrev pub invariant-loop-j : goal.invariant-loop-j

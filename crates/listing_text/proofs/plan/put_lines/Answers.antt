@@ -4,7 +4,6 @@ use mathlib.Core.Path.{refl}
 use Prim.Native.Nat.{ℕ, ◌*◌, ◌≤◌}
 use native.Mathlib.Nat.{mul-le-mul_right}
 use native.Mathlib.Omega.{arith}
-use borrow.Author.Rules.{rules}
 use Rattle.model.specs.Limits.{max_jobs, max_intervals}
 use Rattle.listing_lines.specs.PlanText.{plan_text}
 use Rattle.listing_lines.specs.Appending.{step_room}

@@ -1,7 +1,6 @@
 -- `plan::put_plan` meets its contract. The site that was read stands in the arrays, and what is put is the plan's text
 -- (proofs/ListedPlans.antt). Assumes nothing.
 use native.Mathlib.Omega.{arith}
-use borrow.Author.Rules.{rules}
 use Rattle.listing_lines.proofs.AppendedText.{appended_as}
 use Rattle.listing_text.proofs.ListedPlans.{shown-plan, shown_text}
 use Rattle.listing_text.proofs.plan.put_plan.Goals as goal

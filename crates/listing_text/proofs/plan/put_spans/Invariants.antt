@@ -1,18 +1,13 @@
 -- `plan::put_spans` meets its contract. The loop's invariant: the lines of the first `i` intervals are put.
 -- Assumes nothing.
-use mathlib.Core.Path.{refl}
 use Prim.Native.Nat.{suc, ◌-◌, ◌*◌, ◌≤◌}
-use native.Mathlib.Nat.{mul-le-mul_right}
-use native.Mathlib.Omega.{arith}
 use Rattle.model.specs.Entries.{joined}
 use Rattle.model.specs.Sum.{sum}
 use Rattle.model.specs.Plans.{shares_in}
 use Rattle.levels.specs.PointTables.{points_of}
-use Rattle.listing_lines.specs.PlanText.{span_line, span_lines}
+use Rattle.listing_lines.specs.PlanText.{span_line}
 use Rattle.listing_lines.specs.Appending.{span_room, Appended}
 use Rattle.listing_text.specs.ShownPlans.{bounds_in, prices_in}
-use Rattle.listing_lines.proofs.AppendedText.{same_room, next_most, appended_as, pieces_none, pieces_next, pieces_whole}
-use Rattle.listing_text.proofs.ShownSpans.{span_ready, span_shown}
 use Rattle.listing_text.proofs.plan.put_spans.Given as goal
 
 abbrev pub invariant-loop-i : goal.invariant-loop-i

@@ -1,11 +1,8 @@
-use Prim.Native.Nat.{◌-◌, ◌*◌, ◌≤◌}
+use Prim.Native.Nat.{◌*◌}
 use native.Mathlib.Nat.{mul-le-mul_left, mul-le-mul_right}
 use native.Mathlib.Omega.{arith}
-use Rattle.model.specs.Entries.{encode_each, joined}
 use Rattle.model.specs.Plans.{shares_in}
-use Rattle.writing.specs.StepList.{steps_in}
-use Rattle.listing_lines.specs.PlanText.{step_line}
-use Rattle.listing_lines.specs.Appending.{step_room, Appended}
+use Rattle.listing_lines.specs.Appending.{step_room}
 use Rattle.listing_lines.proofs.AppendedText.{same_room, next_most, pieces_none, pieces_next, pieces_whole}
 use Rattle.listing_lines.proofs.LineTexts.{all_lines}
 use Rattle.listing_text.proofs.plan.put_steps.Goals as goal

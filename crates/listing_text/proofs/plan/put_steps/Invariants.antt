@@ -1,15 +1,11 @@
 -- `plan::put_steps` meets its contract. The loop's invariant: the steps of the first `i` intervals are put.
 -- Assumes nothing.
 use Prim.Native.Nat.{◌-◌, ◌*◌, ◌≤◌}
-use native.Mathlib.Nat.{mul-le-mul_left, mul-le-mul_right}
-use native.Mathlib.Omega.{arith}
 use Rattle.model.specs.Entries.{encode_each, joined}
 use Rattle.model.specs.Plans.{shares_in}
 use Rattle.writing.specs.StepList.{steps_in}
 use Rattle.listing_lines.specs.PlanText.{step_line}
 use Rattle.listing_lines.specs.Appending.{step_room, Appended}
-use Rattle.listing_lines.proofs.AppendedText.{same_room, next_most, pieces_none, pieces_next, pieces_whole}
-use Rattle.listing_lines.proofs.LineTexts.{all_lines}
 use Rattle.listing_text.proofs.plan.put_steps.Given as goal
 
 abbrev pub invariant-loop-i : goal.invariant-loop-i
