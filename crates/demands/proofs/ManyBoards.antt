@@ -363,8 +363,8 @@ serving levels jobs marks parameters plan prices figure e =
 boards : (one two : LimitedBoard) → SameWorkingFrequencies one two
     → (processor other : Processor) × (read_processor one.bytes one.highest ≡ answer processor) × (read_processor two.bytes two.highest ≡ answer other)
     × (working_frequencies processor ≡ working_frequencies other)
-boards one two (frequencies, Has-one, has-two) =
-    let (processor, read_one, is) = and_then_answered (read_processor one.bytes one.highest) _ Has-one in
+boards one two (frequencies, has-one, has-two) =
+    let (processor, read_one, is) = and_then_answered (read_processor one.bytes one.highest) _ has-one in
     let (other, read-two, are) = and_then_answered (read_processor two.bytes two.highest) _ has-two in
     (processor, other, read_one, read-two, answer_injective is ∙ sym (answer_injective are))
 

@@ -62,10 +62,10 @@ module _ {work : Workload} {table room holders left : List ℕ} {prices : ℕ �
         record { stored = tables.stored; placing = placing_start tables.filling below tables.band_below has }
 
     -- after its turn
-    pub turn_end : count ≤ job → {rest : ℕ} {after Room-after holders-after : List ℕ} {prices-after : ℕ → ℕ}
+    pub turn_end : count ≤ job → {rest : ℕ} {after room-after holders-after : List ℕ} {prices-after : ℕ → ℕ}
         → ((i : ℕ) → prices i ≤ prices-after i)
-        → PlacingTables work after Room-after holders-after prices-after (numbers_in left) job rest band
-        → FillingTables work after Room-after holders-after (set left job rest) prices-after band count
+        → PlacingTables work after room-after holders-after prices-after (numbers_in left) job rest band
+        → FillingTables work after room-after holders-after (set left job rest) prices-after band count
     turn_end turn {rest} rises placing =
         record {
           stored = placing.stored;

@@ -42,7 +42,7 @@ module _ (interval job share : ℕ) where
 
   pub step_text : 0 < share → line step_word (interval ∷ job ∷ share ∷ []) ≡ encode_each step_line (step_of interval job share)
   unfolding encode_each step_line
-  step_text some_Share = rw (step_of_some interval job share some_Share) (sym (append-nil (line step_word (interval ∷ job ∷ share ∷ []))))
+  step_text some_share = rw (step_of_some interval job share some_share) (sym (append-nil (line step_word (interval ∷ job ∷ share ∷ []))))
 
 -- the lines of lists of steps, one after another
 lines_joined : (n : ℕ) (steps : ℕ → List Step) → joined n (λ i. encode_each step_line (steps i)) ≡ encode_each step_line (joined n steps)

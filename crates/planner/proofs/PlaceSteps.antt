@@ -187,8 +187,8 @@ module _ {work : Workload} {table room holders : List ℕ} {prices lefts : ℕ �
           reaching = searched.reaching;
         }
 
-    pub place_filled : {after Room-after holders-after : List ℕ} {amount : ℕ} → Filled work table after Room-after holders-after found band left amount
-        → PlacingTables work after Room-after holders-after prices lefts job (left - amount) band
+    pub place_filled : {after room-after holders-after : List ℕ} {amount : ℕ} → Filled work table after room-after holders-after found band left amount
+        → PlacingTables work after room-after holders-after prices lefts job (left - amount) band
     place_filled filled =
         record { stored = filled.stored; placing = filled.placing prices lefts job tables.placing searched.reaching }
 
@@ -235,11 +235,11 @@ module _ {work : Workload} {table room holders prices left : List ℕ} {band job
       rw (left_same left job is) (record { fit = can.fit; prices_length = can.prices_length; tables = turn_passed can.tables here })
 
   -- it was moved, and has none left or prices were raised
-  pub raise_moved : job < work.jobs → {after Room-after holders-after prices-after : List ℕ} → length prices-after ≡ max_intervals
+  pub raise_moved : job < work.jobs → {after room-after holders-after prices-after : List ℕ} → length prices-after ≡ max_intervals
       → ((i : ℕ) → numbers_in prices i ≤ numbers_in prices-after i)
-      → PlacingTables work after Room-after holders-after (numbers_in prices-after) (numbers_in left) job rest band
+      → PlacingTables work after room-after holders-after (numbers_in prices-after) (numbers_in left) job rest band
       → (0 < rest → (i : ℕ) → i < work.intervals → Open (problem_in work) i job → band < numbers_in prices-after i)
-      → CanRaise work after Room-after holders-after prices-after (set left job rest) band (job + 1)
+      → CanRaise work after room-after holders-after prices-after (set left job rest) band (job + 1)
   raise_moved below same_length rises moved passed =
       let own : numbers_in (set left job rest) job ≡ rest =
       get_or-set_same left job rest 0 (omega (arith, can.tables.left_length, can.tables.stored.sound.jobs_most)) in

@@ -35,8 +35,8 @@ step_of_none interval job (suc n) no_share = absurd (omega arith)
 pub step_of_some : (interval job share : ℕ) → 0 < share
     → step_of interval job share ≡ record { interval = interval; job = job; cycles = share } ∷ []
 unfolding step_of
-step_of_some interval job zero some_Share = absurd (omega arith)
-step_of_some interval job (suc n) some_Share = refl
+step_of_some interval job zero some_share = absurd (omega arith)
+step_of_some interval job (suc n) some_share = refl
 
 pub length_step_of : (interval job share : ℕ) → length (step_of interval job share) ≡ only_if (ltb 0 share) 1
 unfolding step_of

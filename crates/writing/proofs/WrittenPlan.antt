@@ -119,7 +119,7 @@ module _ (jobs intervals : ℕ) (shares : Shares) where
 module _ (jobs : List Job) (bounds : List ℕ) (shares : Shares)
     (shut : (i j : ℕ) → i < interval_count bounds → j < length jobs → is_open bounds (job_of jobs j) i ≡ false → shares i j ≡ 0) where
   share_open : (i j : ℕ) → i < interval_count bounds → j < length jobs → 1 ≤ shares i j → is_open bounds (job_of jobs j) i ≡ true
-  share_open i j below inside some_Share = never_false (is_open bounds (job_of jobs j) i) (λ e. omega (arith, shut i j below inside e))
+  share_open i j below inside some_share = never_false (is_open bounds (job_of jobs j) i) (λ e. omega (arith, shut i j below inside e))
 
   -- the steps are at most the open pairs
   pub few_steps : length (steps_of (length jobs) (interval_count bounds) shares) ≤ open_pairs bounds jobs

@@ -18,8 +18,8 @@ one-step : (count next interval job share : ℕ) (plan with_cell after : List �
     → with_cell ≡ sets plan (4 + 2 * next) (bytes16 (cell_of interval job))
     → after ≡ sets with_cell (4 + 2 * count + 4 * next) (bytes32 share)
     → 0 < share → after ≡ with_steps count next (step_of interval job share) plan
-one-step count next interval job share plan with_cell after first second some_Share =
-    rw (second, first, step_of_some interval job share some_Share) (with_one count next _ plan)
+one-step count next interval job share plan with_cell after first second some_share =
+    rw (second, first, step_of_some interval job share some_share) (with_one count next _ plan)
 
 pub overflow_cast-share : goal.overflow_cast-share
 overflow_cast-share c =
