@@ -273,11 +273,11 @@ static void large_sites(struct numbers *numbers)
 }
 
 struct group groups[GROUPS] = {
-    { .name = "settings", .run = settings, .weight = 14 },
-    { .name = "spares", .run = spares, .weight = 14 },
-    { .name = "damaged tables", .run = damaged, .weight = 34 },
+    { .name = "settings", .run = settings, .weight = 16 },
+    { .name = "spares", .run = spares, .weight = 16 },
+    { .name = "damaged tables", .run = damaged, .weight = 36 },
     { .name = "random bytes", .run = random_bytes, .weight = 18 },
-    { .name = "planning", .run = planning, .weight = 20 },
+    { .name = "planning", .run = planning, .weight = 22 },
     { .name = "changed plans", .run = changed_plans, .weight = 20 },
     { .name = "other plans", .run = other_plans, .weight = 14 },
     { .name = "tiny sites", .run = tiny_sites, .weight = 12 },

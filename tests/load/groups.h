@@ -12,7 +12,7 @@ struct group {
     struct tally tally;
 };
 
-enum { GROUPS = 19, WEIGHTS = 256 };
+enum { GROUPS = 19, WEIGHTS = 264 };
 
 extern struct group groups[GROUPS];
 
