@@ -7,7 +7,9 @@ use mathlib.Core.List.{List}
 use Prim.Native.Nat.{ℕ, ◌-◌, ◌<◌}
 use native.Mathlib.Omega.{arith}
 use lib.ListN.{length, get_or, take}
+use Rattle.std.specs.Prelude.{Result, Ok, Err}
 use Rattle.model.specs.declared.Job.{Job}
+use Rattle.model.specs.declared.refusal.Refusal.{Refusal}
 use Rattle.model.specs.Limits.{max_bounds}
 use Rattle.model.specs.Outcome.{Outcome, answer}
 use Rattle.model.specs.Processors.{working_of}
@@ -20,6 +22,7 @@ use Rattle.model.specs.Accepted.{IsPlan}
 use Rattle.model.proofs.Entries.{list_of_cong, list_of_get_d}
 use Rattle.model.proofs.Faults.{plan-length}
 use Rattle.model.proofs.FittingHalf.{fitting_answered, after_fitting}
+use Rattle.model.proofs.Refusals.{refused_returned}
 use Rattle.reading.proofs.Column.{column_at}
 use Rattle.job_tables.specs.Tables.{jobs_in}
 use Rattle.job_tables.proofs.Read.{length_jobs_in}
@@ -29,19 +32,12 @@ use Rattle.site.specs.SiteTables.{HoldsSite}
 use Rattle.site.proofs.HeldSites.{held_jobs_counted, held_count, held_points, held_small, held_curve, held_bounds, held_bounds_small}
 use Rattle.energy.specs.Figures.{figure_of_loads}
 use Rattle.energy.proofs.Figures.{figure_of_plan}
-use Rattle.fitting.specs.declared.Verdict.{Verdict}
-use Rattle.fitting.specs.declared.Verdict.TheVariants.{Passed, Refused}
 use Rattle.fitting.specs.Verdicts.{verdict_of, passed}
 use Rattle.fitting.specs.FirstHalf.{bounds_in, Fitted}
 use Rattle.fitting.proofs.Verdicts.{Both, both_refused, both_passed}
 use Rattle.fitting.proofs.FirstHalf.{are_loads, load_at}
-use Rattle.audit.specs.declared.first_half.FitsAnswer.TheVariants.{Fits, Refused as RefusedPlan}
 use Rattle.audit.specs.Answers.{fits_answer}
 use Rattle.audit.specs.Halves.{FittedSite}
-
--- a refused plan does not fit
-pub refused_fits : {A : Type 0} {number place energy : ℕ} → RefusedPlan number place ≡ Fits energy → A
-refused_fits e = let z : ◌≡◌ {A = ℕ} 0 1 = cc e in absurd (omega arith)
 
 -- the first half, and then whatever is next
 fitting_both : {B : Type 0} (site : Site) (plan : List ℕ) (next : Outcome B) → Both (fitting site plan passed) next (fitting site plan next)
@@ -61,16 +57,16 @@ module _ {site : Site} {table : SiteTable} {releases deadlines cycles times : Li
       (λ i below. column_at max_bounds (λ i. get_or site.bounds i 0) (length site.bounds) i (omega (arith, valid.few_bounds)) below)
       ∙ list_of_get_d site.bounds 0)
 
-  module _ (verdict : Verdict) (sets loads cells : List ℕ) (fitted : Fitted table.top jobs times table.bounds plan verdict sets loads cells) where
+  module _ (verdict : Result (Unit {0}) Refusal) (sets loads cells : List ℕ) (fitted : Fitted table.top jobs times table.bounds plan verdict sets loads cells) where
     judged : verdict ≡ verdict_of (fitting site plan passed)
     judged = rw (holds.jobs_are, bounds-in) at (fitted.judged site.processor (sym holds.top_is))
 
-    pub plan_refused : (number place : ℕ) → verdict ≡ Refused number place → RefusedPlan number place ≡ fits_answer (fits_for site plan)
+    pub plan_refused : (own : Refusal) → verdict ≡ Err own → Err own ≡ fits_answer (fits_for site plan)
     unfolding fits_for
-    plan_refused number place e =
-        rw (both_refused (fitting site plan passed) _ (fitting_both site plan (answer (figure_of site plan))) number place (sym judged ∙ e))
+    plan_refused own e =
+        refused_returned _ (both_refused (fitting site plan passed) _ (fitting_both site plan (answer (figure_of site plan))) own (sym judged ∙ e))
 
-    module _ (passes : verdict ≡ Passed) where
+    module _ (passes : verdict ≡ Ok tt) where
       past : {B : Type 0} (next : Outcome B) → fitting site plan next ≡ next
       past next = both_passed (fitting site plan passed) _ (fitting_both site plan next) (sym judged ∙ passes)
 
@@ -88,11 +84,11 @@ module _ {site : Site} {table : SiteTable} {releases deadlines cycles times : Li
 
       -- the figure over the loads is the plan's
       pub plan_fits : (figure : ℕ) → figure ≡ figure_of_loads (points_of table.working) (take table.bounds times) loads
-          → Fits figure ≡ fits_answer (fits_for site plan)
+          → Ok figure ≡ fits_answer (fits_for site plan)
       unfolding fits_for
       plan_fits figure figured =
           rw (past (answer (figure_of site plan)))
-          (ap Fits (figured
+          (ap Ok (figured
           ∙ rw (held_points valid holds, held_bounds valid holds)
           (figure_of_plan (working_of site.processor) site.jobs site.bounds loads (shares_of plan) loaded_at)))
 

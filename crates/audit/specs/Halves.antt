@@ -1,5 +1,6 @@
 -- What the first half of the check answers, and what it leaves for the second, over plain arrays.
-use Rattle.std.specs.Prelude.{ℕ, ◌≤◌, ◌≡◌, List, length}
+use Rattle.std.specs.Prelude.{ℕ, ◌≤◌, ◌≡◌, List, length, Result, IsOk}
+use Rattle.model.specs.declared.refusal.Refusal.{Refusal}
 use Rattle.model.specs.Limits.{max_jobs}
 use Rattle.model.specs.Bands.{Curve}
 use Rattle.model.specs.Processors.{working_of}
@@ -14,8 +15,6 @@ use Rattle.fitting.specs.SeenCells.{CellsSeen}
 use Rattle.job_records.specs.TestedJobs.{open_below}
 use Rattle.fitting.specs.FirstHalf.{site_in}
 use Rattle.pricing.specs.SecondHalf.{Planned}
-use Rattle.audit.specs.declared.first_half.FitsAnswer.{FitsAnswer}
-use Rattle.audit.specs.declared.first_half.FitsAnswer.TheVariants.{Fits}
 use Rattle.audit.specs.Answers.{fits_answer}
 
 -- A site with a plan that fits it, in what the first half leaves: the site's working points, the times of its bounds, the open sets
@@ -32,8 +31,8 @@ pub record FittedSite (site : Site) (plan : List ℕ) (table : SiteTable) (times
   pub planned : Planned table.jobs table.bounds plan loads
 
 -- What the first half answers for each valid site that stands in the arrays and, where the plan fits, leaves.
-pub record SiteAnswered (table : SiteTable) (releases deadlines cycles times plan : List ℕ) (answered : FitsAnswer) (sets loads cells : List ℕ) : Type 0 where
+pub record SiteAnswered (table : SiteTable) (releases deadlines cycles times plan : List ℕ) (answered : Result ℕ Refusal) (sets loads cells : List ℕ) : Type 0 where
   pub judged : (site : Site) → ValidSite site → HoldsSite site table releases deadlines cycles times → answered ≡ fits_answer (fits_for site plan)
-  pub left : (energy : ℕ) → answered ≡ Fits energy
+  pub left : IsOk answered
       → (site : Site) → ValidSite site → HoldsSite site table releases deadlines cycles times → FittedSite site plan table times sets loads
-  pub seen : (energy : ℕ) → answered ≡ Fits energy → CellsSeen plan cells
+  pub seen : IsOk answered → CellsSeen plan cells

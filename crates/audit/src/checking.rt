@@ -1,31 +1,22 @@
 // The check of a plan and its price list, from bytes: the first half, and then the second.
-ghost use Rattle.std.specs.Prelude.{◌≡◌, ℕ};
+ghost use Rattle.std.specs.Prelude.{IsOk, ◌≡◌};
 ghost use Rattle.model.specs.Outcome.{answer};
 ghost use Rattle.model.specs.Sites.{Site, ValidSite};
 ghost use Rattle.model.specs.Checking.{pricing, check_for, check as check_of};
 ghost use Rattle.site.specs.SiteTables.{HoldsSite, HoldsSome};
 ghost use Rattle.job_records.specs.SetsHave.{NoJobs};
 ghost use Rattle.fitting.specs.SeenCells.{CellsSeen};
-ghost use Rattle.audit.specs.declared.checking.CheckAnswer.TheVariants.{Accepted};
 ghost use Rattle.audit.specs.Answers.{check_answer};
 ghost use Rattle.audit.specs.Halves.{FittedSite};
 
-use crate::first_half::{FitsAnswer, fit_site};
-use fitting::Verdict;
+use crate::first_half::fit_site;
 use job_sets::SET_WORDS;
-use model::{MAX_BOUNDS, MAX_INTERVALS, MAX_JOBS, Parameters};
+use model::{MAX_BOUNDS, MAX_INTERVALS, MAX_JOBS, Parameters, Refusal};
 use pricing::price;
-use site::{SiteReading, SiteTable, read_site};
+use site::{SiteTable, read_site};
 
-// The energy figure of an accepted plan, or the refusal's number and place.
-#[derive(Clone, Copy)]
-pub enum CheckAnswer {
-    Accepted { energy: u64 },
-    Refused { number: u32, place: u32 },
-}
-
-// Checks a plan and its price list against a level table, a job table and handover marks, altered by a site's parameters. Any bytes and
-// numbers are answered.
+// Checks a plan and its price list against a level table, a job table and handover marks, altered by a site's parameters, and answers the
+// energy figure of a plan that is accepted. Any bytes and numbers are answered.
 pub fn check(
     levels: &[u8],
     jobs: &[u8],
@@ -33,7 +24,7 @@ pub fn check(
     parameters: Parameters,
     plan: &[u8],
     prices: &[u8],
-) -> CheckAnswer
+) -> Result<u64, Refusal>
     ensures { result ≡ check_answer (check_of levels.now jobs.now marks.now parameters plan.now prices.now) }
 {
     let mut cells = [0u64; SET_WORDS];
@@ -50,10 +41,10 @@ pub fn check_cells(
     plan: &[u8],
     prices: &[u8],
     cells: &mut [u64; SET_WORDS],
-) -> CheckAnswer
+) -> Result<u64, Refusal>
     requires { NoJobs cells.old }
     ensures value { result ≡ check_answer (check_of levels.now jobs.now marks.now parameters plan.now prices.now) }
-    ensures by_index { (energy : ℕ) → result ≡ Accepted energy → CellsSeen plan.now cells.new }
+    ensures cells_seen { IsOk result → CellsSeen plan.now cells.new }
 {
     let mut releases = [0u64; MAX_JOBS];
     let mut deadlines = [0u64; MAX_JOBS];
@@ -68,14 +59,10 @@ pub fn check_cells(
         &mut deadlines,
         &mut cycles,
         &mut times,
-    );
-    let reading = site.reading;
-    match reading {
-        SiteReading::Refused { number, place } => CheckAnswer::Refused { number, place },
-        SiteReading::Read => check_site(
-            site, &releases, &deadlines, &cycles, &times, plan, prices, cells,
-        ),
-    }
+    )?;
+    check_site(
+        site, &releases, &deadlines, &cycles, &times, plan, prices, cells,
+    )
 }
 
 // The check where the site was read: the first half and, where the plan fits, the second.
@@ -88,22 +75,17 @@ fn check_site(
     plan: &[u8],
     prices: &[u8],
     cells: &mut [u64; SET_WORDS],
-) -> CheckAnswer
+) -> Result<u64, Refusal>
     requires { HoldsSome site releases.now deadlines.now cycles.now times.now × NoJobs cells.old }
     ensures value { (s : Site) → ValidSite s → HoldsSite s site releases.now deadlines.now cycles.now times.now → result ≡ check_answer (check_for s plan.now prices.now) }
-    ensures by_index { (energy : ℕ) → result ≡ Accepted energy → CellsSeen plan.now cells.new }
+    ensures cells_seen { IsOk result → CellsSeen plan.now cells.new }
 {
     let mut sets = [0u64; SET_WORDS];
     let mut loads = [0u64; MAX_INTERVALS];
     let first = fit_site(
         site, releases, deadlines, cycles, times, plan, &mut sets, &mut loads, cells,
     );
-    match first {
-        FitsAnswer::Refused { number, place } => CheckAnswer::Refused { number, place },
-        FitsAnswer::Fits { energy } => {
-            check_prices(energy, site, times, &sets, &loads, plan, prices)
-        }
-    }
+    check_prices(first?, site, times, &sets, &loads, plan, prices)
 }
 
 // The second half where the plan fits: 21 to 24, and the energy figure of the first.
@@ -115,11 +97,11 @@ fn check_prices(
     loads: &[u64; MAX_INTERVALS],
     plan: &[u8],
     prices: &[u8],
-) -> CheckAnswer
+) -> Result<u64, Refusal>
     requires { (s : Site) × FittedSite s plan.now site times.now sets.now loads.now }
     ensures { (s : Site) → FittedSite s plan.now site times.now sets.now loads.now → result ≡ check_answer (pricing s plan.now prices.now (answer energy)) }
 {
-    let verdict = price(
+    price(
         site.working,
         sets,
         site.jobs,
@@ -128,9 +110,6 @@ fn check_prices(
         plan,
         loads,
         prices,
-    );
-    if let Verdict::Refused { number, place } = verdict {
-        return CheckAnswer::Refused { number, place };
-    }
-    CheckAnswer::Accepted { energy }
+    )?;
+    Ok(energy)
 }

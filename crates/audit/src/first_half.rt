@@ -8,27 +8,20 @@ ghost use Rattle.audit.specs.Answers.{fits_answer};
 ghost use Rattle.audit.specs.Halves.{SiteAnswered};
 
 use energy::energy_figure;
-use fitting::{Verdict, fit};
+use fitting::fit;
 use job_sets::SET_WORDS;
-use model::{MAX_BOUNDS, MAX_INTERVALS, MAX_JOBS, Parameters};
-use site::{SiteReading, SiteTable, read_site};
-
-// The energy figure of a plan that fits, or the refusal's number and place.
-#[derive(Clone, Copy)]
-pub enum FitsAnswer {
-    Fits { energy: u64 },
-    Refused { number: u32, place: u32 },
-}
+use model::{MAX_BOUNDS, MAX_INTERVALS, MAX_JOBS, Parameters, Refusal};
+use site::{SiteTable, read_site};
 
 // Checks that a plan fits a level table, a job table and handover marks, altered by a site's parameters: refusals 15 to 20 after those of
-// the tables and the parameters. Any bytes and numbers are answered.
+// the tables and the parameters. It answers the energy figure of a plan that fits. Any bytes and numbers are answered.
 pub fn fits(
     levels: &[u8],
     jobs: &[u8],
     marks: &[u8],
     parameters: Parameters,
     plan: &[u8],
-) -> FitsAnswer
+) -> Result<u64, Refusal>
     ensures { result ≡ fits_answer (fits_of levels.now jobs.now marks.now parameters plan.now) }
 {
     let mut releases = [0u64; MAX_JOBS];
@@ -44,22 +37,18 @@ pub fn fits(
         &mut deadlines,
         &mut cycles,
         &mut times,
-    );
-    let reading = site.reading;
-    match reading {
-        SiteReading::Refused { number, place } => FitsAnswer::Refused { number, place },
-        SiteReading::Read => fit_site(
-            site,
-            &releases,
-            &deadlines,
-            &cycles,
-            &times,
-            plan,
-            &mut [0; SET_WORDS],
-            &mut [0; MAX_INTERVALS],
-            &mut [0; SET_WORDS],
-        ),
-    }
+    )?;
+    fit_site(
+        site,
+        &releases,
+        &deadlines,
+        &cycles,
+        &times,
+        plan,
+        &mut [0; SET_WORDS],
+        &mut [0; MAX_INTERVALS],
+        &mut [0; SET_WORDS],
+    )
 }
 
 // The first half where the site was read: 15 to 20, and the energy figure. Where the plan fits it leaves what the second half needs: the
@@ -74,19 +63,14 @@ pub(crate) fn fit_site(
     sets: &mut [u64; SET_WORDS],
     loads: &mut [u64; MAX_INTERVALS],
     cells: &mut [u64; SET_WORDS],
-) -> FitsAnswer
+) -> Result<u64, Refusal>
     requires holds_some { HoldsSome site releases.now deadlines.now cycles.now times.now }
     requires no_jobs { NoJobs sets.old × (loads.old ≡ replicate max_intervals 0) × NoJobs cells.old }
     ensures { SiteAnswered site releases.now deadlines.now cycles.now times.now plan.now result sets.new loads.new cells.new }
 {
     let bounds = site.bounds;
-    let verdict = fit(
+    fit(
         site.top, releases, deadlines, cycles, site.jobs, times, bounds, plan, sets, loads, cells,
-    );
-    if let Verdict::Refused { number, place } = verdict {
-        return FitsAnswer::Refused { number, place };
-    }
-    FitsAnswer::Fits {
-        energy: energy_figure(site.working, times, bounds, loads),
-    }
+    )?;
+    Ok(energy_figure(site.working, times, bounds, loads))
 }

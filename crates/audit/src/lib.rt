@@ -4,5 +4,5 @@
 mod checking;
 mod first_half;
 
-pub use checking::{CheckAnswer, check, check_cells};
-pub use first_half::{FitsAnswer, fits};
+pub use checking::{check, check_cells};
+pub use first_half::fits;

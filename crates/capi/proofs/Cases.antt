@@ -1,6 +1,6 @@
--- From the case of an answer to the struct for C, and that a setting's gap fits its field.
+-- From the answer of an operation to the struct for C, and that a setting's gap fits its field.
 -- Assumes nothing.
-use mathlib.Core.Path.{◌≡◌, refl, ap}
+use mathlib.Core.Path.{◌≡◌, refl, sym, ap}
 use mathlib.Core.Bool.{not, ◌&&◌}
 use mathlib.Core.Logic.{◌⊎◌, inl, inr}
 use mathlib.Core.List.{List}
@@ -9,9 +9,13 @@ use native.Mathlib.Omega.{arith}
 use lib.Dec.{ltb, leb}
 use lib.ListN.{length, get_or-eq_default}
 use lib.IntN.{ℤ, pos}
+use Rattle.std.specs.Prelude.{Option, Some, None, Ok, Err}
+use Rattle.std.specs.Option.{unwrap_or}
 use Rattle.model.specs.declared.Parameters.{Parameters}
+use Rattle.model.specs.declared.refusal.Refusal.{Refusal}
 use Rattle.model.specs.Limits.{max_frequency, max_deadline}
-use Rattle.model.specs.Outcome.{Outcome, refused, answer}
+use Rattle.model.specs.Outcome.{Outcome, refused, answer, From, RefusesBy}
+use Rattle.model.specs.Refusals.{number_of}
 use Rattle.model.specs.Points.{Point, idling_point}
 use Rattle.model.specs.Bands.{frequency_of, gap}
 use Rattle.model.specs.Processors.{Processor, working_of, top_of, read_processor, ValidProcessor}
@@ -20,246 +24,185 @@ use Rattle.model.specs.Windows.{spare}
 use Rattle.model.specs.Checking.{fits, check}
 use Rattle.model.proofs.Numbers.{lt_or_le}
 use Rattle.model.proofs.Outcome.{answered_past, answer_injective, and_then_answered}
+use Rattle.model.proofs.Refusals.{RefusedBy, returned_refused, returned_answered, number_numbered}
+use Rattle.model.proofs.RefusalNumbers.{fits_by, check_by, setting_by, spare_by}
 use Rattle.model.proofs.Sites.{processors_are_valid}
-use Rattle.settings.specs.declared.interval.SettingAnswer.TheVariants.{Set, Refused}
+use Rattle.settings.specs.declared.interval.IntervalSetting.{IntervalSetting}
 use Rattle.settings.specs.Settings.{setting_answer}
 use Rattle.levels.proofs.SmallPoints.{working_small, working_held}
-use Rattle.spare.specs.declared.window.SpareAnswer.TheVariants.{Spare, Refused as SpareRefused}
 use Rattle.spare.specs.Answers.{spare_answer}
-use Rattle.audit.specs.declared.first_half.FitsAnswer.TheVariants.{Fits, Refused as FitsRefused}
-use Rattle.audit.specs.declared.checking.CheckAnswer.TheVariants.{Accepted, Refused as CheckRefused}
 use Rattle.audit.specs.Answers.{fits_answer, check_answer}
-use Rattle.tasks.specs.Rounds.{Round, table_length, rounds}
-use Rattle.rounds.specs.declared.operation.RoundsAnswer.TheVariants.{LaidOut, Refused as RoundRefused}
-use Rattle.rounds.specs.RoundAnswers.{rounds_answer, RoundsContract}
+use Rattle.tasks.specs.Rounds.{Round, rounds}
+use Rattle.tasks.proofs.Rounds.{rounds_refuse}
+use Rattle.rounds.specs.declared.operation.LaidOut.{LaidOut}
+use Rattle.rounds.specs.RoundAnswers.{RoundsContract}
 use Rattle.ordering.specs.Ordering.{order}
-use Rattle.ordering.specs.declared.operation.OrderAnswer.TheVariants.{Ordered, Refused as OrderRefused}
-use Rattle.ordering.specs.OrderAnswers.{order_answer, OrderContract}
-use Rattle.spans.specs.declared.jobs.NearestDeadline.{NearestDeadline}
+use Rattle.ordering.specs.OrderAnswers.{OrderContract}
+use Rattle.ordering.proofs.Ordering.{order_refuses}
 use Rattle.spans.specs.Spans.{Touched}
-use Rattle.spans.specs.SpanAnswers.{nearest_answer}
+use Rattle.touching.specs.declared.operation.ListLengths.{ListLengths}
 use Rattle.touching.specs.Touching.{Lists, touching}
-use Rattle.touching.specs.declared.operation.TouchingAnswer.TheVariants.{Touching, Refused as TouchingRefused}
-use Rattle.touching.specs.TouchingAnswers.{touching_answer, TouchingContract}
-use Rattle.capi.specs.Results.{fits_result, check_result, setting_result, spare_result, rounds_result, RoundsCall, order_result, OrderCall}
-use Rattle.capi.specs.Results.{deadline_number, touching_result, TouchingCall}
+use Rattle.touching.specs.TouchingAnswers.{TouchingContract}
+use Rattle.touching.proofs.TouchingRefusals.{touching_refuses}
+use Rattle.capi.specs.Results.{fits_result, check_result, setting_result, spare_result, RoundsCall, OrderCall}
+use Rattle.capi.specs.Results.{deadline_number, TouchingCall}
 
-fitting_result : (outcome : Outcome ℕ) (energy : ℕ) → Fits energy ≡ fits_answer outcome
-    → record { number = 0; place = 0; energy = energy } ≡ fits_result outcome
-fitting_result (refused number place) energy e = cc e
-fitting_result (answer found) energy e = let same : energy ≡ found = cc e in λ k. record { number = 0; place = 0; energy = same k }
+-- An operation that refuses by numbers of the table alone: the number and the place of a refusal that is returned are the outcome's.
+pub number_told : {A : Type 0} {outcome : Outcome A} {own : Refusal} → RefusesBy (From 1 36) outcome → RefusedBy outcome own
+    → outcome ≡ refused (number_of own.fault) own.place
+number_told {own = own} refuses by =
+    let same_number : number_of own.fault ≡ by.number = rw by.own_is (number_numbered by.number (refuses by.number by.place by.outcome_is)) in
+    let same_place : own.place ≡ by.place = rw by.own_is refl in
+    rw (same_number, same_place) by.outcome_is
 
-unfitting_result : (outcome : Outcome ℕ) (number place : ℕ) → FitsRefused number place ≡ fits_answer outcome
-    → record { number = number; place = place; energy = 0 } ≡ fits_result outcome
-unfitting_result (refused n p) number place e =
-    let same_number : number ≡ n = cc e in
-    let same_place : place ≡ p = cc e in
-    λ k. record { number = same_number k; place = same_place k; energy = 0 }
-unfitting_result (answer found) number place e = cc e
-
-accepted_result : (outcome : Outcome ℕ) (energy : ℕ) → Accepted energy ≡ check_answer outcome
-    → record { number = 0; place = 0; energy = energy } ≡ check_result outcome
-accepted_result (refused number place) energy e = cc e
-accepted_result (answer found) energy e = let same : energy ≡ found = cc e in λ k. record { number = 0; place = 0; energy = same k }
-
-unaccepted_result : (outcome : Outcome ℕ) (number place : ℕ) → CheckRefused number place ≡ check_answer outcome
-    → record { number = number; place = place; energy = 0 } ≡ check_result outcome
-unaccepted_result (refused n p) number place e =
-    let same_number : number ≡ n = cc e in
-    let same_place : place ≡ p = cc e in
-    λ k. record { number = same_number k; place = same_place k; energy = 0 }
-unaccepted_result (answer found) number place e = cc e
-
-set_result : (outcome : Outcome Setting) (band extra gap : ℕ) → Set band extra gap ≡ setting_answer outcome
-    → record { number = 0; place = 0; band = band; gap = gap; extra = extra } ≡ setting_result outcome
-set_result (refused number place) band extra gap e = cc e
-set_result (answer s) band extra gap e =
-    let same_band : band ≡ s.band = cc e in
-    let same-extra : extra ≡ s.extra = cc e in
-    let same_gap : gap ≡ s.gap = cc e in
-    λ k. record { number = 0; place = 0; band = same_band k; gap = same_gap k; extra = same-extra k }
-
-refused_result : (outcome : Outcome Setting) (number place : ℕ) → Refused number place ≡ setting_answer outcome
-    → record { number = number; place = place; band = 0; gap = 0; extra = 0 } ≡ setting_result outcome
-refused_result (refused n p) number place e =
-    let same_number : number ≡ n = cc e in
-    let same_place : place ≡ p = cc e in
-    λ k. record { number = same_number k; place = same_place k; band = 0; gap = 0; extra = 0 }
-refused_result (answer s) number place e = cc e
-
-spare-result : (outcome : Outcome ℤ) (z : ℤ) → Spare z ≡ spare_answer outcome
-    → record { number = 0; place = 0; spare = z } ≡ spare_result outcome
-spare-result (refused number place) z e = cc e
-spare-result (answer found) z e = let same : z ≡ found = cc e in λ k. record { number = 0; place = 0; spare = same k }
-
-no_spare_result : (outcome : Outcome ℤ) (number place : ℕ) → SpareRefused number place ≡ spare_answer outcome
-    → record { number = number; place = place; spare = pos 0 } ≡ spare_result outcome
-no_spare_result (refused n p) number place e =
-    let same_number : number ≡ n = cc e in
-    let same_place : place ≡ p = cc e in
-    λ k. record { number = same_number k; place = same_place k; spare = pos 0 }
-no_spare_result (answer found) number place e = cc e
-
-laid_out_result : (outcome : Outcome Round) (length multiple : ℕ) → LaidOut length multiple ≡ rounds_answer outcome
-    → record { number = 0; place = 0; length = length; multiple = multiple } ≡ rounds_result outcome
-laid_out_result (refused number place) length multiple e = cc e
-laid_out_result (answer round) length multiple e =
-    let same_length : length ≡ table_length round.jobs = cc e in
-    let same_multiple : multiple ≡ round.multiple = cc e in
-    λ k. record { number = 0; place = 0; length = same_length k; multiple = same_multiple k }
-
-no_round_result : (outcome : Outcome Round) (number place : ℕ) → RoundRefused number place ≡ rounds_answer outcome
-    → record { number = number; place = place; length = 0; multiple = 0 } ≡ rounds_result outcome
-no_round_result (refused n p) number place e =
-    let same_number : number ≡ n = cc e in
-    let same_place : place ≡ p = cc e in
-    λ k. record { number = same_number k; place = same_place k; length = 0; multiple = 0 }
-no_round_result (answer round) number place e = cc e
-
-ordered_result : (outcome : Outcome (List ℕ)) (size : ℕ) → Ordered size ≡ order_answer outcome
-    → record { number = 0; place = 0; length = size } ≡ order_result outcome
-ordered_result (refused number place) size e = cc e
-ordered_result (answer ordered) size e =
-    let same : size ≡ length ordered = cc e in
-    λ k. record { number = 0; place = 0; length = same k }
-
-no_order_result : (outcome : Outcome (List ℕ)) (number place : ℕ) → OrderRefused number place ≡ order_answer outcome
-    → record { number = number; place = place; length = 0 } ≡ order_result outcome
-no_order_result (refused n p) number place e =
-    let same_number : number ≡ n = cc e in
-    let same_place : place ≡ p = cc e in
-    λ k. record { number = same_number k; place = same_place k; length = 0 }
-no_order_result (answer ordered) number place e = cc e
-
-touched_result : (outcome : Outcome Touched) (opened inside steps : ℕ) (nearest : NearestDeadline)
-    → Touching opened inside steps nearest ≡ touching_answer outcome
-    → record {
-      number = 0;
-      place = 0;
-      open_jobs = opened;
-      inside_jobs = inside;
-      steps = steps;
-      deadline = deadline_number nearest;
-    } ≡ touching_result outcome
-touched_result (refused number place) opened inside steps nearest e = cc e
-touched_result (answer t) opened inside steps nearest e =
-    let same-open : opened ≡ length t.open_jobs = cc e in
-    let same-inside : inside ≡ length t.inside_jobs = cc e in
-    let same_steps : steps ≡ length t.steps = cc e in
-    let same-nearest : nearest ≡ nearest_answer t.deadline = cc e in
-    λ k. record {
-      number = 0;
-      place = 0;
-      open_jobs = same-open k;
-      inside_jobs = same-inside k;
-      steps = same_steps k;
-      deadline = deadline_number (same-nearest k);
-    }
-
-untouched_result : (outcome : Outcome Touched) (number place : ℕ) → TouchingRefused number place ≡ touching_answer outcome
-    → record { number = number; place = place; open_jobs = 0; inside_jobs = 0; steps = 0; deadline = 0 } ≡ touching_result outcome
-untouched_result (refused n p) number place e =
-    let same_number : number ≡ n = cc e in
-    let same_place : place ≡ p = cc e in
-    λ k. record { number = same_number k; place = same_place k; open_jobs = 0; inside_jobs = 0; steps = 0; deadline = 0 }
-untouched_result (answer t) number place e = cc e
-
--- the outcome is that of an operation on bytes
 module _ (level_bytes job_bytes mark_bytes : List ℕ) (parameters : Parameters) (plan : List ℕ) where
-  pub plan_fits : (energy : ℕ) → Fits energy ≡ fits_answer (fits level_bytes job_bytes mark_bytes parameters plan)
-      → record { number = 0; place = 0; energy = energy } ≡ fits_result (fits level_bytes job_bytes mark_bytes parameters plan)
-  plan_fits = fitting_result (fits level_bytes job_bytes mark_bytes parameters plan)
+  abbrev own_fits : Outcome ℕ
+  own_fits = fits level_bytes job_bytes mark_bytes parameters plan
 
-  pub plan_refused : (number place : ℕ) → FitsRefused number place ≡ fits_answer (fits level_bytes job_bytes mark_bytes parameters plan)
-      → record { number = number; place = place; energy = 0 } ≡ fits_result (fits level_bytes job_bytes mark_bytes parameters plan)
-  plan_refused = unfitting_result (fits level_bytes job_bytes mark_bytes parameters plan)
+  pub plan_fits : (energy : ℕ) → Ok energy ≡ fits_answer own_fits → record { number = 0; place = 0; energy = energy } ≡ fits_result own_fits
+  plan_fits energy told = let (found, is, same) = returned_answered _ own_fits energy (sym told) in rw (is, same) refl
+
+  pub plan_refused : (own : Refusal) → Err own ≡ fits_answer own_fits
+      → record { number = number_of own.fault; place = own.place; energy = 0 } ≡ fits_result own_fits
+  plan_refused own told = rw (number_told in_table (returned_refused _ own_fits own (sym told))) refl
+    where
+      in_table : RefusesBy (From 1 36) own_fits
+      in_table number place e = omega (arith, fits_by level_bytes job_bytes mark_bytes parameters plan number place e)
 
 module _ (level_bytes job_bytes mark_bytes : List ℕ) (parameters : Parameters) (plan prices : List ℕ) where
-  pub check_accepted : (energy : ℕ) → Accepted energy ≡ check_answer (check level_bytes job_bytes mark_bytes parameters plan prices)
-      → record { number = 0; place = 0; energy = energy } ≡ check_result (check level_bytes job_bytes mark_bytes parameters plan prices)
-  check_accepted = accepted_result (check level_bytes job_bytes mark_bytes parameters plan prices)
+  abbrev own_check : Outcome ℕ
+  own_check = check level_bytes job_bytes mark_bytes parameters plan prices
 
-  pub check_refused : (number place : ℕ) → CheckRefused number place ≡ check_answer (check level_bytes job_bytes mark_bytes parameters plan prices)
-      → record { number = number; place = place; energy = 0 } ≡ check_result (check level_bytes job_bytes mark_bytes parameters plan prices)
-  check_refused = unaccepted_result (check level_bytes job_bytes mark_bytes parameters plan prices)
+  pub check_accepted : (energy : ℕ) → Ok energy ≡ check_answer own_check → record { number = 0; place = 0; energy = energy } ≡ check_result own_check
+  check_accepted energy told = let (found, is, same) = returned_answered _ own_check energy (sym told) in rw (is, same) refl
+
+  pub check_refused : (own : Refusal) → Err own ≡ check_answer own_check
+      → record { number = number_of own.fault; place = own.place; energy = 0 } ≡ check_result own_check
+  check_refused own told = rw (number_told in_table (returned_refused _ own_check own (sym told))) refl
+    where
+      in_table : RefusesBy (From 1 36) own_check
+      in_table number place e = omega (arith, check_by level_bytes job_bytes mark_bytes parameters plan prices number place e)
 
 module _ (bytes : List ℕ) (highest length load : ℕ) where
-  pub setting_set : (band extra gap : ℕ) → Set band extra gap ≡ setting_answer (setting bytes highest length load)
-      → record { number = 0; place = 0; band = band; gap = gap; extra = extra } ≡ setting_result (setting bytes highest length load)
-  setting_set = set_result (setting bytes highest length load)
+  abbrev own_setting : Outcome Setting
+  own_setting = setting bytes highest length load
 
-  pub setting_refused : (number place : ℕ) → Refused number place ≡ setting_answer (setting bytes highest length load)
-      → record { number = number; place = place; band = 0; gap = 0; extra = 0 } ≡ setting_result (setting bytes highest length load)
-  setting_refused = refused_result (setting bytes highest length load)
+  pub setting_set : (found : IntervalSetting) → Ok found ≡ setting_answer own_setting
+      → record { number = 0; place = 0; band = found.band; gap = found.gap; extra = found.extra } ≡ setting_result own_setting
+  setting_set found told =
+      let (set, is, same) = returned_answered _ own_setting found (sym told) in
+      let back = sym same in
+      rw is (λ k. record { number = 0; place = 0; band = (back k).band; gap = (back k).gap; extra = (back k).extra })
+
+  pub setting_refused : (own : Refusal) → Err own ≡ setting_answer own_setting
+      → record { number = number_of own.fault; place = own.place; band = 0; gap = 0; extra = 0 } ≡ setting_result own_setting
+  setting_refused own told = rw (number_told in_table (returned_refused _ own_setting own (sym told))) refl
+    where
+      in_table : RefusesBy (From 1 36) own_setting
+      in_table number place e = omega (arith, setting_by bytes highest length load number place e)
 
 module _ (level_bytes job_bytes : List ℕ) (parameters : Parameters) (start end : ℕ) where
-  pub spare_found : (z : ℤ) → Spare z ≡ spare_answer (spare level_bytes job_bytes parameters start end)
-      → record { number = 0; place = 0; spare = z } ≡ spare_result (spare level_bytes job_bytes parameters start end)
-  spare_found = spare-result (spare level_bytes job_bytes parameters start end)
+  abbrev own_spare : Outcome ℤ
+  own_spare = spare level_bytes job_bytes parameters start end
 
-  pub spare_refused : (number place : ℕ) → SpareRefused number place ≡ spare_answer (spare level_bytes job_bytes parameters start end)
-      → record { number = number; place = place; spare = pos 0 } ≡ spare_result (spare level_bytes job_bytes parameters start end)
-  spare_refused = no_spare_result (spare level_bytes job_bytes parameters start end)
+  pub spare_found : (z : ℤ) → Ok z ≡ spare_answer own_spare → record { number = 0; place = 0; spare = z } ≡ spare_result own_spare
+  spare_found z told = let (found, is, same) = returned_answered _ own_spare z (sym told) in rw (is, same) refl
+
+  pub spare_refused : (own : Refusal) → Err own ≡ spare_answer own_spare
+      → record { number = number_of own.fault; place = own.place; spare = pos 0 } ≡ spare_result own_spare
+  spare_refused own told = rw (number_told in_table (returned_refused _ own_spare own (sym told))) refl
+    where
+      in_table : RefusesBy (From 1 36) own_spare
+      in_table number place e = omega (arith, spare_by level_bytes job_bytes parameters start end number place e)
 
 module _ (task_bytes before after : List ℕ) where
-  pub rounds_laid_out : (size multiple : ℕ) → RoundsContract task_bytes before after (LaidOut size multiple)
-      → RoundsCall task_bytes before after (record { number = 0; place = 0; length = size; multiple = multiple })
-  rounds_laid_out size multiple h =
-      record { result_is = laid_out_result (rounds task_bytes (length before)) size multiple h.answer_is; buffer_is = h.buffer_is }
+  abbrev own_rounds : Outcome Round
+  own_rounds = rounds task_bytes (length before)
 
-  pub rounds_refused : (number place : ℕ) → RoundsContract task_bytes before after (RoundRefused number place)
-      → RoundsCall task_bytes before after (record { number = number; place = place; length = 0; multiple = 0 })
-  rounds_refused number place h =
-      record { result_is = no_round_result (rounds task_bytes (length before)) number place h.answer_is; buffer_is = h.buffer_is }
+  pub rounds_laid_out : (found : LaidOut) → RoundsContract task_bytes before after (Ok found)
+      → RoundsCall task_bytes before after (record { number = 0; place = 0; length = found.length; multiple = found.multiple })
+  rounds_laid_out found h =
+      let (round, is, same) = returned_answered _ own_rounds found (sym h.answer_is) in
+      let back = sym same in
+      record {
+        result_is = rw is (λ k. record { number = 0; place = 0; length = (back k).length; multiple = (back k).multiple });
+        buffer_is = h.buffer_is;
+      }
+
+  pub rounds_refused : (own : Refusal) → RoundsContract task_bytes before after (Err own)
+      → RoundsCall task_bytes before after (record { number = number_of own.fault; place = own.place; length = 0; multiple = 0 })
+  rounds_refused own h =
+      record { result_is = rw (number_told in_table (returned_refused _ own_rounds own (sym h.answer_is))) refl; buffer_is = h.buffer_is }
+    where
+      in_table : RefusesBy (From 1 36) own_rounds
+      in_table number place e = omega (arith, rounds_refuse task_bytes (length before) number place e)
 
 module _ (level_bytes job_bytes mark_bytes : List ℕ) (parameters : Parameters) (plan prices before after : List ℕ) where
-  pub order_ordered : (size : ℕ) → OrderContract level_bytes job_bytes mark_bytes parameters plan prices before after (Ordered size)
+  abbrev own_order : Outcome (List ℕ)
+  own_order = order level_bytes job_bytes mark_bytes parameters plan prices (length before)
+
+  pub order_ordered : (size : ℕ) → OrderContract level_bytes job_bytes mark_bytes parameters plan prices before after (Ok size)
       → OrderCall level_bytes job_bytes mark_bytes parameters plan prices before after (record { number = 0; place = 0; length = size })
   order_ordered size h =
-      record {
-        result_is = ordered_result (order level_bytes job_bytes mark_bytes parameters plan prices (length before)) size h.answer_is;
-        buffer_is = h.buffer_is;
-      }
+      let (ordered, is, same) = returned_answered _ own_order size (sym h.answer_is) in
+      record { result_is = rw (is, same) refl; buffer_is = h.buffer_is }
 
-  pub order_refused : (number place : ℕ) → OrderContract level_bytes job_bytes mark_bytes parameters plan prices before after (OrderRefused number place)
-      → OrderCall level_bytes job_bytes mark_bytes parameters plan prices before after (record { number = number; place = place; length = 0 })
-  order_refused number place h =
-      record {
-        result_is = no_order_result (order level_bytes job_bytes mark_bytes parameters plan prices (length before)) number place h.answer_is;
-        buffer_is = h.buffer_is;
-      }
+  pub order_refused : (own : Refusal) → OrderContract level_bytes job_bytes mark_bytes parameters plan prices before after (Err own)
+      → OrderCall level_bytes job_bytes mark_bytes parameters plan prices before after (record { number = number_of own.fault; place = own.place; length = 0 })
+  order_refused own h =
+      record { result_is = rw (number_told in_table (returned_refused _ own_order own (sym h.answer_is))) refl; buffer_is = h.buffer_is }
+    where
+      in_table : RefusesBy (From 1 36) own_order
+      in_table number place e = omega (arith, order_refuses level_bytes job_bytes mark_bytes parameters plan prices (length before) number place e)
+
+-- the nearest deadline as one number
+pub unwrapped : (deadline : Option ℕ) → unwrap_or deadline 0 ≡ deadline_number deadline
+unwrapped None = refl
+unwrapped (Some deadline) = refl
 
 module _ (job_bytes mark_bytes : List ℕ) (free margin : ℕ) (plan : List ℕ) (start end : ℕ) (before after : Lists) where
-  pub touching_touched : (opened inside steps deadline : ℕ) (nearest : NearestDeadline) → deadline ≡ deadline_number nearest
-      → TouchingContract job_bytes mark_bytes free margin plan start end before after (Touching opened inside steps nearest)
+  abbrev own_touching : Outcome Touched
+  own_touching = touching job_bytes mark_bytes free margin plan start end before
+
+  pub touching_touched : (found : ListLengths) (deadline : ℕ) → deadline ≡ deadline_number found.deadline
+      → TouchingContract job_bytes mark_bytes free margin plan start end before after (Ok found)
       → TouchingCall job_bytes mark_bytes free margin plan start end before after (record {
         number = 0;
         place = 0;
-        open_jobs = opened;
-        inside_jobs = inside;
-        steps = steps;
+        open_jobs = found.open_jobs;
+        inside_jobs = found.inside_jobs;
+        steps = found.steps;
         deadline = deadline;
       })
-  touching_touched opened inside steps deadline nearest same h =
+  touching_touched found deadline deadline_is h =
+      let (t, is, same) = returned_answered _ own_touching found (sym h.answer_is) in
+      let back = sym same in
       record {
-        result_is = rw same (touched_result (touching job_bytes mark_bytes free margin plan start end before) opened inside steps nearest h.answer_is);
+        result_is = rw (is, deadline_is) (λ k. record {
+          number = 0;
+          place = 0;
+          open_jobs = (back k).open_jobs;
+          inside_jobs = (back k).inside_jobs;
+          steps = (back k).steps;
+          deadline = deadline_number (back k).deadline;
+        });
         lists_are = h.lists_are;
       }
 
-  pub touching_refused : (number place : ℕ) → TouchingContract job_bytes mark_bytes free margin plan start end before after (TouchingRefused number place)
+  pub touching_refused : (own : Refusal) → TouchingContract job_bytes mark_bytes free margin plan start end before after (Err own)
       → TouchingCall job_bytes mark_bytes free margin plan start end before after (record {
-        number = number;
-        place = place;
+        number = number_of own.fault;
+        place = own.place;
         open_jobs = 0;
         inside_jobs = 0;
         steps = 0;
         deadline = 0;
       })
-  touching_refused number place h =
-      record {
-        result_is = untouched_result (touching job_bytes mark_bytes free margin plan start end before) number place h.answer_is;
-        lists_are = h.lists_are;
-      }
+  touching_refused own h =
+      record { result_is = rw (number_told in_table (returned_refused _ own_touching own (sym h.answer_is))) refl; lists_are = h.lists_are }
+    where
+      in_table : RefusesBy (From 1 36) own_touching
+      in_table number place e = omega (arith, touching_refuses job_bytes mark_bytes free margin plan start end before number place e)
 
 -- no working level is above the highest frequency
 module _ (processor : Processor) (valid : ValidProcessor processor) where
@@ -286,10 +229,8 @@ answered_gap bytes highest length load s answered =
     rw (answer_injective e) at (setting_of_gap processor (processors_are_valid bytes highest processor read) length load)
 
 -- the gap that a setting answers
-pub gap_small : (bytes : List ℕ) (highest length load band extra gap : ℕ) → Set band extra gap ≡ setting_answer (setting bytes highest length load) → gap ≤ max_frequency
-gap_small bytes highest length load band extra gap e = go (setting bytes highest length load) (answered_gap bytes highest length load) e
-  where
-    go : (outcome : Outcome Setting) → ((s : Setting) → outcome ≡ answer s → s.gap ≤ max_frequency)
-        → Set band extra gap ≡ setting_answer outcome → gap ≤ max_frequency
-    go (refused number place) small e = let z : ◌≡◌ {A = ℕ} 0 1 = cc e in absurd (omega arith)
-    go (answer s) small e = let same : gap ≡ s.gap = cc e in omega (arith, small s refl)
+pub gap_small : (bytes : List ℕ) (highest length load : ℕ) (found : IntervalSetting) → Ok found ≡ setting_answer (setting bytes highest length load)
+    → found.gap ≤ max_frequency
+gap_small bytes highest length load found told =
+    let (s, is, same) = returned_answered _ (setting bytes highest length load) found (sym told) in
+    rw (← same) (answered_gap bytes highest length load s is)

@@ -1,17 +1,15 @@
 -- The structs that the functions for C return. The number is 0 for an answer and the refusal's number otherwise; fields
 -- that a case does not fill are 0.
-use Rattle.std.specs.Prelude.{ℕ, ◌≡◌, List, length, ℤ, pos}
+use Rattle.std.specs.Prelude.{ℕ, ◌≡◌, List, length, ℤ, pos, Option, Some, None, Ok, Err}
 use Rattle.std.proofs.Math.Option.{none}
 use Rattle.model.specs.declared.Parameters.{Parameters}
 use Rattle.model.specs.Outcome.{Outcome, refused, answer}
 use Rattle.model.specs.Setting.{Setting}
-use Rattle.planning.specs.declared.operation.PlanAnswer.{PlanAnswer}
-use Rattle.planning.specs.declared.operation.PlanAnswer.TheVariants.{Plan, Overfull, Refused}
+use Rattle.model.specs.Refusals.{number_of}
+use Rattle.spare.specs.declared.unmet.NoAnswer.TheVariants.{Overfull, Refused}
 use Rattle.planning.specs.MadePlans.{Buffers}
-use Rattle.planning.specs.PlanAnswers.{PlanContract}
+use Rattle.planning.specs.PlanAnswers.{PlanAnswer, PlanContract}
 use Rattle.ordering.specs.Ordering.{order, ordered_after}
-use Rattle.spans.specs.declared.jobs.NearestDeadline.{NearestDeadline}
-use Rattle.spans.specs.declared.jobs.NearestDeadline.TheVariants.{At, None}
 use Rattle.spans.specs.Spans.{Touched}
 use Rattle.spans.specs.SpanAnswers.{nearest_answer}
 use Rattle.touching.specs.Touching.{Lists, touching, lists_after}
@@ -46,12 +44,12 @@ spare_result (refused number place) = record { number = number; place = place; s
 spare_result (answer spare) = record { number = 0; place = 0; spare = spare }
 
 abbrev pub plan_result : PlanAnswer → PlanResult
-plan_result (Plan intervals steps energy) =
-    record { number = 0; place = 0; intervals = intervals; steps = steps; energy = energy; start = 0; end = 0; spare = pos 0 }
-plan_result (Overfull start end spare) =
+plan_result (Ok written) =
+    record { number = 0; place = 0; intervals = written.intervals; steps = written.steps; energy = written.energy; start = 0; end = 0; spare = pos 0 }
+plan_result (Err (Overfull start end spare)) =
     record { number = 11; place = 0; intervals = 0; steps = 0; energy = 0; start = start; end = end; spare = spare }
-plan_result (Refused number place) =
-    record { number = number; place = place; intervals = 0; steps = 0; energy = 0; start = 0; end = 0; spare = pos 0 }
+plan_result (Err (Refused own)) =
+    record { number = number_of own.fault; place = own.place; intervals = 0; steps = 0; energy = 0; start = 0; end = 0; spare = pos 0 }
 
 -- A call of planning from C: what it returns is the struct of an answer that planning's contract holds of.
 pub record PlanCall (level_bytes job_bytes mark_bytes : List ℕ) (parameters : Parameters) (before after : Buffers) (result : PlanResult) : Type 0 where
@@ -78,8 +76,8 @@ pub record OrderCall (level_bytes job_bytes mark_bytes : List ℕ) (parameters :
   pub buffer_is : after ≡ ordered_after (order level_bytes job_bytes mark_bytes parameters plan prices (length before)) before
 
 -- The nearest deadline as one number. 0 stands for none alone: no deadline is 0 (`ZeroIsNone`).
-abbrev pub deadline_number : NearestDeadline → ℕ
-deadline_number (At deadline) = deadline
+abbrev pub deadline_number : Option ℕ → ℕ
+deadline_number (Some deadline) = deadline
 deadline_number None = 0
 
 abbrev pub touching_result : Outcome Touched → TouchingResult

@@ -8,17 +8,11 @@ ghost use Rattle.std.specs.Prelude.{◌≡◌};
 ghost use Rattle.model.specs.Checking.{fits, check};
 ghost use Rattle.model.specs.Setting.{setting};
 ghost use Rattle.model.specs.Windows.{spare};
-ghost use Rattle.capi.specs.Results.{fits_result, check_result, setting_result, spare_result, PlanCall, RoundsCall, OrderCall, deadline_number, TouchingCall};
+ghost use Rattle.capi.specs.Results.{fits_result, check_result, setting_result, spare_result, PlanCall, RoundsCall, OrderCall, TouchingCall};
 
-use audit::{CheckAnswer, FitsAnswer};
 use model::Parameters;
 pub use nearest_job::{NearestResult, ramyearly_nearest};
-use ordering::OrderAnswer;
-use planning::PlanAnswer;
-use rounds::RoundsAnswer;
-use settings::SettingAnswer;
-use spare::SpareAnswer;
-use touching::{NearestDeadline, TouchingAnswer};
+use spare::NoAnswer;
 
 // The first half of the check. Number 0: the plan fits; otherwise the refusal's number and place, and 0.
 #[repr(C)]
@@ -123,16 +117,15 @@ pub extern "C" fn ramyearly_fits(
         free: free_ticks,
         margin,
     };
-    let answer = audit::fits(levels, jobs, marks, parameters, plan);
-    match answer {
-        FitsAnswer::Fits { energy } => FitsResult {
+    match audit::fits(levels, jobs, marks, parameters, plan) {
+        Ok(energy) => FitsResult {
             number: 0,
             place: 0,
             energy,
         },
-        FitsAnswer::Refused { number, place } => FitsResult {
-            number,
-            place,
+        Err(own) => FitsResult {
+            number: own.fault.number(),
+            place: own.place,
             energy: 0,
         },
     }
@@ -156,16 +149,15 @@ pub extern "C" fn ramyearly_check(
         free: free_ticks,
         margin,
     };
-    let answer = audit::check(levels, jobs, marks, parameters, plan, prices);
-    match answer {
-        CheckAnswer::Accepted { energy } => CheckResult {
+    match audit::check(levels, jobs, marks, parameters, plan, prices) {
+        Ok(energy) => CheckResult {
             number: 0,
             place: 0,
             energy,
         },
-        CheckAnswer::Refused { number, place } => CheckResult {
-            number,
-            place,
+        Err(own) => CheckResult {
+            number: own.fault.number(),
+            place: own.place,
             energy: 0,
         },
     }
@@ -180,18 +172,17 @@ pub extern "C" fn ramyearly_setting(
 ) -> SettingResult
     ensures { result ≡ setting_result (setting levels.now highest length load) }
 {
-    let answer = settings::setting(levels, highest, length, load);
-    match answer {
-        SettingAnswer::Set { band, extra, gap } => SettingResult {
+    match settings::setting(levels, highest, length, load) {
+        Ok(setting) => SettingResult {
             number: 0,
             place: 0,
-            band,
-            gap: gap as u32,
-            extra,
+            band: setting.band,
+            gap: setting.gap as u32,
+            extra: setting.extra,
         },
-        SettingAnswer::Refused { number, place } => SettingResult {
-            number,
-            place,
+        Err(own) => SettingResult {
+            number: own.fault.number(),
+            place: own.place,
             band: 0,
             gap: 0,
             extra: 0,
@@ -216,16 +207,15 @@ pub extern "C" fn ramyearly_spare(
         free: free_ticks,
         margin,
     };
-    let answer = spare::spare(levels, jobs, parameters, start, end);
-    match answer {
-        SpareAnswer::Spare(spare) => SpareResult {
+    match spare::spare(levels, jobs, parameters, start, end) {
+        Ok(spare) => SpareResult {
             number: 0,
             place: 0,
             spare,
         },
-        SpareAnswer::Refused { number, place } => SpareResult {
-            number,
-            place,
+        Err(own) => SpareResult {
+            number: own.fault.number(),
+            place: own.place,
             spare: 0,
         },
     }
@@ -252,23 +242,18 @@ pub extern "C" fn ramyearly_plan(
         free: free_ticks,
         margin,
     };
-    let answer = planning::plan(levels, jobs, marks, parameters, plan, prices, shares);
-    match answer {
-        PlanAnswer::Plan {
-            intervals,
-            steps,
-            energy,
-        } => PlanResult {
+    match planning::plan(levels, jobs, marks, parameters, plan, prices, shares) {
+        Ok(written) => PlanResult {
             number: 0,
             place: 0,
-            intervals,
-            steps,
-            energy,
+            intervals: written.intervals,
+            steps: written.steps,
+            energy: written.energy,
             start: 0,
             end: 0,
             spare: 0,
         },
-        PlanAnswer::Overfull { start, end, spare } => PlanResult {
+        Err(NoAnswer::Overfull { start, end, spare }) => PlanResult {
             number: 11,
             place: 0,
             intervals: 0,
@@ -278,9 +263,9 @@ pub extern "C" fn ramyearly_plan(
             end,
             spare,
         },
-        PlanAnswer::Refused { number, place } => PlanResult {
-            number,
-            place,
+        Err(NoAnswer::Refused(own)) => PlanResult {
+            number: own.fault.number(),
+            place: own.place,
             intervals: 0,
             steps: 0,
             energy: 0,
@@ -295,17 +280,16 @@ pub extern "C" fn ramyearly_plan(
 pub extern "C" fn ramyearly_rounds(tasks: &[u8], jobs: &mut [u8]) -> RoundsResult
     ensures { RoundsCall tasks.now jobs.old jobs.new result }
 {
-    let answer = rounds::rounds(tasks, jobs);
-    match answer {
-        RoundsAnswer::LaidOut { length, multiple } => RoundsResult {
+    match rounds::rounds(tasks, jobs) {
+        Ok(laid_out) => RoundsResult {
             number: 0,
             place: 0,
-            length,
-            multiple,
+            length: laid_out.length,
+            multiple: laid_out.multiple,
         },
-        RoundsAnswer::Refused { number, place } => RoundsResult {
-            number,
-            place,
+        Err(own) => RoundsResult {
+            number: own.fault.number(),
+            place: own.place,
             length: 0,
             multiple: 0,
         },
@@ -331,28 +315,17 @@ pub extern "C" fn ramyearly_order(
         free: free_ticks,
         margin,
     };
-    let answer = ordering::order(levels, jobs, marks, parameters, plan, prices, ordered);
-    match answer {
-        OrderAnswer::Ordered { length } => OrderResult {
+    match ordering::order(levels, jobs, marks, parameters, plan, prices, ordered) {
+        Ok(length) => OrderResult {
             number: 0,
             place: 0,
             length,
         },
-        OrderAnswer::Refused { number, place } => OrderResult {
-            number,
-            place,
+        Err(own) => OrderResult {
+            number: own.fault.number(),
+            place: own.place,
             length: 0,
         },
-    }
-}
-
-// The nearest deadline as one number, 0 for none.
-fn deadline_number(nearest: NearestDeadline) -> u32
-    ensures { result ≡ deadline_number nearest }
-{
-    match nearest {
-        NearestDeadline::At(deadline) => deadline,
-        NearestDeadline::None => 0,
     }
 }
 
@@ -386,22 +359,17 @@ pub extern "C" fn ramyearly_touching(
         steps,
     );
     match answer {
-        TouchingAnswer::Touching {
-            open_jobs,
-            inside_jobs,
-            steps,
-            deadline,
-        } => TouchingResult {
+        Ok(listed) => TouchingResult {
             number: 0,
             place: 0,
-            open_jobs,
-            inside_jobs,
-            steps,
-            deadline: deadline_number(deadline),
+            open_jobs: listed.open_jobs,
+            inside_jobs: listed.inside_jobs,
+            steps: listed.steps,
+            deadline: listed.deadline.unwrap_or(0),
         },
-        TouchingAnswer::Refused { number, place } => TouchingResult {
-            number,
-            place,
+        Err(own) => TouchingResult {
+            number: own.fault.number(),
+            place: own.place,
             open_jobs: 0,
             inside_jobs: 0,
             steps: 0,

@@ -2,7 +2,7 @@
 ghost use Rattle.capi.specs.Results.{NearestCall};
 
 use model::Parameters;
-use nearest::NearestAnswer;
+use spare::NoAnswer;
 
 // The job nearest to trouble. Number 0: the list was written, with its length in numbers; 11: the earliest overfull window and its spare;
 // otherwise the refusal's number and place. Fields that a case does not fill are 0.
@@ -33,9 +33,8 @@ pub extern "C" fn ramyearly_nearest(
         free: free_ticks,
         margin,
     };
-    let answer = nearest::nearest(levels, jobs, parameters, list);
-    match answer {
-        NearestAnswer::Listed { length } => NearestResult {
+    match nearest::nearest(levels, jobs, parameters, list) {
+        Ok(length) => NearestResult {
             number: 0,
             place: 0,
             start: 0,
@@ -43,7 +42,7 @@ pub extern "C" fn ramyearly_nearest(
             spare: 0,
             length,
         },
-        NearestAnswer::Overfull { start, end, spare } => NearestResult {
+        Err(NoAnswer::Overfull { start, end, spare }) => NearestResult {
             number: 11,
             place: 0,
             start,
@@ -51,9 +50,9 @@ pub extern "C" fn ramyearly_nearest(
             spare,
             length: 0,
         },
-        NearestAnswer::Refused { number, place } => NearestResult {
-            number,
-            place,
+        Err(NoAnswer::Refused(own)) => NearestResult {
+            number: own.fault.number(),
+            place: own.place,
             start: 0,
             end: 0,
             spare: 0,

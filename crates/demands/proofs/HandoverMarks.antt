@@ -10,6 +10,7 @@ use native.Mathlib.Omega.{arith}
 use lib.ListN.{length}
 use lib.Dec.{ltb, eqb}
 use lib.IntN.{ℤ}
+use Rattle.std.specs.Prelude.{Ok, Err}
 use Rattle.model.specs.declared.Level.{Level}
 use Rattle.model.specs.declared.Job.{Job}
 use Rattle.model.specs.declared.Parameters.{Parameters}
@@ -49,15 +50,15 @@ use Rattle.model.proofs.Marks.{marks_read_back, no_marks_read}
 use Rattle.model.proofs.MarkedBounds.{marked_keeps, marked_there, marked_only, marked_none}
 use Rattle.model.proofs.LeastEnergy.{least_energy_is_one}
 use Rattle.model.proofs.Accepted.{check_accepts, check_read}
-use Rattle.planning.specs.declared.operation.PlanAnswer.{PlanAnswer}
-use Rattle.planning.specs.declared.operation.PlanAnswer.TheVariants.{Plan, Overfull, Refused}
-use Rattle.planning.specs.PlanAnswers.{outcome_of}
+use Rattle.spare.specs.declared.unmet.NoAnswer.TheVariants.{Overfull as OverfullWindow, Refused as RefusedBy}
+use Rattle.planning.specs.PlanAnswers.{PlanAnswer, Plan, Overfull, outcome_of}
 use Rattle.planning.proofs.PlanStages.{planned_as}
 use Rattle.ordering.specs.Ordering.{order}
 use Rattle.touching.specs.Touching.{Lists, touching_for, touching}
 use Rattle.demands.specs.ThreeDemands.{Call, PlanComesOut, plan_written}
 use Rattle.demands.specs.HandoverMarks.{AreMarks, IsBound, OfAJob, Cuts, SameWith, SiteRefused, OtherMarks, Roomy, HandoverMarks}
 use Rattle.demands.proofs.SiteParts.{site_tables}
+use Rattle.demands.proofs.PlanRefusals.{refused_answer}
 use Rattle.demands.proofs.SameSites.{contract_kept, fits_kept, checks_kept, orders_kept}
 
 -- what was read is marks, and marks are what is read
@@ -104,15 +105,7 @@ marks_next level_bytes job_bytes mark_bytes parameters given read number place e
     let (is-34, no_place) = by_34 mark_bytes number place e in
     rw (read, e, is-34, no_place)
 
--- a refusal of planning has no other answer
-refused_answer : (answered : PlanAnswer) (number place : ℕ) → outcome_of answered ≡ refusal number place → answered ≡ Refused number place
-refused_answer (Plan intervals steps energy) number place e = let z : ◌≡◌ {A = ℕ} 0 1 = cc e in absurd (omega (arith, z))
-refused_answer (Overfull start end spare) number place e = let z : ◌≡◌ {A = ℕ} 0 1 = cc e in absurd (omega (arith, z))
-refused_answer (Refused n p) number place e =
-    let same_number : n ≡ number = cc e in
-    let same_place : p ≡ place = cc e in
-    rw (same_number, same_place)
-
+-- a refusal of planning is no plan
 refused_is_no_plan : (answered : PlanAnswer) (number place : ℕ) → outcome_of answered ≡ refusal number place → outcome_of answered ≡ comes_out → ⊥
 refused_is_no_plan answered number place e is = let z : ◌≡◌ {A = ℕ} 0 1 = cc (sym e ∙ is) in omega (arith, z)
 
@@ -312,9 +305,9 @@ module _ (level_bytes job_bytes one two : List ℕ) (parameters : Parameters) (s
 
 -- a window of planning has no other answer
 overfull-answer : (answered : PlanAnswer) (start end : ℕ) (spare : ℤ) → outcome_of answered ≡ overfull start end spare → answered ≡ Overfull start end spare
-overfull-answer (Plan intervals steps energy) start end spare e = let z : ◌≡◌ {A = ℕ} 0 1 = cc e in absurd (omega (arith, z))
-overfull-answer (Overfull first last found) start end spare e = cc e
-overfull-answer (Refused number place) start end spare e = let z : ◌≡◌ {A = ℕ} 0 1 = cc e in absurd (omega (arith, z))
+overfull-answer (Ok written) start end spare e = let z : ◌≡◌ {A = ℕ} 0 1 = cc e in absurd (omega (arith, z))
+overfull-answer (Err (OverfullWindow first last found)) start end spare e = cc e
+overfull-answer (Err (RefusedBy own)) start end spare e = let z : ◌≡◌ {A = ℕ} 0 1 = cc e in absurd (omega (arith, z))
 
 -- Two calls of planning with the same levels and jobs.
 module _ (call other : Call) (alike-calls : OtherMarks call other)

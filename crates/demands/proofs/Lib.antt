@@ -3,6 +3,7 @@
 -- parameters alter the tables, plans are short, and the job nearest to trouble is listed first.
 pub mod SiteParts
 pub mod SameSites
+pub mod PlanRefusals
 pub mod ThreeDemands
 pub mod RepeatedRounds
 pub mod IdlingIsNotFree

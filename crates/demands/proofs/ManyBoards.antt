@@ -26,9 +26,9 @@ use Rattle.model.proofs.Outcome.{answer_injective, and_then_answered}
 use Rattle.model.proofs.Sites.{processors_are_valid, sites_are_valid}
 use Rattle.model.proofs.Accepted.{check_accepts, check_read, check_reads, accepted_is_least}
 use Rattle.model.proofs.Boards.{boards_are_alike}
-use Rattle.planning.specs.declared.operation.PlanAnswer.TheVariants.{Plan}
 use Rattle.planning.specs.MadePlans.{Written}
-use Rattle.planning.specs.PlanAnswers.{outcome_of, PlanContract}
+use Rattle.planning.specs.declared.operation.WrittenPlan.{WrittenPlan}
+use Rattle.planning.specs.PlanAnswers.{Plan, outcome_of, PlanContract}
 use Rattle.planning.proofs.PlanStages.{planned_as, site_contract, plan_read}
 use Rattle.ordering.specs.Ordering.{order}
 use Rattle.job_rooms.specs.SetOutcomes.{overfull, after_tables, unless_found}
@@ -423,9 +423,11 @@ module _ (call : Call) (intervals steps energy : ℕ) (told : call.answered ≡ 
           outcome = comes_out_there;
           untouched = λ no_plan. absurd (no_plan refl);
           written = λ intervals' steps' energy' same.
-              let same-intervals : intervals ≡ intervals' = cc same in
-              let same_steps : steps ≡ steps' = cc same in
-              let same_energy : its_figure ≡ energy' = cc same in
+              let written : ◌≡◌ {A = WrittenPlan} (record { intervals = intervals; steps = steps; energy = its_figure })
+              (record { intervals = intervals'; steps = steps'; energy = energy' }) = cc same in
+              let same-intervals : intervals ≡ intervals' = ap (λ (w : WrittenPlan). w.intervals) written in
+              let same_steps : steps ≡ steps' = ap (λ (w : WrittenPlan). w.steps) written in
+              let same_energy : its_figure ≡ energy' = ap (λ (w : WrittenPlan). w.energy) written in
               rw (← same-intervals, ← same_steps, ← same_energy) written_there;
         }
         )

@@ -32,8 +32,7 @@ use Rattle.room_order.proofs.Places.{job-at, ordered_places, length_room_list, r
 use Rattle.job_rooms.specs.AddedCycles.{room_of}
 use Rattle.job_rooms.specs.SetOutcomes.{SetOutcome, refusal, overfull, answered}
 use Rattle.nearest.specs.Nearest.{nearest_list, list_fitting, nearest_for, nearest, list_after}
-use Rattle.nearest.specs.declared.operation.NearestAnswer.TheVariants.{Listed, Overfull}
-use Rattle.nearest.specs.NearestAnswers.{nearest_job_answer}
+use Rattle.nearest.specs.NearestAnswers.{Listed, Overfull, nearest_job_answer}
 use Rattle.nearest.proofs.NearestStages.{room_small}
 use Rattle.demands.specs.NearestToTrouble.{NearestCall, ReadAs, list_written, job_at, cycles_at, NearestFirst, ListComesOut, NoList, RefusedCall, NearestToTrouble}
 use Rattle.demands.proofs.MostCycles.{room_most, most_one, most_fits, never_served}

@@ -21,9 +21,8 @@ use Rattle.model.proofs.Outcome.{answer_injective}
 use Rattle.model.proofs.Sites.{sites_are_valid}
 use Rattle.model.proofs.Accepted.{check_accepts, check_read, check_reads}
 use Rattle.ordering.specs.OrderedPlan.{ordered_plan, Orderable}
-use Rattle.ordering.specs.declared.operation.OrderAnswer.TheVariants.{Ordered}
 use Rattle.ordering.specs.Ordering.{order}
-use Rattle.ordering.specs.OrderAnswers.{order_answer}
+use Rattle.ordering.specs.OrderAnswers.{Ordered, order_answer}
 use Rattle.ordering.proofs.Ranks.{length_ordered}
 use Rattle.ordering.proofs.OrderedPlan.{ordering_keeps_steps, ordered_again}
 use Rattle.ordering.proofs.InOrder.{in_order_unchanged}

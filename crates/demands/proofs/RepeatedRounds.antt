@@ -25,8 +25,8 @@ use Rattle.model.proofs.SiteParameters.{levels_altered, jobs_altered}
 use Rattle.model.proofs.Hypotheses.{every_valid_table, every_given_table}
 use Rattle.tasks.specs.Rounds.{Round, table_length, rounds, buffer_after}
 use Rattle.tasks.proofs.Rounds.{answered_round_is}
-use Rattle.rounds.specs.declared.operation.RoundsAnswer.TheVariants.{LaidOut}
-use Rattle.rounds.specs.RoundAnswers.{rounds_answer}
+use Rattle.rounds.specs.declared.operation.LaidOut.{LaidOut as Lengths}
+use Rattle.rounds.specs.RoundAnswers.{LaidOut, rounds_answer}
 use Rattle.repeats.proofs.OverfullRepeats.{overfull_repeats}
 use Rattle.repeats.proofs.RoundsThatRepeat.{rounds_that_repeat}
 use Rattle.demands.proofs.SiteParts.{site_parts}
@@ -46,7 +46,15 @@ answered_round laid length multiple told = go (rounds laid.task_bytes (size laid
     go : (outcome : Outcome Round) → rounds laid.task_bytes (size laid.before) ≡ outcome → LaidOut length multiple ≡ rounds_answer outcome
         → laid.after ≡ buffer_after outcome laid.before → Answered laid length multiple
     go (refused number place) is told left = let z : ◌≡◌ {A = ℕ} 0 1 = cc told in absurd (omega (arith, z))
-    go (answer round) is told left = record { round = round; is = is; same_length = cc told; same_multiple = cc told; left = left }
+    go (answer round) is told left =
+        let lengths : ◌≡◌ {A = Lengths} (record { length = length; multiple = multiple }) (record { length = table_length round.jobs; multiple = round.multiple }) = cc told in
+        record {
+          round = round;
+          is = is;
+          same_length = ap (λ (l : Lengths). l.length) lengths;
+          same_multiple = ap (λ (l : Lengths). l.multiple) lengths;
+          left = left;
+        }
 
 module _ (laid : LayOutCall) (length multiple : ℕ) (found : Answered laid length multiple) where
   -- the bytes written are the round's job table

@@ -6,7 +6,7 @@ use Prim.Native.Nat.{ℕ}
 use Rattle.model.specs.Windows.{Window, earliest_overfull}
 use Rattle.model.proofs.Numbers.{true≢false}
 use Rattle.model.proofs.Windows.{earliest_overfull_found, earliest_overfull_none}
-use Rattle.windows.specs.declared.overfull.Overfull.TheVariants.{Window as WindowFound}
+use Rattle.std.specs.Prelude.{Some}
 use Rattle.windows.specs.Answers.{overfull_answer}
 use Rattle.windows.proofs.Answers.{window_is, fits_none}
 use Rattle.windows.proofs.SumSteps.{sum_next}
@@ -22,9 +22,9 @@ fitting_none call fits = go (earliest_overfull call.top call.jobs) refl
     go (some w) e = absurd (true≢false (sym (earliest_overfull_found call.top call.jobs w e).overfull ∙ fits w.start w.end))
 
 -- the window that is named
-named : (call : TestCall) (start end : ℕ) → call.answered.found ≡ WindowFound start end
+named : (call : TestCall) (start end : ℕ) → call.answered.found ≡ Some (record { start = start; end = end })
     → earliest_overfull call.top call.jobs ≡ some (record { start = start; end = end })
-named call start end e = window_is (earliest_overfull call.top call.jobs) start end (sym call.contract.found_is ∙ e)
+named call start end e = window_is (earliest_overfull call.top call.jobs) (record { start = start; end = end }) (sym call.contract.found_is ∙ e)
 
 pub running_sums : RunningSums
 running_sums =

@@ -8,9 +8,8 @@ use Rattle.model.specs.declared.Parameters.{Parameters}
 use Rattle.model.specs.Sites.{read_site}
 use Rattle.model.specs.Checking.{fits, check}
 use Rattle.model.specs.Planning.{planning}
-use Rattle.planning.specs.declared.operation.PlanAnswer.{PlanAnswer}
 use Rattle.planning.specs.MadePlans.{Buffers}
-use Rattle.planning.specs.PlanAnswers.{PlanContract}
+use Rattle.planning.specs.PlanAnswers.{PlanAnswer, PlanContract}
 use Rattle.ordering.specs.Ordering.{order}
 
 module _ (levels jobs marks : List ℕ) (parameters : Parameters) (other_levels other_jobs other_marks : List ℕ) (other_parameters : Parameters)

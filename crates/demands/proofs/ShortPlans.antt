@@ -39,14 +39,13 @@ use Rattle.model.proofs.StepLimit.{limit_pairs, limit_jobs, limit_none, length_n
 use Rattle.model.proofs.Accepted.{check_accepts, check_read}
 use Rattle.model.proofs.TwoHalves.{fits_exactly, fits_read}
 use Rattle.model.proofs.RefusalNumbers.{site_by}
-use Rattle.planning.specs.declared.operation.PlanAnswer.{PlanAnswer}
-use Rattle.planning.specs.declared.operation.PlanAnswer.TheVariants.{Plan, Overfull, Refused}
-use Rattle.planning.specs.PlanAnswers.{outcome_of}
+use Rattle.planning.specs.PlanAnswers.{Plan, Refused, outcome_of}
 use Rattle.planning.proofs.PlanStages.{planned_as}
 use Rattle.demands.specs.ThreeDemands.{Call}
 use Rattle.demands.specs.ShortPlans.{FewSteps, NoEnergyPaid, SameLoads, SameEnergyAndPrices, WantedLength, ShortBuffer, ShortPlans}
 use Rattle.demands.proofs.ThreeDemands.{such_a_plan}
 use Rattle.demands.proofs.SameLoads.{same_loads_fit}
+use Rattle.demands.proofs.PlanRefusals.{refused_answer}
 
 -- a plan that came out
 module _ (call : Call) (site : Site) (tables : ValidTables call.level_bytes call.job_bytes call.mark_bytes call.parameters site)
@@ -157,12 +156,6 @@ module _ (site : Site) (plan_room price_room share_room place : ℕ) where
   unfolding plan_for
   refuses_12 fits is short = rw (fits, ← is, lt-ltb plan_room place short)
 
--- what an answer says is the refusal that it is
-told_refusal : (answered : PlanAnswer) (number place : ℕ) → outcome_of answered ≡ refusal number place → answered ≡ Refused number place
-told_refusal (Plan intervals steps energy) number place e = let z : ◌≡◌ {A = ℕ} 0 1 = cc e in absurd (omega (arith, z))
-told_refusal (Overfull start end spare) number place e = let z : ◌≡◌ {A = ℕ} 0 1 = cc e in absurd (omega (arith, z))
-told_refusal (Refused own at) number place e = cc e
-
 -- reading has no refusal 12
 not_of_reading : SiteNumbers 12 → ⊥
 not_of_reading (inl (inl few)) = omega arith
@@ -176,7 +169,7 @@ module _ (call : Call) (place : ℕ) where
     where
       go : (read : Outcome Site) → read_site call.level_bytes call.job_bytes call.mark_bytes call.parameters ≡ read → ShortBuffer call place
       go (refused number at) is =
-          let own : number ≡ 12 = cc (rw is at call.contract.outcome, ap outcome_of told) in
+          let own : number ≡ 12 = cc (rw is at call.contract.outcome) in
           absurd (not_of_reading (rw own at (site_by call.level_bytes call.job_bytes call.mark_bytes call.parameters number at is)))
       go (answer site) is =
           let (fits, place_is, short) = refused_12 site _ _ _ place
@@ -185,7 +178,7 @@ module _ (call : Call) (place : ℕ) where
 
   buffer_short : ShortBuffer call place → call.answered ≡ Refused 12 place
   buffer_short buffer =
-      told_refusal call.answered 12 place
+      refused_answer call.answered 12 place
       (call.contract.outcome ∙ planned_as _ _ _ _ buffer.site buffer.tables _ _ _
       ∙ refuses_12 buffer.site _ _ _ place buffer.not_overfull buffer.place_is buffer.short)
 

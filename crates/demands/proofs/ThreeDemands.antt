@@ -5,7 +5,10 @@ use mathlib.Core.List.{List}
 use Prim.Native.Nat.{ℕ}
 use native.Mathlib.Omega.{arith}
 use lib.ListN.{length}
+use Rattle.std.specs.Prelude.{Ok, Err}
+use Rattle.model.specs.declared.refusal.Refusal.{Refusal}
 use Rattle.model.specs.Outcome.{Outcome, refused, answer}
+use Rattle.model.specs.Refusals.{number_of}
 use Rattle.model.specs.Sites.{Site, tables_of, site_of, ValidSite}
 use Rattle.model.specs.Steps.{shares_of}
 use Rattle.model.specs.Checking.{figure_of}
@@ -19,27 +22,22 @@ use Rattle.model.proofs.Demands.{long_enough_decides}
 use Rattle.model.proofs.SiteParameters.{levels_altered, jobs_altered}
 use Rattle.model.proofs.Hypotheses.{every_valid_table}
 use Rattle.model.proofs.RefusalNumbers.{levels_by, jobs_by, marks_by, setting_by, spare_by, walk_by, fits_by, check_by, planning_by}
-use Rattle.planning.specs.declared.operation.PlanAnswer.{PlanAnswer}
-use Rattle.planning.specs.declared.operation.PlanAnswer.TheVariants.{Plan, Overfull, Refused}
-use Rattle.planning.specs.PlanAnswers.{outcome_of}
+use Rattle.spare.specs.declared.unmet.NoAnswer.TheVariants.{Overfull, Refused}
+use Rattle.planning.specs.PlanAnswers.{PlanAnswer, outcome_of}
 use Rattle.planning.proofs.PlanStages.{planned_as}
 use Rattle.tasks.specs.Rounds.{Round, rounds, buffer_after}
 use Rattle.tasks.proofs.Rounds.{rounds_refuse}
-use Rattle.rounds.specs.declared.operation.RoundsAnswer.TheVariants.{Refused as RoundRefused}
 use Rattle.rounds.specs.RoundAnswers.{rounds_answer}
 use Rattle.ordering.specs.Ordering.{order, ordered_after}
-use Rattle.ordering.specs.declared.operation.OrderAnswer.TheVariants.{Refused as NotOrdered}
 use Rattle.ordering.specs.OrderAnswers.{order_answer}
 use Rattle.ordering.proofs.Ordering.{order_refuses}
 use Rattle.spans.specs.Spans.{Touched}
 use Rattle.touching.specs.Touching.{Lists, touching, lists_after}
-use Rattle.touching.specs.declared.operation.TouchingAnswer.TheVariants.{Refused as NotListed}
 use Rattle.touching.specs.TouchingAnswers.{touching_answer}
 use Rattle.touching.proofs.TouchingRefusals.{touching_refuses}
 use Rattle.job_rooms.specs.SetOutcomes.{SetOutcome, refusal, overfull, answered}
 use Rattle.nearest.specs.Nearest.{nearest, list_after}
-use Rattle.nearest.specs.declared.operation.NearestAnswer.TheVariants.{Listed}
-use Rattle.nearest.specs.NearestAnswers.{nearest_job_answer}
+use Rattle.nearest.specs.NearestAnswers.{Listed, nearest_job_answer}
 use Rattle.nearest.proofs.NearestRefusals.{nearest_refuses}
 use Rattle.demands.specs.ThreeDemands.{
   Call,
@@ -54,22 +52,22 @@ use Rattle.demands.specs.ThreeDemands.{
 }
 
 -- a refused round leaves the buffer
-refused_keeps : (before after : List ℕ) (outcome : Outcome Round) (number place : ℕ) → RoundRefused number place ≡ rounds_answer outcome
+refused_keeps : (before after : List ℕ) (outcome : Outcome Round) (own : Refusal) → Err own ≡ rounds_answer outcome
     → after ≡ buffer_after outcome before → after ≡ before
-refused_keeps before after (refused n p) number place told left = left
-refused_keeps before after (answer round) number place told left = let z : ◌≡◌ {A = ℕ} 0 1 = cc told in absurd (omega (arith, z))
+refused_keeps before after (refused n p) own told left = left
+refused_keeps before after (answer round) own told left = let z : ◌≡◌ {A = ℕ} 0 1 = cc told in absurd (omega (arith, z))
 
 -- a call of ordering that is refused leaves the buffer
-unordered_keeps : (before after : List ℕ) (outcome : Outcome (List ℕ)) (number place : ℕ) → NotOrdered number place ≡ order_answer outcome
+unordered_keeps : (before after : List ℕ) (outcome : Outcome (List ℕ)) (own : Refusal) → Err own ≡ order_answer outcome
     → after ≡ ordered_after outcome before → after ≡ before
-unordered_keeps before after (refused n p) number place told left = left
-unordered_keeps before after (answer ordered) number place told left = let z : ◌≡◌ {A = ℕ} 0 1 = cc told in absurd (omega (arith, z))
+unordered_keeps before after (refused n p) own told left = left
+unordered_keeps before after (answer ordered) own told left = let z : ◌≡◌ {A = ℕ} 0 1 = cc told in absurd (omega (arith, z))
 
 -- a refused call leaves the lists of what touches a span
-unlisted_keeps : (before after : Lists) (outcome : Outcome Touched) (number place : ℕ) → NotListed number place ≡ touching_answer outcome
+unlisted_keeps : (before after : Lists) (outcome : Outcome Touched) (own : Refusal) → Err own ≡ touching_answer outcome
     → after ≡ lists_after outcome before → after ≡ before
-unlisted_keeps before after (refused n p) number place told left = left
-unlisted_keeps before after (answer t) number place told left = let z : ◌≡◌ {A = ℕ} 0 1 = cc told in absurd (omega (arith, z))
+unlisted_keeps before after (refused n p) own told left = left
+unlisted_keeps before after (answer t) own told left = let z : ◌≡◌ {A = ℕ} 0 1 = cc told in absurd (omega (arith, z))
 
 -- a call without a list leaves the list of the jobs with their rooms
 without_list : (before after : List ℕ) (outcome : SetOutcome (List ℕ)) → ((size : ℕ) → nearest_job_answer outcome ≡ Listed size → ⊥)
@@ -92,14 +90,14 @@ demand_one =
       planning = λ call number place e. planning_by _ _ _ _ _ _ _ number place (sym call.contract.outcome ∙ e);
       changes_nothing = λ call no_plan. call.contract.untouched no_plan;
       laying_out = rounds_refuse;
-      lays_out_nothing = λ tasks before after answered contract number place is.
-          refused_keeps before after (rounds tasks (length before)) number place (sym is ∙ contract.answer_is) contract.buffer_is;
+      lays_out_nothing = λ tasks before after answered contract own is.
+          refused_keeps before after (rounds tasks (length before)) own (sym is ∙ contract.answer_is) contract.buffer_is;
       ordering = order_refuses;
-      orders_nothing = λ levels jobs marks parameters plan prices before after answered contract number place is.
-          unordered_keeps before after (order levels jobs marks parameters plan prices (length before)) number place (sym is ∙ contract.answer_is) contract.buffer_is;
+      orders_nothing = λ levels jobs marks parameters plan prices before after answered contract own is.
+          unordered_keeps before after (order levels jobs marks parameters plan prices (length before)) own (sym is ∙ contract.answer_is) contract.buffer_is;
       touching = touching_refuses;
-      touches_nothing = λ jobs marks free margin plan start end before after answered contract number place is.
-          unlisted_keeps before after (touching jobs marks free margin plan start end before) number place (sym is ∙ contract.answer_is) contract.lists_are;
+      touches_nothing = λ jobs marks free margin plan start end before after answered contract own is.
+          unlisted_keeps before after (touching jobs marks free margin plan start end before) own (sym is ∙ contract.answer_is) contract.lists_are;
       nearest = nearest_refuses;
       lists_no_rooms = λ levels jobs parameters before after given contract never.
           without_list before after (nearest levels jobs parameters (length before)) (λ size is. never size (contract.answer_is ∙ is)) contract.list_is;
@@ -171,8 +169,8 @@ demand_three =
     instead : (call : Call) (site : Site) → ValidTables call.level_bytes call.job_bytes call.mark_bytes call.parameters site
         → LongEnough site (length call.before.plan) (length call.before.prices) (length call.before.shares)
         → (PlanComesOut call → ⊥) → (answered : PlanAnswer) → call.answered ≡ answered → NoPlan call site
-    instead call site tables long no_plan (Plan intervals steps energy) is = absurd (no_plan (ap outcome_of is))
-    instead call site tables long no_plan (Overfull start end spare) is =
+    instead call site tables long no_plan (Ok written) is = absurd (no_plan (ap outcome_of is))
+    instead call site tables long no_plan (Err (Overfull start end spare)) is =
         let window = call.contract.window site tables start end spare is in
         record {
           start = start;
@@ -183,8 +181,8 @@ demand_three =
           earliest = window;
           no_schedule = call.contract.never_served site tables start end spare is;
         }
-    instead call site tables long no_plan (Refused number place) is =
-        absurd ((long_enough_decides site _ _ _ long).no_refusal number place
+    instead call site tables long no_plan (Err (Refused own)) is =
+        absurd ((long_enough_decides site _ _ _ long).no_refusal (number_of own.fault) own.place
         (sym (planned_as _ _ _ _ site tables _ _ _) ∙ sym call.contract.outcome ∙ ap outcome_of is))
 
 pub nothing_shut_out : NothingShutOut

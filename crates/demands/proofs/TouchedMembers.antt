@@ -25,7 +25,7 @@ use Rattle.model.proofs.Numbers.{lt_or_le, both_true}
 use Rattle.model.proofs.Search.{some_below_found, some_below_holds, least_below_found, least_below_fails}
 use Rattle.model.proofs.Passing.{passing_all, passing_only, passing_rises}
 use Rattle.model.proofs.FittingHalf.{stepping_answered}
-use Rattle.spans.specs.declared.jobs.NearestDeadline.TheVariants.{At, None}
+use Rattle.std.specs.Prelude.{Some, None}
 use Rattle.spans.specs.Spans.{opens_within, shares_tick, has_cell, jobs_open, jobs_inside, steps_touched, nearest_deadline}
 use Rattle.spans.specs.SpanAnswers.{nearest_answer}
 use Rattle.spans.proofs.SpanTicks.{opens_ticks, inside_ticks, shares_ticks}
@@ -158,7 +158,7 @@ module _ (jobs : List Job) (bounds plan : List ℕ) (rises : (i : ℕ) → suc i
           found cell s step (eqb-true (cell_at plan s) cell same) ((shares (cell / max_jobs) (omega arith)).0 touches)
 
 -- a deadline is not none
-never : {A : Type 0} {time : ℕ} → At time ≡ None → A
+never : {A : Type 0} {time : ℕ} → Some time ≡ None → A
 never is = let z : ◌≡◌ {A = ℕ} 0 1 = cc is in absurd (omega (arith, z))
 
 -- the nearest deadline, or none

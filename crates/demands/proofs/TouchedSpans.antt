@@ -7,9 +7,12 @@ use Prim.Native.Nat.{ℕ, ◌<◌, ◌≤◌}
 use native.Mathlib.Omega.{arith}
 use lib.ListN.{length, drop}
 use lib.Seq.{take-append_seam, drop-append_seam}
+use Rattle.std.specs.Prelude.{Option, Err}
 use Rattle.model.specs.declared.Level.{Level}
 use Rattle.model.specs.declared.Job.{Job}
+use Rattle.model.specs.declared.refusal.Refusal.{Refusal}
 use Rattle.model.specs.Outcome.{Outcome, refused, answer, and_then, From, RefusesBy}
+use Rattle.model.specs.Refusals.{number_of, fault_numbered, refusal as refusal_at}
 use Rattle.model.specs.LevelTables.{read_levels}
 use Rattle.model.specs.SiteParameters.{alter_levels}
 use Rattle.model.specs.Marks.{bounds_with}
@@ -17,6 +20,7 @@ use Rattle.model.specs.Sites.{tables_of, site_of}
 use Rattle.model.specs.Checking.{stepping, check}
 use Rattle.model.proofs.Numbers.{lt_or_le}
 use Rattle.model.proofs.Outcome.{answered_within, and_then_answered}
+use Rattle.model.proofs.Refusals.{returned_refused, number_numbered}
 use Rattle.model.proofs.Jobs.{jobs_valid}
 use Rattle.model.proofs.SiteParameters.{altered_are_valid}
 use Rattle.model.proofs.MarkedBounds.{bounds-with}
@@ -24,14 +28,11 @@ use Rattle.model.proofs.Accepted.{check_read}
 use Rattle.model.proofs.Hypotheses.{every_valid_table}
 use Rattle.model.proofs.RefusalNumbers.{check_past_steps}
 use Rattle.fitting.proofs.Verdicts.{both_alone, both_stepping}
-use Rattle.spans.specs.declared.jobs.NearestDeadline.{NearestDeadline}
 use Rattle.spans.specs.Spans.{Touched, nearest_deadline, touched}
 use Rattle.spans.specs.SpanAnswers.{nearest_answer, listed}
-use Rattle.touching.specs.declared.operation.TouchingAnswer.{TouchingAnswer}
-use Rattle.touching.specs.declared.operation.TouchingAnswer.TheVariants.{Touching, Refused}
 use Rattle.touching.specs.Touching.{Lists, where_room, touching_for, touching}
-use Rattle.touching.specs.TouchingAnswers.{touching_answer, Answers}
-use Rattle.touching.proofs.TouchingRefusals.{ReadNumbers, room_by, touching_right_by}
+use Rattle.touching.specs.TouchingAnswers.{TouchingAnswer, Touching, touching_answer, Answers}
+use Rattle.touching.proofs.TouchingRefusals.{ReadNumbers, room_by, touching_right_by, touching_refuses}
 use Rattle.touching.proofs.TouchingOutcomes.{
   touching_wrong_span,
   touching_jobs_refused,
@@ -61,15 +62,18 @@ use Rattle.demands.specs.TouchedSpans.{
 }
 use Rattle.demands.proofs.TouchedMembers.{listed_once, open_listed, inside_listed, steps_listed, nearest}
 
--- the outcome of a call, from its answer
-refused_of : (outcome : Outcome Touched) (number place : ℕ) → Refused number place ≡ touching_answer outcome → outcome ≡ refused number place
-refused_of (refused n p) number place e =
-    let same_number : number ≡ n = cc e in
-    let same_place : place ≡ p = cc e in
-    rw (same_number, same_place)
-refused_of (answer t) number place e = cc e
+-- the outcome of a call, from its answer: of the numbers of the table no two are one fault's
+refused_of : (outcome : Outcome Touched) → RefusesBy (From 1 36) outcome → (number place : ℕ) → From 1 36 number
+    → Err (refusal_at number place) ≡ touching_answer outcome → outcome ≡ refused number place
+refused_of outcome in_table number place known e =
+    let by = returned_refused _ outcome (refusal_at number place) (sym e) in
+    let fault : fault_numbered number ≡ fault_numbered by.number = ap (λ (own : Refusal). own.fault) by.own_is in
+    let same_number : by.number ≡ number =
+    sym (number_numbered by.number (in_table by.number by.place by.outcome_is)) ∙ sym (ap number_of fault) ∙ number_numbered number known in
+    let same_place : place ≡ by.place = ap (λ (own : Refusal). own.place) by.own_is in
+    rw (same_number, ← same_place) at by.outcome_is
 
-answered_of : (outcome : Outcome Touched) (open_jobs inside_jobs steps : ℕ) (deadline : NearestDeadline)
+answered_of : (outcome : Outcome Touched) (open_jobs inside_jobs steps : ℕ) (deadline : Option ℕ)
     → Touching open_jobs inside_jobs steps deadline ≡ touching_answer outcome → (t : Touched) × (outcome ≡ answer t)
 answered_of (refused number place) open_jobs inside_jobs steps deadline e = let z : ◌≡◌ {A = ℕ} 0 1 = cc e in absurd (omega (arith, z))
 answered_of (answer t) open_jobs inside_jobs steps deadline e = (t, refl)
@@ -125,19 +129,22 @@ module _ (call : TouchingCall) where
   one_answer : {after : Lists} {answered : TouchingAnswer} → Answers outcome call.before after answered → (call.answered ≡ answered) × (call.after ≡ after)
   one_answer answers = (call.contract.answer_is ∙ sym answers.answer_is, call.contract.lists_are ∙ sym answers.lists_are)
 
-  refuses : (number place : ℕ) → Answers outcome call.before call.before (Refused number place) → RefusedCall call number place
-  refuses number place answers = let (refusal, untouched) = one_answer answers in record { refusal = refusal; untouched = untouched }
+  refuses : (number place : ℕ) → Answers outcome call.before call.before (Err (refusal_at number place)) → RefusedCall call number place
+  refuses number place answers = let (told, untouched) = one_answer answers in record { refusal = told; untouched = untouched }
 
   refused_call : (number place : ℕ) → outcome ≡ refused number place → RefusedCall call number place
   refused_call number place e = refuses number place (refused_answers number place e)
 
-  was_refused : (number place : ℕ) → call.answered ≡ Refused number place → outcome ≡ refused number place
-  was_refused number place is = refused_of outcome number place (sym is ∙ call.contract.answer_is)
+  was_refused : (number place : ℕ) → From 1 36 number → call.answered ≡ Err (refusal_at number place) → outcome ≡ refused number place
+  was_refused number place known is = refused_of outcome in_table number place known (rw is at call.contract.answer_is)
+    where
+      in_table : RefusesBy (From 1 36) outcome
+      in_table n p e = omega (arith, touching_refuses call.job_bytes call.mark_bytes call.free call.margin call.plan call.start call.end call.before n p e)
 
   wrong-span : WrongSpan call → outcome ≡ refused 33 0
   wrong-span wrong = touching_wrong_span _ _ _ _ _ _ _ _ wrong
 
-  only_wrong : (place : ℕ) → call.answered ≡ Refused 33 place → WrongSpan call
+  only_wrong : (place : ℕ) → call.answered ≡ Err (refusal_at 33 place) → WrongSpan call
   only_wrong place is = go (lt_or_le call.start call.end) (lt_or_le 1_000_000 call.end)
     where
       never : ReadNumbers 33 → WrongSpan call
@@ -149,7 +156,7 @@ module _ (call : TouchingCall) where
       go : (call.start < call.end) ⊎ (call.end ≤ call.start) → (1_000_000 < call.end) ⊎ (call.end ≤ 1_000_000) → WrongSpan call
       go (inr empty) high = inl empty
       go (inl some) (inl late) = inr late
-      go (inl some) (inr within) = never (touching_right_by _ _ _ _ _ _ _ _ some within 33 place (was_refused 33 place is))
+      go (inl some) (inr within) = never (touching_right_by _ _ _ _ _ _ _ _ some within 33 place (was_refused 33 place (omega arith) is))
 
   module _ (right : RightSpan call) where
     module _ (jobs : List Job) (marks : List ℕ) (read : ReadAs call jobs marks) where
@@ -166,7 +173,7 @@ module _ (call : TouchingCall) where
       as_the_check : (level_bytes prices : List ℕ) (highest : ℕ) (entries levels : List Level)
           → read_levels level_bytes ≡ answer entries → alter_levels highest entries ≡ answer levels
           → (number place : ℕ) → From 15 18 number
-          → (call.answered ≡ Refused number place)
+          → (call.answered ≡ Err (refusal_at number place))
           ↔ (check level_bytes call.job_bytes call.mark_bytes (with_highest call highest) call.plan prices ≡ refused number place)
       as_the_check level_bytes prices highest entries levels levels_read levels_altered number place from =
           let bounds = bounds_with marks jobs in
@@ -179,7 +186,7 @@ module _ (call : TouchingCall) where
           let same =
           same_steps (steps_alone jobs bounds call.plan) (where_room call.before (found jobs marks)) rest (room_by call.before (found jobs marks)) past
           number place from in (
-            λ refusal. checked ∙ (is ∙ (steps_then jobs bounds call.plan rest ∙ same.0 (sym by_steps ∙ was_refused number place refusal))),
+            λ told. checked ∙ (is ∙ (steps_then jobs bounds call.plan rest ∙ same.0 (sym by_steps ∙ was_refused number place (omega arith) told))),
             λ e. (refused_call number place (by_steps ∙ same.1 (sym (steps_then jobs bounds call.plan rest) ∙ (sym is ∙ (sym checked ∙ e))))).refusal,
           )
 
@@ -230,10 +237,10 @@ module _ (call : TouchingCall) where
           steps = written _ _ _ (ap (λ (l : Lists). l.steps) left);
         }
 
-  only_then : (open_jobs inside_jobs steps : ℕ) (deadline : NearestDeadline) → call.answered ≡ Touching open_jobs inside_jobs steps deadline
+  only_then : (open_jobs inside_jobs steps : ℕ) (deadline : Option ℕ) → call.answered ≡ Touching open_jobs inside_jobs steps deadline
       → (jobs : List Job) × (marks : List ℕ) × (wanted : Lists) × SoundCall call jobs marks × Wanted call jobs marks wanted × AllFit wanted call.before
   only_then open_jobs inside_jobs steps deadline is =
-      let (t, e) = answered_of outcome open_jobs inside_jobs steps deadline (sym is ∙ call.contract.answer_is) in
+      let (t, e) = answered_of outcome open_jobs inside_jobs steps deadline (rw is at call.contract.answer_is) in
       let (right, at) = touching_answered _ _ _ _ _ _ _ _ t e in
       let (given, jobs, marks, jobs_read, marks_read, altered, rest) = at in
       let read : ReadAs call jobs marks = record { given = given; jobs_read = jobs_read; marks_read = marks_read; altered = altered } in

@@ -16,10 +16,8 @@ use Rattle.model.specs.Windows.{wrong_span}
 use Rattle.model.specs.Checking.{fits, check}
 use Rattle.model.specs.Accepted.{exact_for, gaps_of}
 use Rattle.model.specs.Demands.{ValidTables, LongEnough}
-use Rattle.planning.specs.declared.operation.PlanAnswer.{PlanAnswer}
-use Rattle.planning.specs.declared.operation.PlanAnswer.TheVariants.{Plan, Overfull, Refused}
 use Rattle.planning.specs.MadePlans.{Buffers}
-use Rattle.planning.specs.PlanAnswers.{PlanContract}
+use Rattle.planning.specs.PlanAnswers.{PlanAnswer, Plan, Overfull, Refused, PlanContract}
 use Rattle.ordering.specs.Ordering.{order}
 use Rattle.touching.specs.Touching.{Lists, touching_for, touching}
 use Rattle.demands.specs.ThreeDemands.{Call, PlanComesOut, plan_written}

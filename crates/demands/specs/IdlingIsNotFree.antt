@@ -21,12 +21,11 @@ use Rattle.model.specs.Checking.{fits, check}
 use Rattle.model.specs.Accepted.{ScheduleFor, powers_for, exact_for, gaps_of}
 use Rattle.model.specs.Demands.{ValidTables}
 use Rattle.model.specs.IdleDraw.{IdlingIsAPoint, Works, energy_of_bands, figure_of_bands, idle_slots, DrawMovesNoWindow}
-use Rattle.planning.specs.declared.operation.PlanAnswer.{PlanAnswer}
 use Rattle.planning.specs.MadePlans.{Buffers}
-use Rattle.planning.specs.PlanAnswers.{PlanContract}
+use Rattle.planning.specs.PlanAnswers.{PlanAnswer, PlanContract}
 use Rattle.ordering.specs.Ordering.{order}
 use Rattle.nearest.specs.Nearest.{nearest}
-use Rattle.rounds.specs.declared.operation.RoundsAnswer.TheVariants.{LaidOut}
+use Rattle.rounds.specs.RoundAnswers.{LaidOut}
 use Rattle.repeats.specs.Repeats.{repeat_site, repeat_shares, energy_at, RepeatsApart}
 use Rattle.demands.specs.ThreeDemands.{SuchAPlan}
 use Rattle.demands.specs.RepeatedRounds.{LayOutCall, jobs_written}

@@ -16,8 +16,7 @@ use Rattle.model.specs.Accepted.{LeastPlan}
 use Rattle.model.specs.Planning.{planning}
 use Rattle.model.specs.Demands.{ValidTables}
 use Rattle.model.specs.Boards.{working_frequencies, read_frequencies}
-use Rattle.planning.specs.declared.operation.PlanAnswer.TheVariants.{Plan}
-use Rattle.planning.specs.PlanAnswers.{PlanContract}
+use Rattle.planning.specs.PlanAnswers.{Plan, PlanContract}
 use Rattle.ordering.specs.Ordering.{order}
 use Rattle.nearest.specs.Nearest.{nearest}
 use Rattle.demands.specs.ThreeDemands.{Call, plan_written, prices_written, SuchAPlan}

@@ -15,9 +15,7 @@ use Rattle.model.specs.Marks.{read_marks}
 use Rattle.model.specs.Windows.{cycles_inside, earliest_overfull}
 use Rattle.model.specs.Schedules.{Schedule, Serves}
 use Rattle.model.specs.Planning.{overfull, planning}
-use Rattle.nearest.specs.declared.operation.NearestAnswer.{NearestAnswer}
-use Rattle.nearest.specs.declared.operation.NearestAnswer.TheVariants.{Listed, Overfull, Refused}
-use Rattle.nearest.specs.NearestAnswers.{NearestContract}
+use Rattle.nearest.specs.NearestAnswers.{NearestAnswer, Listed, Overfull, Refused, NearestContract}
 
 -- One call: what it was lent, what it left in the list, and its answer, with the contract that holds of every call.
 pub record NearestCall : Type 0 where

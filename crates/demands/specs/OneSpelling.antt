@@ -4,10 +4,11 @@
 -- every interval, and a plan already in order is unchanged." Change 6: "the two plans that Change 3 compares have the same marks."
 -- Change 9: "the two plans that Change 3 compares share" the parameters.
 -- Proved in proofs/OneSpelling.antt.
-use Rattle.std.specs.Prelude.{ℕ, ◌<◌, ◌≤◌, ◌≡◌, ◌↔◌, List, length, take, drop}
+use Rattle.std.specs.Prelude.{ℕ, ◌<◌, ◌≤◌, ◌≡◌, ◌↔◌, List, length, take, drop, Err}
 use Rattle.model.specs.declared.Job.{Job}
 use Rattle.model.specs.declared.Parameters.{Parameters}
 use Rattle.model.specs.Outcome.{refused, answer}
+use Rattle.model.specs.Refusals.{refusal as refusal_at}
 use Rattle.model.specs.Bytes.{IsBytes}
 use Rattle.model.specs.Jobs.{read_jobs}
 use Rattle.model.specs.SiteParameters.{alter_jobs}
@@ -19,9 +20,7 @@ use Rattle.model.specs.Checking.{check}
 use Rattle.model.specs.Accepted.{exact_for}
 use Rattle.model.specs.Demands.{ValidTables}
 use Rattle.ordering.specs.OrderedPlan.{InOrder, SameSteps}
-use Rattle.ordering.specs.declared.operation.OrderAnswer.{OrderAnswer}
-use Rattle.ordering.specs.declared.operation.OrderAnswer.TheVariants.{Ordered, Refused}
-use Rattle.ordering.specs.OrderAnswers.{OrderContract}
+use Rattle.ordering.specs.OrderAnswers.{OrderAnswer, Ordered, OrderContract}
 
 -- One call of ordering: what it was lent, what it left in the buffer, and its answer, with the contract that holds of every call.
 pub record OrderingCall : Type 0 where
@@ -46,7 +45,7 @@ plan_out call = take (length call.plan) call.after
 
 -- The call is refused so, and the buffer is as it was.
 pub record RefusedCall (call : OrderingCall) (number place : ℕ) : Type 0 where
-  pub refusal : call.answered ≡ Refused number place
+  pub refusal : call.answered ≡ Err (refusal_at number place)
   pub untouched : call.after ≡ call.before
 
 -- What is written: the plan's length is answered; the bytes written have N and S as they were and the plan's steps, each once, in

@@ -16,10 +16,8 @@ use Rattle.model.specs.Schedules.{Serves}
 use Rattle.model.specs.Checking.{check}
 use Rattle.model.specs.Accepted.{ScheduleFor}
 use Rattle.model.specs.Demands.{ValidTables}
-use Rattle.planning.specs.declared.operation.PlanAnswer.TheVariants.{Plan, Overfull}
-use Rattle.rounds.specs.declared.operation.RoundsAnswer.{RoundsAnswer}
-use Rattle.rounds.specs.declared.operation.RoundsAnswer.TheVariants.{LaidOut}
-use Rattle.rounds.specs.RoundAnswers.{RoundsContract}
+use Rattle.planning.specs.PlanAnswers.{Plan, Overfull}
+use Rattle.rounds.specs.RoundAnswers.{RoundsAnswer, LaidOut, RoundsContract}
 use Rattle.repeats.specs.Repeats.{repeat_site}
 use Rattle.repeats.specs.RoundsThatRepeat.{RepeatedRound}
 use Rattle.demands.specs.ThreeDemands.{Call, plan_written, prices_written}

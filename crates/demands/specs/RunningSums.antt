@@ -3,7 +3,7 @@
 -- be the cycles of the jobs inside. Inside, the test also counts its additions: for a fitting set exactly one for each distinct
 -- release and each job released at or after it. Every answer, and the window named by 11, is the same." Proved in
 -- proofs/RunningSums.antt. What planning answers is stated as it was, in ThreeDemands.
-use Rattle.std.specs.Prelude.{ℕ, suc, ◌+◌, ◌<◌, ◌≤◌, ◌≡◌, false, List}
+use Rattle.std.specs.Prelude.{ℕ, suc, ◌+◌, ◌<◌, ◌≤◌, ◌≡◌, false, List, Some, None}
 use Rattle.std.proofs.Math.Option.{some}
 use Rattle.model.specs.declared.Job.{Job}
 use Rattle.model.specs.Jobs.{ValidJobs}
@@ -13,7 +13,6 @@ use Rattle.job_sets.specs.declared.JobSet.{JobSet}
 use Rattle.job_sets.specs.JobSets.{member_count, in_both}
 use Rattle.job_sets.specs.IntervalSets.{leaving_set}
 use Rattle.windows.specs.declared.overfull.WindowTest.{WindowTest}
-use Rattle.windows.specs.declared.overfull.Overfull.TheVariants.{Window, Fits}
 use Rattle.windows.specs.Additions.{additions_before, additions}
 use Rattle.windows.specs.RunningSums.{RunningSum, jobs_inside, total_over}
 use Rattle.windows.specs.WindowTests.{TestArrays, HasReleasedFrom, Tested}
@@ -42,18 +41,18 @@ pub record RunningSums : Type 0 where
       → RunningSum jobs (bound_at bounds start) (bound_at bounds (suc last))
       (total + total_over (in_both (leaving_set intervals sets last) from) cycles) (added + member_count (in_both (leaving_set intervals sets last) from))
   -- "for a fitting set exactly one for each distinct release and each job released at or after it"
-  pub exactly : (call : TestCall) → Fitting call → (call.answered.found ≡ Fits) × (call.answered.additions ≡ additions call.jobs)
+  pub exactly : (call : TestCall) → Fitting call → (call.answered.found ≡ None) × (call.answered.additions ≡ additions call.jobs)
   -- and for no set more
   pub never_more : (call : TestCall) → call.answered.additions ≤ additions call.jobs
   -- where a window is named the test stopped there: one for each distinct release before the window's start and each job released at or
   -- after that release, and one for each job inside the window
-  pub until_the_window : (call : TestCall) (start end : ℕ) → call.answered.found ≡ Window start end
+  pub until_the_window : (call : TestCall) (start end : ℕ) → call.answered.found ≡ Some (record { start = start; end = end })
       → call.answered.additions ≡ additions_before call.jobs start + jobs_inside call.jobs start end
   -- "the window named by 11, is the same": the earliest start that has an overfull window, and then its earliest end
-  pub window_named : (call : TestCall) (start end : ℕ) → call.answered.found ≡ Window start end
+  pub window_named : (call : TestCall) (start end : ℕ) → call.answered.found ≡ Some (record { start = start; end = end })
       → earliest_overfull call.top call.jobs ≡ some (record { start = start; end = end })
   -- and where none is named the set is a fitting one
-  pub none_named : (call : TestCall) → call.answered.found ≡ Fits → Fitting call
+  pub none_named : (call : TestCall) → call.answered.found ≡ None → Fitting call
   -- every call is one of these, whatever jobs it was lent
   pub every_call : (top : ℕ) (jobs : List Job) (answered : WindowTest) → ValidJobs jobs → Tested top jobs answered
       → (call : TestCall) × (call.top ≡ top) × (call.jobs ≡ jobs) × (call.answered ≡ answered)

@@ -15,7 +15,7 @@ use Rattle.model.specs.Checking.{fits, check}
 use Rattle.model.specs.Accepted.{exact_for, LeastPlan}
 use Rattle.model.specs.Planning.{plan_length}
 use Rattle.model.specs.Demands.{ValidTables}
-use Rattle.planning.specs.declared.operation.PlanAnswer.TheVariants.{Plan, Refused}
+use Rattle.planning.specs.PlanAnswers.{Plan, Refused}
 use Rattle.demands.specs.ThreeDemands.{Call, plan_written}
 
 -- The steps of a plan that comes out: those answered are those written.

@@ -24,9 +24,8 @@ use Rattle.model.specs.Windows.{wrong_span, spare_for, spare}
 use Rattle.model.specs.Checking.{fits_for, fits, check_for, check}
 use Rattle.model.specs.Planning.{after_reading, plan_for, planning}
 use Rattle.model.specs.Demands.{ValidTables}
-use Rattle.planning.specs.declared.operation.PlanAnswer.{PlanAnswer}
 use Rattle.planning.specs.MadePlans.{Buffers}
-use Rattle.planning.specs.PlanAnswers.{PlanContract}
+use Rattle.planning.specs.PlanAnswers.{PlanAnswer, PlanContract}
 use Rattle.job_rooms.specs.SetOutcomes.{after_tables}
 use Rattle.nearest.specs.Nearest.{nearest_for, nearest}
 use Rattle.ordering.specs.OrderedPlan.{ordered_plan}

@@ -26,14 +26,16 @@
 --     nearest levels jobs parameters     nearest_job_answer (nearest levels jobs parameters room), with the list that `NearestContract` names
 --       and the list
 --
--- An answer's enum has a case for each case of the outcome, with the same numbers. So what is stated here of an outcome
--- on the right holds of what the caller gets. The site of which demands 2 and 3 speak is the one that the parameters alter
--- (`ValidTables`), and so are the schedules over its levels and for its jobs; that all running levels, 0 and 0 leave it as it is given
--- is said in SiteParameters.
-use Rattle.std.specs.Prelude.{ℕ, ◌+◌, ◌*◌, ◌≤◌, ◌≡◌, ◌↔◌, ◌⊎◌, List, length, take, ℤ}
+-- Each is `Ok` of the answer where the outcome on the right is an answer, and otherwise `Err` of the refusal: the place, and the fault
+-- that has the outcome's number (`number_of`). For an overfull window `plan` and `nearest` return `Err` of the window with its spare. So
+-- what is stated here of an outcome on the right holds of what the caller gets. The site of which demands 2 and 3 speak is the one
+-- that the parameters alter (`ValidTables`), and so are the schedules over its levels and for its jobs; that all running levels, 0 and 0
+-- leave it as it is given is said in SiteParameters.
+use Rattle.std.specs.Prelude.{ℕ, ◌+◌, ◌*◌, ◌≤◌, ◌≡◌, ◌↔◌, ◌⊎◌, List, length, take, ℤ, Err}
 use Rattle.model.specs.declared.Level.{Level}
 use Rattle.model.specs.declared.Job.{Job}
 use Rattle.model.specs.declared.Parameters.{Parameters}
+use Rattle.model.specs.declared.refusal.Refusal.{Refusal}
 use Rattle.model.specs.Outcome.{answer, From, RefusesBy}
 use Rattle.model.specs.LevelTables.{read_levels, LevelNumbers}
 use Rattle.model.specs.Jobs.{read_jobs}
@@ -53,27 +55,17 @@ use Rattle.model.specs.Checking.{fits, check, figure_of}
 use Rattle.model.specs.Accepted.{IsPlan, IsPriceList, ScheduleFor, powers_for, exact_for, gaps_of}
 use Rattle.model.specs.Planning.{comes_out, refusal}
 use Rattle.model.specs.Demands.{ValidTables, LongEnough, CanBeServed, NeedsMore, EarliestWindow, SmallestPrices}
-use Rattle.planning.specs.declared.operation.PlanAnswer.{PlanAnswer}
-use Rattle.planning.specs.declared.operation.PlanAnswer.TheVariants.{Plan, Overfull}
 use Rattle.planning.specs.MadePlans.{Buffers}
-use Rattle.planning.specs.PlanAnswers.{outcome_of, PlanContract}
+use Rattle.planning.specs.PlanAnswers.{PlanAnswer, Plan, Overfull, outcome_of, PlanContract}
 use Rattle.tasks.specs.Rounds.{rounds}
-use Rattle.rounds.specs.declared.operation.RoundsAnswer.{RoundsAnswer}
-use Rattle.rounds.specs.declared.operation.RoundsAnswer.TheVariants.{Refused}
-use Rattle.rounds.specs.RoundAnswers.{RoundsContract}
+use Rattle.rounds.specs.RoundAnswers.{RoundsAnswer, RoundsContract}
 use Rattle.ordering.specs.Ordering.{order}
-use Rattle.ordering.specs.declared.operation.OrderAnswer.{OrderAnswer}
-use Rattle.ordering.specs.declared.operation.OrderAnswer.TheVariants.{Refused as NotOrdered}
-use Rattle.ordering.specs.OrderAnswers.{OrderContract}
+use Rattle.ordering.specs.OrderAnswers.{OrderAnswer, OrderContract}
 use Rattle.touching.specs.Touching.{Lists, touching}
-use Rattle.touching.specs.declared.operation.TouchingAnswer.{TouchingAnswer}
-use Rattle.touching.specs.declared.operation.TouchingAnswer.TheVariants.{Refused as NotListed}
-use Rattle.touching.specs.TouchingAnswers.{TouchingContract}
+use Rattle.touching.specs.TouchingAnswers.{TouchingAnswer, TouchingContract}
 use Rattle.job_rooms.specs.SetOutcomes.{refusal as no_rooms}
 use Rattle.nearest.specs.Nearest.{nearest}
-use Rattle.nearest.specs.declared.operation.NearestAnswer.{NearestAnswer}
-use Rattle.nearest.specs.declared.operation.NearestAnswer.TheVariants.{Listed}
-use Rattle.nearest.specs.NearestAnswers.{NearestContract}
+use Rattle.nearest.specs.NearestAnswers.{NearestAnswer, Listed, NearestContract}
 
 -- One call of planning: what it was lent, what it left there, and its answer, with the contract that holds of every call.
 pub record Call : Type 0 where
@@ -119,17 +111,17 @@ pub record DemandOne : Type 0 where
   pub changes_nothing : (call : Call) → (PlanComesOut call → ⊥) → call.after ≡ call.before
   pub laying_out : (tasks : List ℕ) (room : ℕ) → RefusesBy (λ n. From 12 12 n ⊎ From 28 30 n) (rounds tasks room)
   pub lays_out_nothing : (tasks before after : List ℕ) (answered : RoundsAnswer) → RoundsContract tasks before after answered
-      → (number place : ℕ) → answered ≡ Refused number place → after ≡ before
+      → (own : Refusal) → answered ≡ Err own → after ≡ before
   pub ordering : (levels jobs marks : List ℕ) (parameters : Parameters) (plan prices : List ℕ) (room : ℕ)
       → RefusesBy (λ n. (SiteNumbers n ⊎ From 15 24 n) ⊎ From 12 12 n) (order levels jobs marks parameters plan prices room)
   pub orders_nothing : (levels jobs marks : List ℕ) (parameters : Parameters) (plan prices before after : List ℕ) (answered : OrderAnswer)
       → OrderContract levels jobs marks parameters plan prices before after answered
-      → (number place : ℕ) → answered ≡ NotOrdered number place → after ≡ before
+      → (own : Refusal) → answered ≡ Err own → after ≡ before
   pub touching : (jobs marks : List ℕ) (free margin : ℕ) (plan : List ℕ) (start end : ℕ) (before : Lists)
       → RefusesBy (λ n. (From 33 33 n ⊎ (From 6 10 n ⊎ From 34 36 n)) ⊎ (From 15 18 n ⊎ From 14 14 n)) (touching jobs marks free margin plan start end before)
   pub touches_nothing : (jobs marks : List ℕ) (free margin : ℕ) (plan : List ℕ) (start end : ℕ) (before after : Lists) (answered : TouchingAnswer)
       → TouchingContract jobs marks free margin plan start end before after answered
-      → (number place : ℕ) → answered ≡ NotListed number place → after ≡ before
+      → (own : Refusal) → answered ≡ Err own → after ≡ before
   -- 11 is the case Overfull, with its window and spare, here too
   pub nearest : (levels jobs : List ℕ) (parameters : Parameters) (room number place : ℕ)
       → nearest levels jobs parameters room ≡ no_rooms number place → TableNumbers number ⊎ From 14 14 number

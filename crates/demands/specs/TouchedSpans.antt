@@ -6,11 +6,12 @@
 -- and then the plan are read." Change 6: "Every operation that cuts intervals takes the marks and follows the new bounds .. Errors: 34
 -- .. after the job table's own." Change 9: the jobs are those with their ticks kept free and their margin; 35 and 36 come "right after
 -- those of .. jobs and marks". Proved in proofs/TouchedSpans.antt.
-use Rattle.std.specs.Prelude.{ℕ, suc, ◌<◌, ◌≤◌, ◌≡◌, ◌↔◌, ◌⊎◌, List, length, get_or, take, drop}
+use Rattle.std.specs.Prelude.{ℕ, suc, ◌<◌, ◌≤◌, ◌≡◌, ◌↔◌, ◌⊎◌, List, length, get_or, take, drop, Option, Some, None, Err}
 use Rattle.model.specs.declared.Level.{Level}
 use Rattle.model.specs.declared.Job.{Job}
 use Rattle.model.specs.declared.Parameters.{Parameters}
 use Rattle.model.specs.Outcome.{Outcome, refused, answer, From}
+use Rattle.model.specs.Refusals.{refusal as refusal_at}
 use Rattle.model.specs.LevelTables.{read_levels}
 use Rattle.model.specs.Jobs.{job_of, read_jobs}
 use Rattle.model.specs.SiteParameters.{alter_levels, alter_jobs}
@@ -18,12 +19,8 @@ use Rattle.model.specs.Intervals.{bound_at}
 use Rattle.model.specs.Marks.{read_marks, bounds_with}
 use Rattle.model.specs.Steps.{step_count, cell_at, step_at}
 use Rattle.model.specs.Checking.{stepping, check}
-use Rattle.spans.specs.declared.jobs.NearestDeadline.{NearestDeadline}
-use Rattle.spans.specs.declared.jobs.NearestDeadline.TheVariants.{At, None}
-use Rattle.touching.specs.declared.operation.TouchingAnswer.{TouchingAnswer}
-use Rattle.touching.specs.declared.operation.TouchingAnswer.TheVariants.{Touching, Refused}
 use Rattle.touching.specs.Touching.{Lists}
-use Rattle.touching.specs.TouchingAnswers.{TouchingContract}
+use Rattle.touching.specs.TouchingAnswers.{TouchingAnswer, Touching, TouchingContract}
 
 -- One call: what it was lent, what it left in the lists, and its answer, with the contract that holds of every call.
 pub record TouchingCall : Type 0 where
@@ -45,7 +42,7 @@ with_highest call highest = record { highest = highest; free = call.free; margin
 
 -- The call is refused so, and all three lists are as they were.
 pub record RefusedCall (call : TouchingCall) (number place : ℕ) : Type 0 where
-  pub refusal : call.answered ≡ Refused number place
+  pub refusal : call.answered ≡ Err (refusal_at number place)
   pub untouched : call.after ≡ call.before
 
 -- "start not before end, or end above 1,000,000", and the opposite of it.
@@ -111,11 +108,11 @@ pub record Wanted (call : TouchingCall) (jobs : List Job) (marks : List ℕ) (li
   pub steps : Listed lists.steps (StepSharesTick (bounds_with marks jobs) call.plan call.start call.end)
 
 -- "the nearest deadline at or after its start, or none"
-pub record IsNearest (jobs : List Job) (start : ℕ) (deadline : NearestDeadline) : Type 0 where
+pub record IsNearest (jobs : List Job) (start : ℕ) (deadline : Option ℕ) : Type 0 where
   pub none_exactly_when : (deadline ≡ None) ↔ ((j : ℕ) → j < length jobs → (job_of jobs j).deadline < start)
-  pub of_a_job : (time : ℕ) → deadline ≡ At time → (j : ℕ) × (j < length jobs) × ((job_of jobs j).deadline ≡ time)
-  pub at_or_after : (time : ℕ) → deadline ≡ At time → start ≤ time
-  pub none_nearer : (time : ℕ) → deadline ≡ At time → (j : ℕ) → j < length jobs → start ≤ (job_of jobs j).deadline → time ≤ (job_of jobs j).deadline
+  pub of_a_job : (time : ℕ) → deadline ≡ Some time → (j : ℕ) × (j < length jobs) × ((job_of jobs j).deadline ≡ time)
+  pub at_or_after : (time : ℕ) → deadline ≡ Some time → start ≤ time
+  pub none_nearer : (time : ℕ) → deadline ≡ Some time → (j : ℕ) → j < length jobs → start ≤ (job_of jobs j).deadline → time ≤ (job_of jobs j).deadline
 
 -- The members stand at the start of a lent list, and the rest of it stays.
 pub record Written (members before after : List ℕ) : Type 0 where
@@ -124,7 +121,7 @@ pub record Written (members before after : List ℕ) : Type 0 where
 
 -- "answered are their three lengths and that deadline"
 pub record AnsweredCall (call : TouchingCall) (jobs : List Job) (wanted : Lists) : Type 0 where
-  pub deadline : NearestDeadline
+  pub deadline : Option ℕ
   pub lengths : call.answered ≡ Touching (length wanted.open_jobs) (length wanted.inside_jobs) (length wanted.steps) deadline
   pub is_nearest : IsNearest jobs call.start deadline
   pub open-jobs : Written wanted.open_jobs call.before.open_jobs call.after.open_jobs
@@ -145,7 +142,7 @@ pub record TouchedSpans : Type 0 where
   -- "33 start not before end, or end above 1,000,000, before the job table and then the plan are read": whatever they are
   pub wrong-span : (call : TouchingCall) → WrongSpan call → RefusedCall call 33 0
   -- and for no other span
-  pub only_wrong_span : (call : TouchingCall) (place : ℕ) → call.answered ≡ Refused 33 place → WrongSpan call
+  pub only_wrong_span : (call : TouchingCall) (place : ℕ) → call.answered ≡ Err (refusal_at 33 place) → WrongSpan call
   -- the job table's own refusals, and then 34
   pub job-table : (call : TouchingCall) (number place : ℕ) → RightSpan call → read_jobs call.job_bytes ≡ refused number place
       → RefusedCall call number place
@@ -164,7 +161,7 @@ pub record TouchedSpans : Type 0 where
       → (level_bytes prices : List ℕ) (highest : ℕ) (entries levels : List Level)
       → read_levels level_bytes ≡ answer entries → alter_levels highest entries ≡ answer levels
       → (number place : ℕ) → From 15 18 number
-      → (call.answered ≡ Refused number place)
+      → (call.answered ≡ Err (refusal_at number place))
       ↔ (check level_bytes call.job_bytes call.mark_bytes (with_highest call highest) call.plan prices ≡ refused number place)
   -- what is to be listed is there, and is one thing only
   pub wanted_exist : (call : TouchingCall) (jobs : List Job) (marks : List ℕ) → SoundCall call jobs marks → (wanted : Lists) × Wanted call jobs marks wanted
@@ -186,7 +183,7 @@ pub record TouchedSpans : Type 0 where
   pub comes-out : (call : TouchingCall) (jobs : List Job) (marks : List ℕ) → SoundCall call jobs marks → (wanted : Lists) → Wanted call jobs marks wanted
       → AllFit wanted call.before → AnsweredCall call jobs wanted
   -- and in no other case does anything come out
-  pub only_then : (call : TouchingCall) (open_jobs inside_jobs steps : ℕ) (deadline : NearestDeadline)
+  pub only_then : (call : TouchingCall) (open_jobs inside_jobs steps : ℕ) (deadline : Option ℕ)
       → call.answered ≡ Touching open_jobs inside_jobs steps deadline
       → (jobs : List Job) × (marks : List ℕ) × (wanted : Lists) × SoundCall call jobs marks × Wanted call jobs marks wanted × AllFit wanted call.before
   -- no call is shut out: whatever it was lent, it is such a call

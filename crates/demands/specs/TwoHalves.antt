@@ -20,7 +20,7 @@ use Rattle.model.specs.Accepted.{ScheduleFor, powers_for, exact_for, gaps_of, Le
 use Rattle.model.specs.Demands.{ValidTables}
 use Rattle.model.specs.SiteLines.{job, T, full}
 use Rattle.model.specs.ChangeLines.{early_plan}
-use Rattle.planning.specs.declared.operation.PlanAnswer.TheVariants.{Plan}
+use Rattle.planning.specs.PlanAnswers.{Plan}
 use Rattle.demands.specs.ThreeDemands.{Call, plan_written, SuchAPlan}
 
 -- What is promised of a fitting plan, whatever made it.

@@ -21,10 +21,7 @@ pub fn add_due(
     ensures { (length due.new ≡ max_bounds)
         × ((b : ℕ) → numbers_in due.new b ≡ due_at jobs (numbers_in last.now) (numbers_in cycles.now) b) }
 {
-    let mut job = 0;
-    while job < jobs {
-        let bound = last[job] as usize;
-        due[bound] += cycles[job] as u32;
-        job += 1;
+    for (&bound, &cycles) in last[..jobs].iter().zip(&cycles[..jobs]) {
+        due[bound as usize] += cycles as u32;
     }
 }

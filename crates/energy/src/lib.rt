@@ -7,6 +7,7 @@ ghost use Rattle.levels.specs.PointTables.{points_of, SmallPoints};
 ghost use Rattle.intervals.specs.Times.{SmallBounds};
 ghost use Rattle.energy.specs.Figures.{figure_of_loads, band_total_of, idle_of};
 
+use intervals::interval_count;
 use levels::PointTable;
 use model::{MAX_BOUNDS, MAX_INTERVALS};
 
@@ -21,17 +22,14 @@ pub fn energy_figure(
     requires small_bounds { SmallBounds bounds times.now }
     ensures { result ≡ figure_of_loads (points_of working) (take bounds times.now) loads.now }
 {
-    let last = working.count - 1;
     let mut figure = idle_energy(times, bounds, working.powers[0]);
-    let mut k = 0;
-    while k < last {
+    for k in 0..working.count - 1 {
         let lower = working.frequencies[k];
         let upper = working.frequencies[k + 1];
         let gap = upper - lower;
         let power = working.powers[k + 1];
         let rise = power - working.powers[k];
         figure += band_total(times, bounds, loads, lower, gap) * rise / gap;
-        k += 1;
     }
     figure
 }
@@ -61,10 +59,9 @@ fn band_total(
     ensures { result ≡ band_total_of (take bounds times.now) loads.now lower gap }
 {
     let mut total = 0;
-    let mut i = 0;
-    while i + 1 < bounds {
+    // no zip: each length lies between two bounds that stand side by side
+    for i in 0..interval_count(bounds) {
         total += band_cycles(times[i + 1] - times[i], loads[i], lower, gap);
-        i += 1;
     }
     total
 }
@@ -74,13 +71,6 @@ fn band_cycles(length: u64, load: u64, lower: u64, gap: u64) -> u64
     requires { (length ≤ max_deadline) × (lower ≤ max_frequency) × (gap ≤ max_frequency) }
     ensures { result ≡ min (length * gap) (load - length * lower) }
 {
-    if load < length * lower {
-        return 0;
-    }
-    let above = load - length * lower;
-    if above < length * gap {
-        above
-    } else {
-        length * gap
-    }
+    let above = load.saturating_sub(length * lower);
+    above.min(length * gap)
 }

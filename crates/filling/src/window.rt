@@ -31,11 +31,9 @@ pub fn fill_jobs(
         shares.old room.old holders.old left.old
         shares.new room.new holders.new left.new }
 {
-    let mut interval = 0;
-    while interval < intervals {
+    for interval in 0..intervals {
         let set = job_sets::leaving(open, intervals, interval);
         fill_set(first, last, set, shares, room, holders, left, jobs);
-        interval += 1;
     }
 }
 
@@ -57,15 +55,15 @@ fn fill_set(
         shares.new room.new holders.new left.new }
 {
     let mut rest = set;
-    while !job_sets::is_empty(rest) {
-        let job = job_sets::least(rest);
+    while !rest.is_empty() {
+        let job = rest.least();
         let turn = Turn {
             job,
             jobs,
             left: left[job],
         };
         left[job] = fill_job(first, last, shares, room, holders, turn);
-        rest = job_sets::without(rest, job);
+        rest = rest.without(job);
     }
 }
 
@@ -110,8 +108,7 @@ fn fill_range(
         shares.new room.new holders.new turn start end result }
 {
     let mut left = turn.left;
-    let mut interval = start;
-    while interval < end {
+    for interval in start..end {
         if left == 0 {
             return left;
         }
@@ -121,7 +118,6 @@ fn fill_range(
             left,
         };
         left = fill_interval(shares, room, holders, rest, interval);
-        interval += 1;
     }
     left
 }
@@ -143,7 +139,7 @@ fn fill_interval(
     if free == 0 {
         return turn.left;
     }
-    let amount = if free < turn.left { free } else { turn.left };
+    let amount = free.min(turn.left);
     put(
         shares,
         holders,

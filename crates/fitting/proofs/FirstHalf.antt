@@ -8,9 +8,12 @@ use Prim.Native.Nat.{ℕ, ◌-◌, ◌<◌, ◌≤◌}
 use native.Mathlib.Omega.{arith}
 use lib.ListN.{length, get_or}
 use borrow.Author.Tests.{not-true, not-false}
+use Rattle.std.specs.Prelude.{Result, Ok, Err}
+use Rattle.model.specs.declared.refusal.Fault.TheVariants.{JobSum}
+use Rattle.model.specs.declared.refusal.Refusal.{Refusal}
 use Rattle.model.specs.declared.Job.{Job}
 use Rattle.model.specs.Limits.{max_intervals, max_jobs, max_bounds}
-use Rattle.model.specs.Outcome.{Outcome, refused, by_entry}
+use Rattle.model.specs.Outcome.{Outcome, by_entry}
 use Rattle.model.specs.Jobs.{job_of}
 use Rattle.model.specs.Processors.{Processor, top_of}
 use Rattle.model.specs.Intervals.{interval_count, is_open}
@@ -22,12 +25,11 @@ use Rattle.model.specs.Accepted.{IsPlan}
 use Rattle.model.proofs.Search.{FirstBelow, first_below_law}
 use Rattle.model.proofs.Outcome.{by_entry_passes, by_entry_stops}
 use Rattle.model.proofs.Steps.{load_of_steps}
+use Rattle.model.proofs.Refusals.{refused_returned}
 use Rattle.model.proofs.Faults.{plan-length}
 use Rattle.model.proofs.FittingHalf.{stepping_answered}
 use Rattle.job_sets.specs.JobSets.{is_member}
 use Rattle.job_sets.specs.IntervalSets.{set_in}
-use Rattle.fitting.specs.declared.Verdict.{Verdict}
-use Rattle.fitting.specs.declared.Verdict.TheVariants.{Passed, Refused}
 use Rattle.fitting.specs.Verdicts.{verdict_of, passed}
 use Rattle.job_records.specs.TestedJobs.{adds_up, TestedBelow, HoldsCycles}
 use Rattle.fitting.specs.Sums.{job_sums, plan_sums, interval_loads, plan_loads}
@@ -82,21 +84,19 @@ module _
       open_has jobs times bounds count tested.opened i j inside (omega arith) (omega arith) (omega arith)
       ∙ sym (open_in bounds times (job_of jobs j) i (omega arith))
 
-  module _ (steps : Verdict) (went : steps ≡ verdict_of (stepping_in sets cycles count bounds plan passed)) where
+  module _ (steps : Result (Unit {0}) Refusal) (went : steps ≡ verdict_of (stepping_in sets cycles count bounds plan passed)) where
     judged : steps ≡ verdict_of (stepping jobs bs plan passed)
     judged =
         let in_arrays : stepping_in sets cycles (length jobs) (length bs) plan passed ≡ stepping_in sets cycles count bounds plan passed =
         rw (counted, length_bounds_in bounds times) in
         went ∙ ap verdict_of (sym (stepping_same jobs bs sets cycles opened held plan passed ∙ in_arrays))
 
-    pub steps_refused : (number place : ℕ) → steps ≡ Refused number place → Refused number place ≡ verdict_of outcome
+    pub steps_refused : (own : Refusal) → steps ≡ Err own → Err own ≡ verdict_of outcome
     unfolding fitting
-    steps_refused number place e =
-        let found : outcome ≡ refused number place =
-        both_refused (stepping jobs bs plan passed) _ (both_stepping jobs bs plan (both_alone tt)) number place (sym judged ∙ e) in
-        ap verdict_of (sym found)
+    steps_refused own e =
+        refused_returned _ (both_refused (stepping jobs bs plan passed) _ (both_stepping jobs bs plan (both_alone tt)) own (sym judged ∙ e))
 
-    module _ (sound : steps ≡ Passed) where
+    module _ (sound : steps ≡ Ok tt) where
       past_steps : outcome ≡ after_steps
       unfolding fitting
       past_steps = both_passed (stepping jobs bs plan passed) _ (both_stepping jobs bs plan (both_alone tt)) (sym judged ∙ sound)
@@ -124,7 +124,7 @@ module _
       adds : (j : ℕ) → j < length jobs → j < summed → job_sum_fault site plan j ≡ 0
       adds j below earlier = fault j below ∙ rw (not-false (adds_up jobs (plan_sums plan) j) (first.before j earlier))
 
-      pub sums_refused : summed < count → Refused 19 summed ≡ verdict_of outcome
+      pub sums_refused : summed < count → Err (record { fault = JobSum; place = summed }) ≡ verdict_of outcome
       sums_refused short =
           let below : summed < length jobs = omega arith in
           let bad : job_sum_fault site plan summed ≡ 19 = fault summed below ∙ rw (not-true (adds_up jobs (plan_sums plan) summed) (first.here below)) in
@@ -142,7 +142,7 @@ module _
         unfolding load_fault
         same_load i below = rw (is-top, load_at plan right jobs is-plan.step_job i (omega arith))
 
-        pub loads_decide : (loads : List ℕ) → loads ≡ plan_loads plan → (last : Verdict) → last ≡ verdict_of (by_entry (bounds - 1) (load_fault_in top bs loads) passed)
+        pub loads_decide : (loads : List ℕ) → loads ≡ plan_loads plan → (last : Result (Unit {0}) Refusal) → last ≡ verdict_of (by_entry (bounds - 1) (load_fault_in top bs loads) passed)
             → last ≡ verdict_of outcome
         loads_decide loads added last found =
             let same : after_sums ≡ by_entry (bounds - 1) (load_fault_in top bs (plan_loads plan)) passed =

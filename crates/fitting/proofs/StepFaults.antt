@@ -11,15 +11,19 @@ use native.Mathlib.Omega.{arith}
 use lib.ListN.{length, get_or}
 use lib.Dec.{ltb, leb, eqb}
 use borrow.Author.Tests.{lt-ltb, le-ltb, lt-leb, le-leb, ltb-true, not-false}
+use Rattle.std.specs.Prelude.{Option, Some, None}
+use Rattle.model.specs.declared.refusal.Fault.{Fault}
 use Rattle.model.specs.declared.Job.{Job}
 use Rattle.model.specs.Limits.{max_intervals, max_jobs, max_bounds}
 use Rattle.model.specs.Outcome.{Outcome, refuse_when}
 use Rattle.model.specs.Jobs.{job_of}
+use Rattle.model.specs.Refusals.{fault_of}
 use Rattle.model.specs.Intervals.{interval_count, is_open}
 use Rattle.model.specs.Steps.{Step, plan_intervals, step_count, step_at, wrong_plan_length}
 use Rattle.model.specs.Checking.{is_open_pair, step_fault, stepping}
 use Rattle.model.proofs.Numbers.{lt_or_le, true_or_false, both_true}
 use Rattle.model.proofs.Steps.{step_cell}
+use Rattle.model.proofs.Refusals.{fault_none}
 use Rattle.model.proofs.Tests.{neither, no_fault}
 use Rattle.walking.specs.declared.steps.Step.{Step as CodeStep}
 use Rattle.walking.specs.Walking.{code_step, model_step}
@@ -113,19 +117,28 @@ module _ (sets cycles : List ℕ) (count bounds : ℕ) where
 
 -- One turn of going through the steps, as the code has it.
 module _
-    (sets cycles : List ℕ) (count bounds : ℕ) (plan : List ℕ) (s : ℕ) (seen : List ℕ) (step : CodeStep) (number : ℕ)
+    (sets cycles : List ℕ) (count bounds : ℕ) (plan : List ℕ) (s : ℕ) (seen : List ℕ) (step : CodeStep) (told : Option Fault)
     (few_jobs : count ≤ max_jobs) (few_bounds : bounds ≤ max_bounds) (filled : SetsHave seen (is_seen plan s)) (decoded : step ≡ code_step (step_at plan s))
-    (found : number ≡ fault_of_step sets cycles count bounds seen (model_step step)) where
-  -- the number found is the step's fault
-  pub turn_fault : number ≡ step_fault_in sets cycles count bounds plan s
-  turn_fault = found ∙ rw decoded (marked_fault sets cycles count bounds plan s seen filled few_bounds few_jobs)
+    (found : told ≡ fault_of (fault_of_step sets cycles count bounds seen (model_step step))) where
+  here : fault_of_step sets cycles count bounds seen (model_step step) ≡ step_fault_in sets cycles count bounds plan s
+  here = rw decoded (marked_fault sets cycles count bounds plan s seen filled few_bounds few_jobs)
+
+  -- what is told is the step's fault
+  pub turn_fault : (own : Fault) → told ≡ Some own → fault_of (step_fault_in sets cycles count bounds plan s) ≡ Some own
+  turn_fault own e = ap fault_of (sym here) ∙ sym found ∙ e
 
   -- a step without fault has a pair, which is marked, and is then among those seen
-  module _ (none : number ≡ 0) where
+  module _ (none : told ≡ None) where
+    no_number : fault_of_step sets cycles count bounds seen (model_step step) ≡ 0
+    no_number = fault_none _ (sym found ∙ none)
+
+    pub turn_sound : step_fault_in sets cycles count bounds plan s ≡ 0
+    turn_sound = sym here ∙ no_number
+
     pub turn_pair : (step.interval < max_intervals) × (step.job < max_jobs) × (length seen ≡ set_words)
     unfolding fault_of_step
     turn_pair =
-        let sound = sound_pair sets cycles count bounds (is_member (set_in seen step.interval) step.job) (model_step step) (sym found ∙ none) in
+        let sound = sound_pair sets cycles count bounds (is_member (set_in seen step.interval) step.job) (model_step step) no_number in
         (omega (arith, sound.0), omega (arith, sound.1), filled.size)
 
     pub turn_marked : (next : List ℕ) → Added seen next step.interval step.job → SetsHave next (is_seen plan (s + 1))

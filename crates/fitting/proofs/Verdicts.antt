@@ -2,36 +2,37 @@
 -- come before whatever is next.
 -- Assumes nothing.
 use mathlib.Core.Path.{◌≡◌, refl, sym, ◌∙◌, ap}
-use mathlib.Core.Bool.{Bool, not}
+use mathlib.Core.Bool.{Bool, true, false, not}
 use mathlib.Core.List.{List}
 use Prim.Native.Nat.{ℕ, zero, suc, ◌+◌, ◌<◌}
 use native.Mathlib.Omega.{arith}
 use lib.Dec.{eqb}
+use Rattle.std.specs.Prelude.{Some, Result, Ok, Err}
 use Rattle.model.specs.declared.Job.{Job}
+use Rattle.model.specs.declared.refusal.Fault.{Fault}
+use Rattle.model.specs.declared.refusal.Refusal.{Refusal}
 use Rattle.model.specs.Outcome.{Outcome, refused, answer, and_then, refuse_when, by_entry_from, by_entry}
 use Rattle.model.specs.Intervals.{interval_count}
 use Rattle.model.specs.Steps.{plan_intervals, wrong_plan_length}
 use Rattle.model.specs.Checking.{stepping}
-use Rattle.model.proofs.Outcome.{by_entry_passes, by_entry_stops, after_test, after-entries}
-use Rattle.fitting.specs.declared.Verdict.{Verdict}
-use Rattle.fitting.specs.declared.Verdict.TheVariants.{Passed, Refused}
+use Rattle.model.specs.Refusals.{fault_of}
+use Rattle.model.proofs.Numbers.{true≢false}
+use Rattle.model.proofs.Outcome.{after_test, after-entries}
+use Rattle.model.proofs.Refusals.{RefusedBy, err≢ok, returned_refused, refused_then, entry_stops, entries_pass}
 use Rattle.fitting.specs.Verdicts.{verdict_of, passed}
 
 -- the first entry with a fault ends the loop
-pub verdict_stops : (count : ℕ) (fault : ℕ → ℕ) (i number : ℕ) → ((k : ℕ) → k < i → fault k ≡ 0) → i < count → number ≡ fault i → (number ≡ 0 → ⊥)
-    → Refused number i ≡ verdict_of (by_entry count fault passed)
-verdict_stops count fault i number sound below here bad =
-    let nonzero : fault i ≡ 0 → ⊥ = λ e. bad (here ∙ e) in
-    let some : 0 < fault i = omega arith in
-    rw (here, by_entry_stops fault passed count i sound below some)
+pub verdict_stops : (count : ℕ) (fault : ℕ → ℕ) (i : ℕ) (own : Fault) → ((k : ℕ) → k < i → fault k ≡ 0) → i < count → fault_of (fault i) ≡ Some own
+    → Err (record { fault = own; place = i }) ≡ verdict_of (by_entry count fault passed)
+verdict_stops count fault i own sound below found = entry_stops _ count fault passed i own sound below found
 
 -- with no fault nothing is wrong
-pub verdict_passes : (count : ℕ) (fault : ℕ → ℕ) → ((k : ℕ) → k < count → fault k ≡ 0) → Passed ≡ verdict_of (by_entry count fault passed)
-verdict_passes count fault sound = rw (by_entry_passes fault passed count sound)
+pub verdict_passes : (count : ℕ) (fault : ℕ → ℕ) → ((k : ℕ) → k < count → fault k ≡ 0) → Ok tt ≡ verdict_of (by_entry count fault passed)
+verdict_passes count fault sound = entries_pass (λ (a : Unit {0}). a) count fault passed sound
 
 -- a refusal does not pass
-pub refused_passes : {A : Type 0} {number place : ℕ} → Refused number place ≡ Passed → A
-refused_passes e = let z : ◌≡◌ {A = ℕ} 0 1 = cc e in absurd (omega arith)
+pub refused_passes : {A : Type 0} → false ≡ true → A
+refused_passes e = absurd (true≢false (sym e))
 
 -- faults that agree give the same outcome
 from_cong : {A : Type 0} (first count : ℕ) (f g : ℕ → ℕ) (next : Outcome A) → ((i : ℕ) → i < first + count → f i ≡ g i)
@@ -72,20 +73,18 @@ module _ {A B : Type 0} {next : Outcome B} where
       (both_entries _ _ both))
 
   -- what the verdict on the first says of both
-  pub both_refused : (first : Outcome A) (all : Outcome B) → Both first next all → (number place : ℕ) → verdict_of first ≡ Refused number place
-      → all ≡ refused number place
-  both_refused (refused n p) all both number place e = both.is ∙ cc e
-  both_refused (answer a) all both number place e = cc e
+  pub both_refused : (first : Outcome A) (all : Outcome B) → Both first next all → (own : Refusal) → verdict_of first ≡ Err own → RefusedBy all own
+  both_refused first all both own e = rw both.is (refused_then (λ _. next) (returned_refused _ first own e))
 
-  pub both_passed : (first : Outcome A) (all : Outcome B) → Both first next all → verdict_of first ≡ Passed → all ≡ next
-  both_passed (refused n p) all both e = cc e
+  pub both_passed : (first : Outcome A) (all : Outcome B) → Both first next all → verdict_of first ≡ Ok tt → all ≡ next
+  both_passed (refused n p) all both e = absurd (err≢ok e)
   both_passed (answer a) all both e = both.is
 
 -- what a verdict on entries says of them and whatever is next
-module _ {B : Type 0} (next : Outcome B) (count : ℕ) (fault : ℕ → ℕ) (verdict : Verdict)
+module _ {B : Type 0} (next : Outcome B) (count : ℕ) (fault : ℕ → ℕ) (verdict : Result (Unit {0}) Refusal)
     (found : verdict ≡ verdict_of (by_entry count fault passed)) where
-  pub entries_refused : (number place : ℕ) → verdict ≡ Refused number place → by_entry count fault next ≡ refused number place
-  entries_refused number place e = both_refused (by_entry count fault passed) _ (both_entries count fault (both_alone tt)) number place (sym found ∙ e)
+  pub entries_refused : (own : Refusal) → verdict ≡ Err own → RefusedBy (by_entry count fault next) own
+  entries_refused own e = both_refused (by_entry count fault passed) _ (both_entries count fault (both_alone tt)) own (sym found ∙ e)
 
-  pub entries_passed : verdict ≡ Passed → by_entry count fault next ≡ next
+  pub entries_passed : verdict ≡ Ok tt → by_entry count fault next ≡ next
   entries_passed e = both_passed (by_entry count fault passed) _ (both_entries count fault (both_alone tt)) (sym found ∙ e)

@@ -1,5 +1,6 @@
 -- The first half of the check over plain arrays.
-use Rattle.std.specs.Prelude.{ℕ, ◌-◌, ◌*◌, ◌≡◌, Bool, not, cond, ◌||◌, ◌&&◌, List, length, get_or, ltb, leb, eqb}
+use Rattle.std.specs.Prelude.{ℕ, ◌-◌, ◌*◌, ◌≡◌, Bool, not, cond, ◌||◌, ◌&&◌, List, length, get_or, ltb, leb, eqb, Result, IsOk}
+use Rattle.model.specs.declared.refusal.Refusal.{Refusal}
 use Rattle.model.specs.declared.Job.{Job}
 use Rattle.model.specs.Outcome.{Outcome, refuse_when, by_entry}
 use Rattle.model.specs.Entries.{list_of}
@@ -9,8 +10,6 @@ use Rattle.model.specs.Intervals.{length_of}
 use Rattle.model.specs.Sites.{Site}
 use Rattle.model.specs.Steps.{Step, plan_intervals, step_count, cell_at, step_at, wrong_plan_length}
 use Rattle.model.specs.Checking.{fitting}
-use Rattle.fitting.specs.declared.Verdict.{Verdict}
-use Rattle.fitting.specs.declared.Verdict.TheVariants.{Passed}
 use Rattle.fitting.specs.Verdicts.{verdict_of, passed}
 use Rattle.job_sets.specs.JobSets.{is_member}
 use Rattle.job_sets.specs.IntervalSets.{set_in}
@@ -62,8 +61,8 @@ load_fault_in top bounds loads i = cond (leb (get_or loads i 0) (length_of bound
 
 -- What the first half answers of jobs and a plan, and what it fills: the open sets of the intervals, their loads and, where it
 -- passes, the cells of the steps.
-pub record Fitted (top : ℕ) (jobs : List Job) (times : List ℕ) (bounds : ℕ) (plan : List ℕ) (verdict : Verdict) (sets loads cells : List ℕ) : Type 0 where
+pub record Fitted (top : ℕ) (jobs : List Job) (times : List ℕ) (bounds : ℕ) (plan : List ℕ) (verdict : Result (Unit {0}) Refusal) (sets loads cells : List ℕ) : Type 0 where
   pub judged : (processor : Processor) → top_of processor ≡ top → verdict ≡ verdict_of (fitting (site_in processor jobs times bounds) plan passed)
   pub opened : SetsHave sets (open_below jobs (length jobs) times bounds)
   pub added : loads ≡ plan_loads plan
-  pub seen : verdict ≡ Passed → CellsSeen plan cells
+  pub seen : IsOk verdict → CellsSeen plan cells

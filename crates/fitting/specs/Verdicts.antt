@@ -1,12 +1,12 @@
--- The enum's case for what a half of the check finds, and for going through steps, jobs or intervals.
-use Rattle.model.specs.Outcome.{Outcome, refused, answer}
-use Rattle.fitting.specs.declared.Verdict.{Verdict}
-use Rattle.fitting.specs.declared.Verdict.TheVariants.{Passed, Refused}
+-- What a half of the check returns, and for going through steps, jobs or intervals: nothing where all is right, or the refusal.
+use Rattle.std.specs.Prelude.{Result}
+use Rattle.model.specs.declared.refusal.Refusal.{Refusal}
+use Rattle.model.specs.Outcome.{Outcome, answer}
+use Rattle.model.specs.Refusals.{returned_by}
 
--- That nothing is wrong, or the refusal's number and place.
-abbrev pub verdict_of : {A : Type 0} → Outcome A → Verdict
-verdict_of (refused number place) = Refused number place
-verdict_of (answer a) = Passed
+-- That nothing is wrong, or the refusal.
+abbrev pub verdict_of : {A : Type 0} → Outcome A → Result (Unit {0}) Refusal
+verdict_of outcome = returned_by (λ a. tt) outcome
 
 -- Nothing comes next.
 abbrev pub passed : Outcome (Unit {0})

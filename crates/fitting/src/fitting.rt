@@ -1,5 +1,5 @@
 // The first half of the check, refusals 15 to 20: the plan fits the jobs.
-ghost use Rattle.std.specs.Prelude.{◌≡◌, ◌-◌, ◌≤◌, List, length, replicate};
+ghost use Rattle.std.specs.Prelude.{IsOk, ◌≡◌, ◌-◌, ◌≤◌, List, length, replicate};
 ghost use Rattle.model.specs.declared.Job.{Job};
 ghost use Rattle.model.specs.Limits.{max_frequency, max_jobs, max_intervals};
 ghost use Rattle.model.specs.Outcome.{by_entry};
@@ -7,7 +7,6 @@ ghost use Rattle.model.specs.Processors.{Processor, top_of};
 ghost use Rattle.model.specs.Checking.{fitting};
 ghost use Rattle.job_tables.specs.Tables.{jobs_in};
 ghost use Rattle.intervals.specs.Times.{SmallBounds};
-ghost use Rattle.fitting.specs.declared.Verdict.TheVariants.{Passed};
 ghost use Rattle.fitting.specs.Verdicts.{verdict_of, passed};
 ghost use Rattle.job_records.specs.SetsHave.{NoJobs};
 ghost use Rattle.fitting.specs.SeenCells.{CellsSeen};
@@ -15,12 +14,12 @@ ghost use Rattle.job_records.specs.TestedJobs.{TestedBelow, HoldsCycles};
 ghost use Rattle.fitting.specs.Sums.{plan_sums, plan_loads};
 ghost use Rattle.fitting.specs.FirstHalf.{bounds_in, site_in, load_fault_in, Fitted};
 
-use crate::Verdict;
 use crate::cells::check_steps;
 use crate::sums::add_plan;
+use intervals::interval_count;
 use job_records::{job_records, lend_jobs};
 use job_sets::SET_WORDS;
-use model::{MAX_BOUNDS, MAX_INTERVALS, MAX_JOBS};
+use model::{Fault, MAX_BOUNDS, MAX_INTERVALS, MAX_JOBS, Refusal};
 
 // Checks a plan against jobs that stand in three arrays, and their bounds. Fills the open sets of the intervals, the loads
 // that the plan's steps make and, where the plan passes, the cells of its steps; what a refused plan leaves in those is free. The
@@ -37,7 +36,7 @@ pub fn fit(
     sets: &mut [u64; SET_WORDS],
     loads: &mut [u64; MAX_INTERVALS],
     cells: &mut [u64; SET_WORDS],
-) -> Verdict
+) -> Result<(), Refusal>
     requires top_le_max_frequency { (top ≤ max_frequency) × (count ≤ max_jobs) × SmallBounds bounds times.now }
     requires no_jobs { NoJobs sets.old × (loads.old ≡ replicate max_intervals 0) × NoJobs cells.old }
     ensures { Fitted top (jobs_in count releases.now deadlines.now cycles.now) times.now bounds plan.now result sets.new loads.new cells.new }
@@ -63,20 +62,14 @@ fn check_plan(
     plan: &[u8],
     loads: &[u64; MAX_INTERVALS],
     cells: &mut [u64; SET_WORDS],
-) -> Verdict
+) -> Result<(), Refusal>
     requires { (top ≤ max_frequency) × (count ≤ max_jobs) × SmallBounds bounds times.now × (loads.now ≡ plan_loads plan.now) × NoJobs cells.old }
     ensures value { (processor : Processor) (jobs : List Job) → top_of processor ≡ top → length jobs ≡ count → TestedBelow jobs count times.now bounds (plan_sums plan.now) sets.now summed → HoldsCycles jobs cycles.now → result ≡ verdict_of (fitting (site_in processor jobs times.now bounds) plan.now passed) }
-    ensures cells_seen { result ≡ Passed → CellsSeen plan.now cells.new }
+    ensures cells_seen { IsOk result → CellsSeen plan.now cells.new }
 {
-    let steps = check_steps(sets, cycles, count, bounds, plan, cells);
-    if let Verdict::Refused { number, place } = steps {
-        return Verdict::Refused { number, place };
-    }
+    check_steps(sets, cycles, count, bounds, plan, cells)?;
     if summed < count {
-        return Verdict::Refused {
-            number: 19,
-            place: summed as u32,
-        };
+        return Err(Fault::JobSum.at(summed as u32));
     }
     check_loads(top, times, bounds, loads)
 }
@@ -87,19 +80,14 @@ fn check_loads(
     times: &[u64; MAX_BOUNDS],
     bounds: usize,
     loads: &[u64; MAX_INTERVALS],
-) -> Verdict
+) -> Result<(), Refusal>
     requires { (top ≤ max_frequency) × SmallBounds bounds times.now }
     ensures { result ≡ verdict_of (by_entry (bounds - 1) (load_fault_in top (bounds_in bounds times.now) loads.now) passed) }
 {
-    let mut i = 0;
-    while i + 1 < bounds {
+    for i in 0..interval_count(bounds) {
         if loads[i] > (times[i + 1] - times[i]) * top {
-            return Verdict::Refused {
-                number: 20,
-                place: i as u32,
-            };
+            return Err(Fault::IntervalLoad.at(i as u32));
         }
-        i += 1;
     }
-    Verdict::Passed
+    Ok(())
 }

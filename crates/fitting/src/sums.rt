@@ -24,9 +24,7 @@ fn add_steps(plan: &[u8], sums: &mut [u64; MAX_JOBS], loads: &mut [u64; MAX_INTE
     requires sums_value { (sums.old ≡ replicate max_jobs 0) × (loads.old ≡ replicate max_intervals 0) }
     ensures { (sums.new ≡ job_sums plan.now) × (loads.new ≡ interval_loads plan.now) }
 {
-    let count = step_count(plan);
-    let mut s = 0;
-    while s < count {
+    for s in 0..step_count(plan) {
         let step = decode_step(plan, s);
         let job = step.job;
         let interval = step.interval;
@@ -34,6 +32,5 @@ fn add_steps(plan: &[u8], sums: &mut [u64; MAX_JOBS], loads: &mut [u64; MAX_INTE
         if interval < MAX_INTERVALS {
             loads[interval] += step.cycles;
         }
-        s += 1;
     }
 }

@@ -18,9 +18,7 @@ pub fn open_sets(
     requires by_index { (j : ℕ) → j < jobs → (get_or first.now j 0 ≤ max_intervals) × (get_or last.now j 0 ≤ max_intervals) }
     ensures { sets.new ≡ open_sets jobs first.now last.now }
 {
-    let mut j = 0;
-    while j < jobs {
+    for j in 0..jobs {
         add_range(sets, first[j] as usize, last[j] as usize, j);
-        j += 1;
     }
 }

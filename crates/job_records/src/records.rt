@@ -28,14 +28,12 @@ pub fn job_records(
         cycles: 0,
     };
     let mut jobs = [none; MAX_JOBS];
-    let mut j = 0;
-    while j < count {
+    for j in 0..count {
         jobs[j] = Job {
             release: releases[j],
             deadline: deadlines[j],
             cycles: cycles[j],
         };
-        j += 1;
     }
     jobs
 }
@@ -68,10 +66,8 @@ fn test_jobs<'j, 'a, 's>(
     ensures { TestedBelow jobs.now (length jobs.now) times.now bounds sums.now sets.new result }
 {
     let mut summed = 0;
-    let mut j = 0;
-    while j < jobs.len() {
-        summed = test_job(summed, j, jobs[j], times, bounds, sums, sets);
-        j += 1;
+    for (j, job) in jobs.iter().enumerate() {
+        summed = test_job(summed, j, *job, times, bounds, sums, sets);
     }
     summed
 }

@@ -10,6 +10,7 @@ use native.Mathlib.Omega.{arith}
 use lib.ListN.{length, get_or, set, length-set}
 use lib.Seq.{get_or-set_same, get_or-set_other}
 use Rattle.model.specs.Limits.{max_bounds}
+use Rattle.model.proofs.Numbers.{lt_or_le}
 use Rattle.job_rooms.specs.Spares.{CanLower, spare_to, Lowered, LeastAmong}
 
 -- The least of the numbers from a place up to, not including, another.
@@ -28,7 +29,7 @@ module _ (numbers : List ℕ) (first : ℕ) where
       }
 
   module _ (next least : ℕ) (so_far : LeastSoFar numbers first next least) where
-    -- one number more, which is less or is not
+    -- one number more
     step : (least' : ℕ) → least' ≤ least → least' ≤ get_or numbers next 0
         → (i : ℕ) × (first ≤ i) × (i < next + 1) × (get_or numbers i 0 ≡ least') → LeastSoFar numbers first (next + 1) least'
     step least' low here met = record { past = omega (arith, so_far.past); lowest = λ i from to. each i from to (lt_or_eq i to); met = met }
@@ -44,14 +45,13 @@ module _ (numbers : List ℕ) (first : ℕ) where
         each i from to (inl before) = omega (arith, so_far.lowest i from before)
         each i from to (inr same) = rw same here
 
-    pub so_far_lower : (value : ℕ) → value ≡ get_or numbers next 0 → value < least → LeastSoFar numbers first (next + 1) value
-    so_far_lower value is less =
-        step value (omega arith) (omega (arith, is)) (next, omega (arith, so_far.past), omega arith, sym is)
-
-    pub so_far_kept : least ≤ get_or numbers next 0 → LeastSoFar numbers first (next + 1) least
-    so_far_kept more =
-        let (i, from, to, is) = so_far.met in
-        step least (omega arith) more (i, from, omega arith, is)
+    pub so_far_next : LeastSoFar numbers first (next + 1) (min least (get_or numbers next 0))
+    so_far_next = step (min least (get_or numbers next 0)) (omega arith) (omega arith) (which (lt_or_le (get_or numbers next 0) least))
+      where
+        which : (get_or numbers next 0 < least) ⊎ (least ≤ get_or numbers next 0)
+            → (i : ℕ) × (first ≤ i) × (i < next + 1) × (get_or numbers i 0 ≡ min least (get_or numbers next 0))
+        which (inl less) = (next, omega (arith, so_far.past), omega arith, omega arith)
+        which (inr more) = let (i, from, to, is) = so_far.met in (i, from, omega arith, omega (arith, is))
 
     pub so_far_done : (last : ℕ) → next ≡ last + 1 → LeastAmong numbers first last least
     so_far_done last done =

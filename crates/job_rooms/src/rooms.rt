@@ -41,17 +41,15 @@ pub fn job_rooms(
     let mut spares = [u32::MAX; MAX_BOUNDS];
     capacities(times, intervals, top, &mut capacity);
     add_due(last, cycles, count, &mut due);
-    let mut from = job_sets::all();
-    let mut start = 0;
-    while start < intervals {
+    let mut from = JobSet::all();
+    for start in 0..intervals {
         let here = job_sets::set_at(sets, start);
-        let released = job_sets::both(here, from);
-        if !job_sets::is_empty(released) {
+        let released = here.both(from);
+        if !released.is_empty() {
             lower_spares(&capacity, &due, intervals, start, &mut spares);
             settle_rooms(released, last, cycles, intervals, &spares, &mut due, rooms);
         }
-        from = job_sets::less(from, here);
-        start += 1;
+        from = from.less(here);
     }
 }
 
@@ -71,11 +69,11 @@ fn settle_rooms(
         due.old rooms.old due.new rooms.new }
 {
     let mut rest = released;
-    while !job_sets::is_empty(rest) {
-        let job = job_sets::least(rest);
+    while !rest.is_empty() {
+        let job = rest.least();
         let end = last[job] as usize;
         rooms[job] = least_among(spares, end, intervals) as u64;
         due[end] -= cycles[job] as u32;
-        rest = job_sets::without(rest, job);
+        rest = rest.without(job);
     }
 }

@@ -1,5 +1,5 @@
 // The least spares of windows by their end, as the start moves on.
-ghost use Rattle.std.specs.Prelude.{◌≡◌, ℕ, ◌*◌, ◌^◌, ◌<◌, ◌≤◌, min, length, get_or};
+ghost use Rattle.std.specs.Prelude.{◌≡◌, ℕ, ◌*◌, ◌^◌, ◌<◌, ◌≤◌, length, get_or};
 ghost use Rattle.model.specs.Limits.{max_intervals, max_bounds};
 ghost use Rattle.job_rooms.specs.Spares.{CanLower, Lowered, LeastAmong};
 
@@ -15,10 +15,9 @@ pub(crate) fn capacities(
     requires { (intervals ≤ max_intervals) × (length capacity.old ≡ max_bounds) × ((i : ℕ) → i ≤ intervals → get_or times.now i 0 * top < 2 ^ 32) }
     ensures { (i : ℕ) → i ≤ intervals → get_or capacity.new i 0 ≡ get_or times.now i 0 * top }
 {
-    let mut i = 0;
-    while i <= intervals {
+    // no zip: after one of iter_mut nothing is known of what was written
+    for i in 0..=intervals {
         capacity[i] = (times[i] * top) as u32;
-        i += 1;
     }
 }
 
@@ -38,19 +37,10 @@ pub(crate) fn lower_spares(
         → Lowered need capacity.now intervals start spares.old spares.new }
 {
     let mut sum = capacity[start];
-    let mut end = start + 1;
-    while end <= intervals {
+    for end in start + 1..=intervals {
         sum += due[end];
-        spares[end] = smaller(spares[end], capacity[end] - sum);
-        end += 1;
+        spares[end] = spares[end].min(capacity[end] - sum);
     }
-}
-
-// The smaller of two numbers.
-fn smaller(a: u32, b: u32) -> u32
-    ensures { result ≡ min a b }
-{
-    if a < b { a } else { b }
 }
 
 // The least of some numbers of an array, from one place up to another, this one with them.
@@ -59,12 +49,8 @@ pub(crate) fn least_among(numbers: &[u32; MAX_BOUNDS], first: usize, last: usize
     ensures { LeastAmong numbers.now first last result }
 {
     let mut least = numbers[first];
-    let mut i = first + 1;
-    while i <= last {
-        if numbers[i] < least {
-            least = numbers[i];
-        }
-        i += 1;
+    for &number in &numbers[first + 1..=last] {
+        least = least.min(number);
     }
     least
 }

@@ -5,7 +5,6 @@ ghost use Rattle.model.specs.Sum.{sum};
 ghost use Rattle.job_sets.specs.JobSets.{is_member, member_count};
 ghost use Rattle.job_sets.specs.IntervalSets.{set_words, set_in, leaving_set, Added, AddedRange, Removed};
 
-use crate::members::{count, has, less, with, without};
 use crate::{JobSet, SET_WORDS};
 
 // The set of an interval.
@@ -23,7 +22,7 @@ pub fn holds(sets: &[u64; SET_WORDS], interval: usize, job: usize) -> bool
     requires { (interval < max_intervals) × (job < max_jobs) }
     ensures { result ≡ is_member (set_in sets.now interval) job }
 {
-    has(set_at(sets, interval), job)
+    set_at(sets, interval).has(job)
 }
 
 // Adds a job to the set of an interval, which may have it already.
@@ -31,7 +30,7 @@ pub fn add(sets: &mut [u64; SET_WORDS], interval: usize, job: usize)
     requires { (interval < max_intervals) × (job < max_jobs) × (length sets.old ≡ set_words) }
     ensures { Added sets.old sets.new interval job }
 {
-    let set = with(set_at(sets, interval), job);
+    let set = set_at(sets, interval).with(job);
     sets[interval] = set.word;
 }
 
@@ -40,10 +39,8 @@ pub fn add_range(sets: &mut [u64; SET_WORDS], first: usize, end: usize, job: usi
     requires { (end ≤ max_intervals) × (job < max_jobs) × (length sets.old ≡ set_words) }
     ensures { AddedRange sets.old sets.new first end job }
 {
-    let mut i = first;
-    while i < end {
+    for i in first..end {
         add(sets, i, job);
-        i += 1;
     }
 }
 
@@ -52,7 +49,7 @@ pub fn remove(sets: &mut [u64; SET_WORDS], interval: usize, job: usize)
     requires { (interval < max_intervals) × (job < max_jobs) × (length sets.old ≡ set_words) }
     ensures { Removed sets.old sets.new interval job }
 {
-    let set = without(set_at(sets, interval), job);
+    let set = set_at(sets, interval).without(job);
     sets[interval] = set.word;
 }
 
@@ -63,7 +60,7 @@ pub fn leaving(sets: &[u64; SET_WORDS], intervals: usize, interval: usize) -> Jo
 {
     let here = set_at(sets, interval);
     if interval + 1 < intervals {
-        return less(here, set_at(sets, interval + 1));
+        return here.less(set_at(sets, interval + 1));
     }
     here
 }
@@ -74,10 +71,8 @@ pub fn count_all(sets: &[u64; SET_WORDS], intervals: usize) -> usize
     ensures { result ≡ sum intervals (λ i. member_count (set_in sets.now i)) }
 {
     let mut members = 0;
-    let mut i = 0;
-    while i < intervals {
-        members += count(set_at(sets, i));
-        i += 1;
+    for i in 0..intervals {
+        members += set_at(sets, i).count();
     }
     members
 }

@@ -5,9 +5,6 @@ mod by_interval;
 mod members;
 
 pub use by_interval::{add, add_range, count_all, holds, leaving, remove, set_at};
-pub use members::{
-    all, both, count, count_below, either, has, is_empty, least, less, none, with, without,
-};
 use model::MAX_INTERVALS;
 
 // The members are the jobs whose bit is set, bit number equal to job number.

@@ -7,32 +7,31 @@ use Prim.Native.Nat.{ℕ, ◌+◌, ◌*◌, ◌<◌, ◌≤◌}
 use native.Mathlib.Omega.{arith}
 use lib.ListN.{length}
 use borrow.Author.Tests.{lt-ltb, le-ltb, eq-eqb, ne_eqb}
+use Rattle.std.specs.Prelude.{Result, Ok, Err}
+use Rattle.model.specs.declared.refusal.Refusal.{Refusal}
 use Rattle.model.specs.declared.Job.{Job}
 use Rattle.model.specs.Limits.{max_jobs}
 use Rattle.model.specs.Bytes.{number32}
 use Rattle.model.specs.Outcome.{Outcome, refused, answer, by_entry}
+use Rattle.model.specs.Refusals.{refusal}
 use Rattle.model.specs.Jobs.{no_job, job_count, job_at, job_entries, job_fault, read_jobs}
 use Rattle.model.proofs.Entries.{length_list_of, list_of_cong}
-use Rattle.reading.specs.declared.Reading.{Reading}
-use Rattle.reading.specs.declared.Reading.TheVariants.{Entries, Refused}
+use Rattle.model.proofs.Refusals.{err≢ok, returned_refused, returned_answered, refused_returned}
 use Rattle.reading.specs.Column.{column_of}
-use Rattle.reading.specs.Tables.{reading_of}
+use Rattle.reading.specs.Tables.{returned_count}
 use Rattle.reading.proofs.Column.{column_at, column_of_entries}
-use Rattle.reading.proofs.ByEntry.{entries≢refused, reading_refused, reading_answered}
-use Rattle.job_tables.specs.declared.jobs.JobTable.{JobTable}
+use Rattle.reading.proofs.ByEntry.{reading_answered}
 use Rattle.job_tables.specs.Tables.{jobs_in, job_table, checked_jobs, DecodedJobs}
 
 -- a refusal, whatever the arrays hold
 pub decoded_refused : {outcome : Outcome (List Job)} {releases deadlines cycles : List ℕ} (number place : ℕ)
-    → refused number place ≡ outcome → DecodedJobs outcome (Refused number place) releases deadlines cycles
-decoded_refused number place e = record { told = ap reading_of e; held = λ n told. absurd (entries≢refused (sym told)) }
+    → refused number place ≡ outcome → DecodedJobs outcome (Err (refusal number place)) releases deadlines cycles
+decoded_refused number place e = record { told = ap returned_count e; held = λ n told. absurd (err≢ok told) }
 
 -- a table that is refused is the whole answer, whatever the arrays hold
-pub decoded_table : {outcome : Outcome (List Job)} {reading : Reading} {releases deadlines cycles : List ℕ}
-    → DecodedJobs outcome reading releases deadlines cycles → (number place : ℕ) → reading ≡ Refused number place
-    → (table : JobTable) → table ≡ job_table (refused number place) → table ≡ job_table outcome
-decoded_table {outcome} decoded number place e table is =
-    is ∙ ap job_table (sym (reading_refused outcome number place (sym decoded.told ∙ e)))
+pub decoded_table : {outcome : Outcome (List Job)} {result : Result ℕ Refusal} {releases deadlines cycles : List ℕ}
+    → DecodedJobs outcome result releases deadlines cycles → (own : Refusal) → result ≡ Err own → Err own ≡ job_table outcome
+decoded_table {outcome} decoded own e = refused_returned _ (returned_refused length outcome own (sym decoded.told ∙ e))
 
 module _ (bytes : List ℕ) where
   abbrev release_column : List ℕ
@@ -60,12 +59,15 @@ module _ (bytes : List ℕ) where
       (λ j below. let inside : j < max_jobs = omega arith in rw (column_at, column_at, column_at, deadline_at))
 
   -- where the entries are answered, the arrays stand beside their number as they were filled
-  jobs_answered : (n : ℕ) → reading_of checked ≡ Entries n
-      → record { reading = reading_of checked; releases = release_column; deadlines = deadline_column; cycles = cycles_column } ≡ job_table checked
+  jobs_answered : (n : ℕ) → returned_count checked ≡ Ok n
+      → Ok (record { count = n; releases = release_column; deadlines = deadline_column; cycles = cycles_column }) ≡ job_table checked
   unfolding job_at
   jobs_answered n e =
       let whole : checked ≡ answer (job_entries bytes) = reading_answered _ _ _ n e in
+      let (jobs, answered, counted) = returned_answered length checked n e in
+      let all : length (job_entries bytes) ≡ n = cc in
       rw (
+        ← all,
         whole,
         column_of_entries max_jobs (job_count bytes) (job_at bytes) no_job (λ job. job.release) _ (λ j. refl),
         column_of_entries max_jobs (job_count bytes) (job_at bytes) no_job (λ job. job.deadline) _ deadline_at,
@@ -93,20 +95,20 @@ module _ (bytes : List ℕ) where
       jobs_whole whole = rw (le-ltb _ _ long, le-ltb _ _ few, eq-eqb _ _ whole)
 
   -- what was filled and found, as the code has it
-  module _ (count : ℕ) (releases deadlines cycles : List ℕ) (reading : Reading)
+  module _ (count : ℕ) (releases deadlines cycles : List ℕ) (result : Result ℕ Refusal)
       (counted : count ≡ job_count bytes)
       (few : count ≤ max_jobs)
       (first : releases ≡ column_of max_jobs count (λ j. number32 bytes (2 + 8 * j)))
       (second : deadlines ≡ column_of max_jobs count (λ j. number32 bytes (6 + 8 * j)))
       (third : cycles ≡ column_of max_jobs count (λ j. number32 bytes (2 + 8 * count + 4 * j)))
-      (found : reading ≡ reading_of (checked_jobs count releases deadlines cycles)) where
-    found_checked : reading ≡ reading_of checked
+      (found : result ≡ returned_count (checked_jobs count releases deadlines cycles)) where
+    found_checked : result ≡ returned_count checked
     found_checked = found ∙ rw (first, second, third, counted, jobs_decoded (rw counted at few))
 
-    pub jobs_decoded_whole : 2 ≤ length bytes → length bytes ≡ 2 + 12 * count → DecodedJobs (read_jobs bytes) reading releases deadlines cycles
+    pub jobs_decoded_whole : 2 ≤ length bytes → length bytes ≡ 2 + 12 * count → DecodedJobs (read_jobs bytes) result releases deadlines cycles
     jobs_decoded_whole long whole =
         rw (← jobs_whole long (rw counted at few) (rw counted at whole))
         (record {
           told = found_checked;
-          held = λ n e. rw (found_checked, first, second, third, counted) (jobs_answered n (sym found_checked ∙ e));
+          held = λ n e. rw (first, second, third, counted) (jobs_answered n (sym found_checked ∙ e));
         })

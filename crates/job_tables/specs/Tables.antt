@@ -1,32 +1,31 @@
--- What reading jobs answers, for each outcome: the enum's case, and the entries in plain arrays beside it.
-use Rattle.std.specs.Prelude.{ℕ, ◌≡◌, List, length, get_or}
+-- What reading jobs answers, for each outcome: the entries in plain arrays, or the refusal.
+use Rattle.std.specs.Prelude.{ℕ, ◌≡◌, List, length, get_or, Result, Ok}
+use Rattle.model.specs.declared.refusal.Refusal.{Refusal}
 use Rattle.model.specs.declared.Job.{Job}
 use Rattle.model.specs.Limits.{max_jobs}
+use Rattle.model.specs.Refusals.{returned_by}
 use Rattle.model.specs.Outcome.{Outcome, answer, by_entry}
 use Rattle.model.specs.Entries.{list_of}
 use Rattle.model.specs.Jobs.{job_of, job_fault}
-use Rattle.reading.specs.declared.Reading.{Reading}
-use Rattle.reading.specs.declared.Reading.TheVariants.{Entries}
 use Rattle.reading.specs.Column.{column_of}
-use Rattle.reading.specs.Tables.{reading_of, entries_of}
+use Rattle.reading.specs.Tables.{returned_count}
 use Rattle.job_tables.specs.declared.jobs.JobTable.{JobTable}
 
--- The whole answer of reading jobs: releases, deadlines and cycles of the entries, zeros after them.
-abbrev pub job_table : Outcome (List Job) → JobTable
+-- The whole answer of reading jobs: releases, deadlines and cycles of the entries, zeros after them; or the refusal.
+abbrev pub job_table : Outcome (List Job) → Result JobTable Refusal
 job_table outcome =
-    let jobs : List Job = entries_of outcome in
-    record {
-      reading = reading_of outcome;
+    returned_by (λ jobs. record {
+      count = length jobs;
       releases = column_of max_jobs (length jobs) (λ j. (job_of jobs j).release);
       deadlines = column_of max_jobs (length jobs) (λ j. (job_of jobs j).deadline);
       cycles = column_of max_jobs (length jobs) (λ j. (job_of jobs j).cycles);
-    }
+    }) outcome
 
--- Jobs decoded into three arrays: the enum's case and, where the table is read, the entries' columns.
-pub record DecodedJobs (outcome : Outcome (List Job)) (reading : Reading) (releases deadlines cycles : List ℕ) : Type 0 where
-  pub told : reading ≡ reading_of outcome
-  pub held : (count : ℕ) → reading ≡ Entries count
-      → record { reading = reading; releases = releases; deadlines = deadlines; cycles = cycles } ≡ job_table outcome
+-- Jobs decoded into three arrays: how many there are and, where the table is read, the entries' columns.
+pub record DecodedJobs (outcome : Outcome (List Job)) (result : Result ℕ Refusal) (releases deadlines cycles : List ℕ) : Type 0 where
+  pub told : result ≡ returned_count outcome
+  pub held : (count : ℕ) → result ≡ Ok count
+      → Ok (record { count = count; releases = releases; deadlines = deadlines; cycles = cycles }) ≡ job_table outcome
 
 -- The jobs that stand in three arrays, the first `count` of them.
 unfoldable pub jobs_in : (count : ℕ) → (releases deadlines cycles : List ℕ) → List Job

@@ -1,11 +1,11 @@
--- A job table that is written part by part: its windows, and the whole table.
+-- A job table that is written part by part: its windows, its cycles, and the whole table.
 -- Assumes nothing.
-use mathlib.Core.Path.{◌≡◌, refl}
+use mathlib.Core.Path.{◌≡◌, refl, ap}
 use mathlib.Core.List.{List, ◌++◌, append_assoc}
 use Prim.Native.Nat.{ℕ, zero, suc, ◌+◌, ◌*◌, ◌<◌, ◌≤◌}
 use native.Mathlib.Omega.{arith}
-use lib.ListN.{length, drop, get_or, length-append}
-use lib.Seq.{sets}
+use lib.ListN.{length, take, drop, get_or, length-append, length-take}
+use lib.Seq.{sets, get_or-take}
 use Rattle.model.specs.declared.Job.{Job}
 use Rattle.model.specs.Bytes.{bytes16, bytes32}
 use Rattle.model.specs.Entries.{list_of, encode_each}
@@ -17,7 +17,7 @@ use Rattle.job_tables.specs.Tables.{jobs_in}
 use Rattle.job_tables.proofs.Read.{length_jobs_in}
 use Rattle.job_writing.specs.JobBytes.{window_bytes, job_cycle_bytes}
 use Rattle.writing.proofs.Stores.{sets_after, sets_front}
-use Rattle.writing.proofs.NumberStores.{numbers_none, length_numbers, numbers_next, numbers_whole}
+use Rattle.writing.proofs.NumberStores.{numbers_none, length_numbers, numbers_next, numbers_whole, listed_by_place}
 
 -- a window in bytes, and its size
 abbrev window : (releases deadlines : List ℕ) → ℕ → List ℕ
@@ -61,6 +61,12 @@ unfolding encode_each list_of
 same_bytes encode other zero f g same = refl
 same_bytes encode other (suc n) f g same =
     rw (same 0 (omega arith), same_bytes encode other n (λ i. f (suc i)) (λ i. g (suc i)) (λ i below. same (suc i) (omega arith)))
+
+-- the cycles that are written are those of the first jobs
+pub cycles_are : (cycles : List ℕ) (count : ℕ) → count ≤ length cycles → encode_each bytes32 (take count cycles) ≡ job_cycle_bytes count cycles
+cycles_are cycles count long =
+    ap (encode_each bytes32)
+    (listed_by_place (take count cycles) count _ (omega (arith, length-take count cycles)) (λ i below. get_or-take count cycles i 0 below))
 
 module _ (count : ℕ) (releases deadlines cycles : List ℕ) where
   length_windows : length (window_bytes count releases deadlines) ≡ 8 * count

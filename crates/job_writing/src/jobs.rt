@@ -4,10 +4,10 @@ ghost use Rattle.std.proofs.lemmas.List.Edits.{sets};
 ghost use Rattle.model.specs.Limits.{max_jobs};
 ghost use Rattle.model.specs.Jobs.{encode_jobs};
 ghost use Rattle.job_tables.specs.Tables.{jobs_in};
-ghost use Rattle.job_writing.specs.JobBytes.{window_bytes, job_cycle_bytes};
+ghost use Rattle.job_writing.specs.JobBytes.{window_bytes};
 
 use model::MAX_JOBS;
-use writing::{put16, put32};
+use writing::{put_column, put16, put32};
 
 // Writes the table of the first `count` jobs that stand in the arrays at the start of the buffer.
 pub fn write_jobs(
@@ -22,7 +22,7 @@ pub fn write_jobs(
 {
     put16(out, 0, count as u64);
     write_windows(releases, deadlines, count, out);
-    write_cycles(cycles, count, out);
+    put_column(out, 2 + 8 * count, &cycles[..count]);
 }
 
 // Writes the windows of the jobs after the count.
@@ -35,22 +35,8 @@ fn write_windows(
     requires { (count ≤ max_jobs) × (2 + 8 * count ≤ length out.old) }
     ensures { out.new ≡ sets out.old 2 (window_bytes count releases.now deadlines.now) }
 {
-    let mut j = 0;
-    while j < count {
+    for j in 0..count {
         put32(out, 2 + 8 * j, releases[j]);
         put32(out, 6 + 8 * j, deadlines[j]);
-        j += 1;
-    }
-}
-
-// Writes the cycles of the jobs after the windows.
-fn write_cycles(cycles: &[u64; MAX_JOBS], count: usize, out: &mut [u8])
-    requires { (count ≤ max_jobs) × (2 + 12 * count ≤ length out.old) }
-    ensures { out.new ≡ sets out.old (2 + 8 * count) (job_cycle_bytes count cycles.now) }
-{
-    let mut j = 0;
-    while j < count {
-        put32(out, 2 + 8 * count + 4 * j, cycles[j]);
-        j += 1;
     }
 }

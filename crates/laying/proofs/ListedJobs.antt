@@ -18,7 +18,7 @@ use Rattle.job_tables.specs.Tables.{jobs_in}
 use Rattle.tasks.specs.declared.Task.{Task}
 use Rattle.tasks.specs.Tasks.{task_of}
 use Rattle.tasks.specs.LaidOut.{released_by, jobs_at, lay_out}
-use Rattle.laying.specs.ListedJobs.{JobArrays, ListedJobs, PutAt, AddedJob, RoundListed}
+use Rattle.laying.specs.ListedJobs.{JobArrays, ListedJobs, PutAt, AddedJob, AllListed}
 
 -- a value that is stored
 pub put_stored : (number value : ℕ) (before after : List ℕ) → length before ≡ max_jobs → number < max_jobs → after ≡ set before number value → PutAt number value before after
@@ -63,16 +63,16 @@ module _ (jobs : List Job) (count : ℕ) (releases deadlines cycles : List ℕ) 
       }
 
   -- all jobs, where there is room for them
-  pub round_listed : RoundListed jobs count releases deadlines cycles
+  pub all_listed : count ≤ max_jobs → AllListed jobs count releases deadlines cycles
   unfolding jobs_in
-  round_listed =
+  all_listed few =
       record {
-        counted = λ room. listed.counted;
-        held = λ room. rw listed.counted
+        few = few;
+        counted = listed.counted;
+        held = rw listed.counted
             (list_of_cong (length jobs) _ (job_of jobs) (λ j below.
             rw (listed.releases_held j below (omega (arith, listed.counted)), listed.deadlines_held j below (omega (arith, listed.counted)), listed.cycles_held j below (omega (arith, listed.counted))))
             ∙ list_of_get_d jobs no_job);
-        too_many = λ full. omega (arith, listed.counted);
       }
 
 pub listed_none : (releases deadlines cycles : List ℕ) → ListedJobs [] 0 releases deadlines cycles
@@ -86,14 +86,10 @@ listed_none releases deadlines cycles =
 
 -- too many before the end are too many
 pub round_too_many : (tasks : List Task) (tick ticks count : ℕ) (releases deadlines cycles : List ℕ) → tick ≤ ticks → max_jobs < count
-    → ListedJobs (lay_out tasks tick) count releases deadlines cycles → RoundListed (lay_out tasks ticks) count releases deadlines cycles
+    → ListedJobs (lay_out tasks tick) count releases deadlines cycles → max_jobs < length (lay_out tasks ticks)
 unfolding lay_out
 round_too_many tasks tick ticks count releases deadlines cycles within full listed =
-    record {
-      counted = λ room. absurd (omega arith);
-      held = λ room. absurd (omega arith);
-      too_many = λ many. omega (arith, listed.counted, joined_longer (jobs_at tasks) tick ticks within);
-    }
+    omega (arith, listed.counted, joined_longer (jobs_at tasks) tick ticks within)
 
 -- before the first of these lists
 pub listed_start : (jobs : List Job) (count : ℕ) (f : ℕ → List Job) (releases deadlines cycles : List ℕ)

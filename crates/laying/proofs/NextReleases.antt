@@ -4,7 +4,7 @@ use mathlib.Core.Path.{◌≡◌, ◌∙◌}
 use mathlib.Core.Bool.{true, false}
 use mathlib.Core.Logic.{◌⊎◌, inl, inr}
 use mathlib.Core.List.{List, [], ◌∷◌}
-use Prim.Native.Nat.{ℕ, ◌+◌, ◌-◌, ◌<◌, ◌≤◌, ◌∣◌}
+use Prim.Native.Nat.{ℕ, ◌+◌, ◌-◌, ◌<◌, ◌≤◌, ◌∣◌, min}
 use native.Mathlib.Nat.{eq-or-lt_of_le, dvd_of_mod-eq-zero, mod-eq-zero_of_dvd, dvd-add, dvd_refl, dvd-zero}
 use native.Mathlib.Omega.{arith}
 use lib.Dec.{leb}
@@ -108,35 +108,23 @@ module _ (tasks : List Task) (tick : ℕ) (next : List ℕ) (h : NextReleases ta
   unfolding lay_out
   laid_out_to = joined_shorter (jobs_at tasks) tick later from no-jobs
 
--- the earliest of none, and of one more that is not earlier or is
+-- the earliest of none, and of one more
 pub earliest_none : (next : List ℕ) (end : ℕ) → Earliest next 0 end end
 earliest_none next end =
     record { by_end = omega arith; by_releases = λ i below. absurd (omega arith); greatest = λ n within below. within }
 
-module _ (next : List ℕ) (count end least : ℕ) (h : Earliest next count end least) where
-  pub earliest_kept : least ≤ get_or next count 0 → Earliest next (count + 1) end least
-  earliest_kept early =
-      record {
-        by_end = h.by_end;
-        by_releases = λ i below. at i (eq-or-lt_of_le (let h : i ≤ count = omega arith in h));
-        greatest = λ n within low. h.greatest n within (λ i below. low i (omega arith));
-      }
-    where
-      at : (i : ℕ) → (i ≡ count) ⊎ (i < count) → least ≤ get_or next i 0
-      at i (inl last) = rw last early
-      at i (inr earlier) = h.by_releases i earlier
-
-  pub earliest_taken : get_or next count 0 < least → Earliest next (count + 1) end (get_or next count 0)
-  earliest_taken early =
-      record {
-        by_end = omega (arith, h.by_end);
-        by_releases = λ i below. at i (eq-or-lt_of_le (let h : i ≤ count = omega arith in h));
-        greatest = λ n within low. low count (omega arith);
-      }
-    where
-      at : (i : ℕ) → (i ≡ count) ⊎ (i < count) → get_or next count 0 ≤ get_or next i 0
-      at i (inl last) = rw last (omega arith)
-      at i (inr earlier) = omega (arith, h.by_releases i earlier)
+pub earliest_next : (next : List ℕ) (count end least : ℕ) → Earliest next count end least
+    → Earliest next (count + 1) end (min least (get_or next count 0))
+earliest_next next count end least h =
+    record {
+      by_end = omega (arith, h.by_end);
+      by_releases = λ i below. at i (eq-or-lt_of_le (let h : i ≤ count = omega arith in h));
+      greatest = λ n within low. omega (arith, h.greatest n within (λ i below. low i (omega arith)), low count (omega arith));
+    }
+  where
+    at : (i : ℕ) → (i ≡ count) ⊎ (i < count) → min least (get_or next count 0) ≤ get_or next i 0
+    at i (inl last) = rw last (omega arith)
+    at i (inr earlier) = omega (arith, h.by_releases i earlier)
 
 -- a list after a store: a fact of every place
 after_store : (Fact : ℕ → ℕ → Type 0) (next : List ℕ) (i value : ℕ) → i < length next → Fact i value

@@ -12,9 +12,9 @@ use Rattle.model.proofs.Joined.{joined_next}
 use Rattle.tasks.specs.declared.Task.{Task}
 use Rattle.tasks.specs.LaidOut.{jobs_at, lay_out}
 use Rattle.laying.specs.NextReleases.{NextReleases, Earliest}
-use Rattle.laying.specs.ListedJobs.{JobArrays, ListedJobs, RoundListed}
+use Rattle.laying.specs.ListedJobs.{JobArrays, ListedJobs, AllListed}
 use Rattle.laying.proofs.NextReleases.{releases_from, laid_out_to}
-use Rattle.laying.proofs.ListedJobs.{listed_none, round_listed, round_too_many}
+use Rattle.laying.proofs.ListedJobs.{listed_none, all_listed, round_too_many}
 
 module _ (tasks : List Task) (multiple : ℕ) where
   -- All jobs that are released before a tick are listed, and the next releases are at or after it.
@@ -23,12 +23,13 @@ module _ (tasks : List Task) (multiple : ℕ) where
     pub next-releases : NextReleases tasks tick next
     pub arrays : JobArrays releases deadlines cycles
     pub listed : ListedJobs (lay_out tasks tick) count releases deadlines cycles
+    pub few : count ≤ max_jobs
 
   -- from a tick to the earliest of the next releases
-  laying_to : (from tick : ℕ) (next releases deadlines cycles : List ℕ) (count : ℕ) → from ≤ multiple → NextReleases tasks from next
+  laying_to : (from tick : ℕ) (next releases deadlines cycles : List ℕ) (count : ℕ) → from ≤ multiple → count ≤ max_jobs → NextReleases tasks from next
       → JobArrays releases deadlines cycles → ListedJobs (lay_out tasks from) count releases deadlines cycles
       → Earliest next (length tasks) multiple tick → Laying tick next releases deadlines cycles count × (from ≤ tick)
-  laying_to from tick next releases deadlines cycles count low h arrays listed earliest =
+  laying_to from tick next releases deadlines cycles count low few h arrays listed earliest =
       let later : from ≤ tick = earliest.greatest from low (λ i below. (h.each i below).not_before) in
       let same : lay_out tasks tick ≡ lay_out tasks from = laid_out_to tasks from next h tick later earliest.by_releases in (
         record {
@@ -36,6 +37,7 @@ module _ (tasks : List Task) (multiple : ℕ) where
           next-releases = releases_from tasks from next h tick later earliest.by_releases;
           arrays = arrays;
           listed = rw same listed;
+          few = few;
         },
         later,
       )
@@ -44,25 +46,28 @@ module _ (tasks : List Task) (multiple : ℕ) where
       → Earliest next (length tasks) multiple tick → Laying tick next releases deadlines cycles 0
   unfolding lay_out joined
   laying_start tick next releases deadlines cycles h arrays earliest =
-      (laying_to 0 tick next releases deadlines cycles 0 (omega arith) h arrays (listed_none releases deadlines cycles) earliest).0
+      (laying_to 0 tick next releases deadlines cycles 0 (omega arith) (omega arith) h arrays (listed_none releases deadlines cycles) earliest).0
 
   module _ (tick : ℕ) (next releases deadlines cycles : List ℕ) (count : ℕ) (h : Laying tick next releases deadlines cycles count) where
     -- what is released at the tick is listed too
-    pub laying_next : tick < multiple → (tick' : ℕ) (next' releases' deadlines' cycles' : List ℕ) (count' : ℕ)
-        → NextReleases tasks (tick + 1) next' → JobArrays releases' deadlines' cycles'
-        → ((jobs : List Job) → ListedJobs jobs count releases deadlines cycles → ListedJobs (jobs ++ jobs_at tasks tick) count' releases' deadlines' cycles')
-        → Earliest next' (length tasks) multiple tick' → Laying tick' next' releases' deadlines' cycles' count' × (tick < tick')
-    unfolding lay_out
-    laying_next early tick' next' releases' deadlines' cycles' count' moved arrays more earliest =
-        let all : ListedJobs (lay_out tasks (tick + 1)) count' releases' deadlines' cycles' = rw (joined_next tick (jobs_at tasks)) (more (lay_out tasks tick) h.listed) in
-        let (laid, later) = laying_to (tick + 1) tick' next' releases' deadlines' cycles' count' (omega arith) moved arrays all earliest in
-        (laid, omega arith)
+    module _ (early : tick < multiple) (releases' deadlines' cycles' : List ℕ) (count' : ℕ)
+        (more : (jobs : List Job) → ListedJobs jobs count releases deadlines cycles → ListedJobs (jobs ++ jobs_at tasks tick) count' releases' deadlines' cycles') where
+      all : ListedJobs (lay_out tasks (tick + 1)) count' releases' deadlines' cycles'
+      unfolding lay_out
+      all = rw (joined_next tick (jobs_at tasks)) (more (lay_out tasks tick) h.listed)
 
-    -- at the end of the multiple, and where there are too many jobs before it
-    pub laying_ends : multiple ≤ tick → RoundListed (lay_out tasks multiple) count releases deadlines cycles
+      pub laying_next : count' ≤ max_jobs → (tick' : ℕ) (next' : List ℕ) → NextReleases tasks (tick + 1) next' → JobArrays releases' deadlines' cycles'
+          → Earliest next' (length tasks) multiple tick' → Laying tick' next' releases' deadlines' cycles' count' × (tick < tick')
+      laying_next few tick' next' moved arrays earliest =
+          let (laid, later) = laying_to (tick + 1) tick' next' releases' deadlines' cycles' count' (omega arith) few moved arrays all earliest in
+          (laid, omega arith)
+
+      -- or the jobs are too many
+      pub laying_stops : max_jobs < count' → max_jobs < length (lay_out tasks multiple)
+      laying_stops many = round_too_many tasks (tick + 1) multiple count' releases' deadlines' cycles' (omega arith) many all
+
+    -- at the end of the multiple
+    pub laying_ends : multiple ≤ tick → AllListed (lay_out tasks multiple) count releases deadlines cycles
     laying_ends late =
         let e : tick ≡ multiple = omega (arith, h.within) in
-        rw e at (round_listed (lay_out tasks tick) count releases deadlines cycles h.listed)
-
-    pub laying_stops : max_jobs < count → RoundListed (lay_out tasks multiple) count releases deadlines cycles
-    laying_stops many = round_too_many tasks tick multiple count releases deadlines cycles h.within many h.listed
+        rw e at (all_listed (lay_out tasks tick) count releases deadlines cycles h.listed h.few)

@@ -1,5 +1,5 @@
 -- Jobs listed in three arrays, as far as these have room.
-use Rattle.std.specs.Prelude.{ℕ, ◌<◌, ◌≤◌, ◌≡◌, List, length, get_or}
+use Rattle.std.specs.Prelude.{ℕ, ◌<◌, ◌≤◌, ◌≡◌, List, length, get_or, Option, Some, None}
 use Rattle.model.specs.declared.Job.{Job}
 use Rattle.model.specs.Limits.{max_jobs}
 use Rattle.model.specs.Jobs.{job_of}
@@ -30,8 +30,13 @@ pub record AddedJob (job : Job) (number : ℕ) (releases deadlines cycles releas
   pub deadline : PutAt number job.deadline deadlines deadlines'
   pub cycle_count : PutAt number job.cycles cycles cycles'
 
+-- All jobs are listed, and there is room for them.
+pub record AllListed (jobs : List Job) (count : ℕ) (releases deadlines cycles : List ℕ) : Type 0 where
+  pub few : count ≤ max_jobs
+  pub counted : count ≡ length jobs
+  pub held : jobs_in count releases deadlines cycles ≡ jobs
+
 -- All jobs of a round are listed, or they are too many.
-pub record RoundListed (jobs : List Job) (listed : ℕ) (releases deadlines cycles : List ℕ) : Type 0 where
-  pub counted : listed ≤ max_jobs → listed ≡ length jobs
-  pub held : listed ≤ max_jobs → jobs_in listed releases deadlines cycles ≡ jobs
-  pub too_many : max_jobs < listed → max_jobs < length jobs
+abbrev pub RoundListed : (jobs : List Job) → (listed : Option ℕ) → (releases deadlines cycles : List ℕ) → Type 0
+RoundListed jobs None releases deadlines cycles = max_jobs < length jobs
+RoundListed jobs (Some count) releases deadlines cycles = AllListed jobs count releases deadlines cycles

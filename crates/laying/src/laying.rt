@@ -14,8 +14,8 @@ use model::MAX_JOBS;
 use task_tables::task_at;
 use tasks::{MAX_TASKS, Task};
 
-// Lists the jobs that are released before the end of the multiple, and answers how many they are. Where they are too many
-// for the arrays it stops and answers some number above the limit.
+// Lists the jobs that are released before the end of the multiple, and answers how many they are; none where they are too many
+// for the arrays.
 pub fn lay_out(
     bytes: &[u8],
     count: usize,
@@ -23,7 +23,7 @@ pub fn lay_out(
     releases: &mut [u64; MAX_JOBS],
     deadlines: &mut [u64; MAX_JOBS],
     cycles: &mut [u64; MAX_JOBS],
-) -> usize
+) -> Option<usize>
     requires round_read { RoundRead bytes.now count multiple }
     requires job_arrays { JobArrays releases.old deadlines.old cycles.old }
     ensures { RoundListed (lay_out (task_entries bytes.now) multiple) result releases.new deadlines.new cycles.new }
@@ -32,15 +32,15 @@ pub fn lay_out(
     let mut tick = earliest(&next, count, multiple);
     let mut listed = 0;
     while tick < multiple {
-        if listed > MAX_JOBS {
-            return listed;
-        }
         listed = release_at(
             bytes, count, multiple, tick, &mut next, listed, releases, deadlines, cycles,
         );
+        if listed > MAX_JOBS {
+            return None;
+        }
         tick = earliest(&next, count, multiple);
     }
-    listed
+    Some(listed)
 }
 
 // Each task's first release is at its phase.
@@ -49,11 +49,9 @@ fn first_releases(bytes: &[u8], count: usize) -> [u64; MAX_TASKS]
     ensures { NextReleases (task_entries bytes.now) 0 result }
 {
     let mut next = [0u64; MAX_TASKS];
-    let mut i = 0;
-    while i < count {
+    for i in 0..count {
         let task = task_at(bytes, count, i);
         next[i] = task.phase;
-        i += 1;
     }
     next
 }
@@ -64,12 +62,8 @@ fn earliest(next: &[u64; MAX_TASKS], count: usize, end: u64) -> u64
     ensures { Earliest next.now count end result }
 {
     let mut least = end;
-    let mut i = 0;
-    while i < count {
-        if next[i] < least {
-            least = next[i];
-        }
-        i += 1;
+    for &release in &next[..count] {
+        least = least.min(release);
     }
     least
 }
@@ -97,15 +91,13 @@ fn release_at(
         → ListedJobs (jobs ++ jobs_at (task_entries bytes.now) tick) result releases.new deadlines.new cycles.new }
 {
     let mut jobs = listed;
-    let mut i = 0;
-    while i < count {
+    for i in 0..count {
         if next[i] == tick {
             let task = task_at(bytes, count, i);
             add_job(task, tick, jobs, releases, deadlines, cycles);
             next[i] = tick + task.period;
             jobs += 1;
         }
-        i += 1;
     }
     jobs
 }

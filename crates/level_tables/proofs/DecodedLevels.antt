@@ -7,19 +7,20 @@ use Prim.Native.Nat.{ℕ, ◌+◌, ◌*◌, ◌<◌, ◌≤◌}
 use native.Mathlib.Omega.{arith}
 use lib.ListN.{length}
 use borrow.Author.Tests.{lt-ltb, le-ltb, lt-leb, le-leb, eq-eqb, ne_eqb}
+use Rattle.std.specs.Prelude.{Result, Ok, Err}
 use Rattle.model.specs.declared.Level.{Level}
+use Rattle.model.specs.declared.refusal.Refusal.{Refusal}
+use Rattle.model.proofs.Refusals.{returned_refused, refused_returned}
 use Rattle.model.specs.Limits.{max_levels}
 use Rattle.model.specs.Bytes.{number16}
 use Rattle.model.specs.Outcome.{Outcome, refused, answer, refuse_when, by_entry}
 use Rattle.model.specs.Levels.{idling}
 use Rattle.model.specs.LevelTables.{level_count, level_at, level_entries, stands_alone, table_fault, read_levels}
-use Rattle.model.proofs.Entries.{list_of_cong}
-use Rattle.reading.specs.declared.Reading.{Reading}
-use Rattle.reading.specs.declared.Reading.TheVariants.{Entries, Refused}
+use Rattle.model.proofs.Entries.{length_list_of, list_of_cong}
 use Rattle.reading.specs.Column.{column_of}
-use Rattle.reading.specs.Tables.{reading_of}
+use Rattle.reading.specs.Tables.{returned_count}
 use Rattle.reading.proofs.Column.{column_at, column_of_entries}
-use Rattle.reading.proofs.ByEntry.{reading_refused, reading_answered, reading_past}
+use Rattle.reading.proofs.ByEntry.{reading_answered, reading_past}
 use Rattle.level_tables.specs.Tables.{levels_in, level_table, checked_levels}
 
 module _ (bytes : List ℕ) where
@@ -42,18 +43,18 @@ module _ (bytes : List ℕ) where
   levels_decoded few =
       list_of_cong (level_count bytes) _ _ (λ i below. let inside : i < max_levels = omega arith in rw (column_at, column_at))
 
-  -- where the entries are answered, the arrays stand beside the answer as they were filled
-  levels_answered : (n : ℕ) → reading_of checked ≡ Entries n
-      → record { reading = Entries n; frequencies = frequency_column; voltages = voltage_column } ≡ level_table checked
+  -- where the entries are answered, the answer has the arrays as they were filled
+  levels_answered : (n : ℕ) → returned_count checked ≡ Ok n
+      → Ok (record { count = level_count bytes; frequencies = frequency_column; voltages = voltage_column }) ≡ level_table checked
   unfolding level_at
   levels_answered n e =
       let past : checked ≡ gone = reading_past (stands_alone (level_entries bytes)) 31 n gone e in
-      let whole : checked ≡ answer (level_entries bytes) = past ∙ reading_answered _ _ _ n (ap reading_of (sym past) ∙ e) in
+      let whole : checked ≡ answer (level_entries bytes) = past ∙ reading_answered _ _ _ n (ap returned_count (sym past) ∙ e) in
       rw (
-        ← e,
         whole,
         column_of_entries max_levels (level_count bytes) (level_at bytes) idling (λ level. level.frequency) _ (λ i. refl),
         column_of_entries max_levels (level_count bytes) (level_at bytes) idling (λ level. level.voltage) _ (λ i. refl),
+        length_list_of (level_count bytes) (level_at bytes),
       )
 
   -- the ways out before the entries, and past them
@@ -80,18 +81,18 @@ module _ (bytes : List ℕ) where
       levels_whole whole = rw (le-ltb _ _ long, le-leb _ _ some, le-leb _ _ few, eq-eqb _ _ whole)
 
   -- what was filled and found, as the code has it
-  module _ (count : ℕ) (frequencies voltages : List ℕ) (reading : Reading)
-      (counted : count ≡ level_count bytes)
+  module _ (count : ℕ) (frequencies voltages : List ℕ) (checking : Result ℕ Refusal)
+      (are : count ≡ level_count bytes)
       (few : count ≤ max_levels)
       (first : frequencies ≡ column_of max_levels count (λ i. number16 bytes (2 + 2 * i)))
       (second : voltages ≡ column_of max_levels count (λ i. number16 bytes (2 + 2 * count + 2 * i)))
-      (found : reading ≡ reading_of (checked_levels count frequencies voltages)) where
-    found_checked : reading ≡ reading_of checked
-    found_checked = found ∙ rw (first, second, counted, levels_decoded (rw counted at few))
+      (found : checking ≡ returned_count (checked_levels count frequencies voltages)) where
+    found_checked : checking ≡ returned_count checked
+    found_checked = found ∙ rw (first, second, are, levels_decoded (rw are at few))
 
-    pub levels_refused : (number place : ℕ) → reading ≡ Refused number place → refused number place ≡ checked
-    levels_refused number place e = sym (reading_refused checked number place (sym found_checked ∙ e))
+    pub levels_refused : (own : Refusal) → checking ≡ Err own → Err own ≡ level_table checked
+    levels_refused own e = refused_returned _ (returned_refused length checked own (sym found_checked ∙ e))
 
-    pub levels_filled : (n : ℕ) → reading ≡ Entries n
-        → record { reading = reading; frequencies = frequencies; voltages = voltages } ≡ level_table checked
-    levels_filled n e = rw (e, first, second, counted) (levels_answered n (sym found_checked ∙ e))
+    pub levels_filled : (n : ℕ) → checking ≡ Ok n
+        → Ok (record { count = count; frequencies = frequencies; voltages = voltages }) ≡ level_table checked
+    levels_filled n e = rw (first, second, are) (levels_answered n (sym found_checked ∙ e))

@@ -1,5 +1,5 @@
 -- Laws of a level table in arrays: its entries one by one, and what a valid table says of them. Where the arrays were
--- read from bytes, a caller that matched on the answer's case has the outcome in terms of the arrays.
+-- read from bytes, a caller that was given them has the outcome in terms of the arrays.
 -- Assumes nothing.
 use mathlib.Core.Path.{◌≡◌, sym, ◌∙◌, ap}
 use mathlib.Core.List.{List}
@@ -8,16 +8,16 @@ use native.Mathlib.Omega.{arith}
 use lib.ListN.{length, get_or}
 use Rattle.model.specs.declared.Level.{Level}
 use Rattle.model.specs.Limits.{max_levels, max_frequency}
-use Rattle.model.specs.Outcome.{refused, answer}
+use Rattle.std.specs.Prelude.{Ok}
+use Rattle.model.specs.Outcome.{answer}
 use Rattle.model.specs.Levels.{idling, level_of}
 use Rattle.model.specs.LevelTables.{idle_entries, running_levels, read_levels, ValidLevelTable}
 use Rattle.model.specs.Points.{top_frequency}
 use Rattle.model.proofs.Entries.{length_list_of, get_d_list_of}
 use Rattle.model.proofs.LevelTables.{running_length, running_level, table_some, levels_valid}
-use Rattle.reading.specs.declared.Reading.TheVariants.{Entries, Refused}
+use Rattle.model.proofs.Refusals.{returned_answered}
 use Rattle.reading.specs.Column.{column_of}
 use Rattle.reading.proofs.Column.{column_at}
-use Rattle.reading.proofs.ByEntry.{reading_refused, reading_held}
 use Rattle.reading.proofs.Read.{same_elements}
 use Rattle.level_tables.specs.declared.levels.LevelTable.{LevelTable}
 use Rattle.level_tables.specs.Tables.{levels_in, level_table}
@@ -73,13 +73,18 @@ unfolding levels_in
 levels_held levels few =
     same_elements levels idling _ (λ i below. let inside : i < max_levels = omega arith in rw (column_at, column_at))
 
-module _ (bytes : List ℕ) (table : LevelTable) (read : table ≡ level_table (read_levels bytes)) where
-  pub levels_read_refused : (number place : ℕ) → table.reading ≡ Refused number place → read_levels bytes ≡ refused number place
-  levels_read_refused number place e = reading_refused _ number place (sym (ap (λ (t : LevelTable). t.reading) read) ∙ e)
-
-  -- the levels of the bytes stand in the arrays
-  pub levels_read : (count : ℕ) → table.reading ≡ Entries count
-      → read_levels bytes ≡ answer (levels_in count table.frequencies table.voltages)
-  levels_read count e =
-      reading_held _ count _ (sym (ap (λ (t : LevelTable). t.reading) read) ∙ e)
-      (λ levels answered counted. rw (read, answered, ← counted) (levels_held levels (levels_valid bytes levels answered).few))
+-- the levels of the bytes stand in the arrays
+module _ (bytes : List ℕ) (table : LevelTable) (read : level_table (read_levels bytes) ≡ Ok table) where
+  pub levels_read : read_levels bytes ≡ answer (levels_in table.count table.frequencies table.voltages)
+  levels_read =
+      let (levels, answered, is) = returned_answered _ (read_levels bytes) table read in
+      answered ∙ ap answer (sym (held is (levels_valid bytes levels answered).few))
+    where
+      held : {levels : List Level}
+          → record {
+            count = length levels;
+            frequencies = column_of max_levels (length levels) (λ i. (level_of levels i).frequency);
+            voltages = column_of max_levels (length levels) (λ i. (level_of levels i).voltage);
+          } ≡ table
+          → length levels ≤ max_levels → levels_in table.count table.frequencies table.voltages ≡ levels
+      held {levels} is few = rw (← is) (levels_held levels few)

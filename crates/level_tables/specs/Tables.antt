@@ -1,24 +1,24 @@
--- What reading levels answers, for each outcome: the enum's case, and the entries in plain arrays beside it.
-use Rattle.std.specs.Prelude.{ℕ, List, length, get_or}
+-- What reading levels answers, for each outcome: the entries in plain arrays, or the refusal.
+use Rattle.std.specs.Prelude.{ℕ, List, length, get_or, Result}
+use Rattle.model.specs.declared.refusal.Refusal.{Refusal}
 use Rattle.model.specs.declared.Level.{Level}
 use Rattle.model.specs.Limits.{max_levels}
+use Rattle.model.specs.Refusals.{returned_by}
 use Rattle.model.specs.Outcome.{Outcome, answer, refuse_when, by_entry}
 use Rattle.model.specs.Entries.{list_of}
 use Rattle.model.specs.Levels.{level_of}
 use Rattle.model.specs.LevelTables.{stands_alone, table_fault}
 use Rattle.reading.specs.Column.{column_of}
-use Rattle.reading.specs.Tables.{reading_of, entries_of}
 use Rattle.level_tables.specs.declared.levels.LevelTable.{LevelTable}
 
--- The whole answer of reading levels: frequencies and voltages of the entries, zeros after them.
-abbrev pub level_table : Outcome (List Level) → LevelTable
+-- The whole answer of reading levels: frequencies and voltages of the entries, zeros after them; or the refusal.
+abbrev pub level_table : Outcome (List Level) → Result LevelTable Refusal
 level_table outcome =
-    let levels : List Level = entries_of outcome in
-    record {
-      reading = reading_of outcome;
+    returned_by (λ levels. record {
+      count = length levels;
       frequencies = column_of max_levels (length levels) (λ i. (level_of levels i).frequency);
       voltages = column_of max_levels (length levels) (λ i. (level_of levels i).voltage);
-    }
+    }) outcome
 
 -- The entries of a level table that stand in two arrays, the first `count` of them.
 unfoldable pub levels_in : (count : ℕ) → (frequencies voltages : List ℕ) → List Level

@@ -43,13 +43,11 @@ pub(crate) fn all_points(
         powers: [0; MAX_POINTS],
     };
     table.powers[0] = idle_power(entry);
-    let mut i = idle_entries(entry);
-    while i < count {
+    for i in idle_entries(entry)..count {
         let at = table.count;
         table.frequencies[at] = frequencies[i];
         table.powers[at] = power_of(frequencies[i], voltages[i]);
         table.count = at + 1;
-        i += 1;
     }
     table
 }

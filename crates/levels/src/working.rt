@@ -13,25 +13,15 @@ use crate::points::{Point, PointTable, all_points, no_points, point_at};
 use level_tables::read_levels;
 use model::{MAX_LEVELS, MAX_POINTS};
 use parameters::alter_levels;
-use reading::Reading;
 
 // The working points of a level table in bytes, with running levels up to the highest. Any bytes are answered; a table that is
 // refused has none, and so has one that has not as many running levels.
 pub fn read_working_levels(levels: &[u8], highest: u32) -> PointTable
     ensures { result ≡ point_table (working_read (read_processor levels.now highest)) }
 {
-    let table = read_levels(levels);
-    let reading = table.reading;
-    match reading {
-        Reading::Refused {
-            number: _,
-            place: _,
-        } => no_points(),
-        Reading::Entries(count) => {
-            let frequencies = table.frequencies;
-            let voltages = table.voltages;
-            working_up_to(&frequencies, &voltages, count, highest)
-        }
+    match read_levels(levels) {
+        Ok(table) => working_up_to(&table.frequencies, &table.voltages, table.count, highest),
+        Err(_) => no_points(),
     }
 }
 
@@ -45,13 +35,9 @@ fn working_up_to(
     requires { ValidLevelTable (levels_in count frequencies.now voltages.now) }
     ensures { result ≡ point_table (working_read (and_then (alter_levels highest (levels_in count frequencies.now voltages.now)) λ levels. answer (processor_of levels))) }
 {
-    let reading = alter_levels(frequencies, count, highest);
-    match reading {
-        Reading::Refused {
-            number: _,
-            place: _,
-        } => no_points(),
-        Reading::Entries(kept) => working_levels(frequencies, voltages, kept),
+    match alter_levels(frequencies, count, highest) {
+        Ok(kept) => working_levels(frequencies, voltages, kept),
+        Err(_) => no_points(),
     }
 }
 
@@ -80,15 +66,13 @@ fn working_points(
     ensures { result ≡ point_table (working (points_of (table_of count frequencies.now powers.now))) }
 {
     let mut table = no_points();
-    let mut i = 0;
-    while i < count {
+    for i in 0..count {
         if !dropped(frequencies, powers, count, i) {
             let at = table.count;
             table.frequencies[at] = frequencies[i];
             table.powers[at] = powers[i];
             table.count = at + 1;
         }
-        i += 1;
     }
     table
 }
@@ -104,12 +88,10 @@ fn dropped(
     requires b_lt_count { b < count }
     ensures { result ≡ is_dropped (points_of (table_of count frequencies.now powers.now)) b }
 {
-    let mut a = 0;
-    while a < b {
+    for a in 0..b {
         if dropped_from(frequencies, powers, count, a, b) {
             return true;
         }
-        a += 1;
     }
     false
 }
@@ -128,12 +110,10 @@ fn dropped_from(
 {
     let lower = point_at(frequencies, powers, a);
     let point = point_at(frequencies, powers, b);
-    let mut c = b + 1;
-    while c < count {
+    for c in b + 1..count {
         if drops(lower, point, point_at(frequencies, powers, c)) {
             return true;
         }
-        c += 1;
     }
     false
 }

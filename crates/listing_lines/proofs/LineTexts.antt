@@ -3,14 +3,12 @@
 use mathlib.Core.Path.{◌≡◌, refl, sym}
 use mathlib.Core.List.{List, [], ◌∷◌, append-nil}
 use Prim.Native.Nat.{ℕ, zero, suc, ◌-◌, ◌<◌, ◌≤◌}
-use native.Mathlib.Omega.{arith}
 use Rattle.model.specs.Entries.{encode_each, joined}
 use Rattle.model.specs.Points.{Point}
-use Rattle.model.specs.Setting.{Setting, setting_of}
+use Rattle.model.specs.Setting.{setting_of}
 use Rattle.model.specs.Plans.{Shares}
 use Rattle.model.specs.Steps.{Step}
-use Rattle.settings.specs.declared.interval.SettingAnswer.{SettingAnswer}
-use Rattle.settings.specs.declared.interval.SettingAnswer.TheVariants.{Set, Refused}
+use Rattle.settings.specs.declared.interval.IntervalSetting.{IntervalSetting}
 use Rattle.settings.specs.Settings.{answered}
 use Rattle.writing.specs.StepList.{step_of, steps_in, steps_of}
 use Rattle.writing.proofs.CellOrder.{step_of_none, step_of_some}
@@ -19,21 +17,11 @@ use Rattle.listing_lines.specs.TextLines.{line, span_word, step_word}
 use Rattle.listing_lines.specs.PlanText.{span_line, step_line, step_lines}
 
 -- the setting that is answered
-module _ (own : Setting) (found : SettingAnswer) (is : found ≡ answered own) where
-  pub never_refused : (number place : ℕ) → found ≡ Refused number place → ⊥
-  never_refused number place refused = let z : ◌≡◌ {A = ℕ} 0 1 = cc (is, refused) in absurd (omega (arith, z))
-
-  own_setting : (band extra gap : ℕ) → found ≡ Set band extra gap → (band ≡ own.band) × (extra ≡ own.extra) × (gap ≡ own.gap)
-  own_setting band extra gap set = (cc (is, set), cc (is, set), cc (is, set))
-
 pub span_text : (working : List Point) (from to load price : ℕ)
-    → (found : SettingAnswer) → found ≡ answered (setting_of working (to - from) load)
-    → (band extra gap : ℕ) → found ≡ Set band extra gap
-    → line span_word (from ∷ to ∷ load ∷ band ∷ extra ∷ gap ∷ price ∷ []) ≡ span_line working from to load price
+    → (found : IntervalSetting) → found ≡ answered (setting_of working (to - from) load)
+    → line span_word (from ∷ to ∷ load ∷ found.band ∷ found.extra ∷ found.gap ∷ price ∷ []) ≡ span_line working from to load price
 unfolding span_line
-span_text working from to load price found is band extra gap set =
-    let (b, e, g) = own_setting (setting_of working (to - from) load) found is band extra gap set in
-    rw (b, e, g)
+span_text working from to load price found is = rw is
 
 module _ (interval job share : ℕ) where
   pub no_step_text : share ≤ 0 → [] ≡ encode_each step_line (step_of interval job share)

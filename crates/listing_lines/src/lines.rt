@@ -12,7 +12,7 @@ ghost use Rattle.listing_lines.specs.Appending.{text_room, sizes_room, span_room
 
 use crate::writer::{put_byte, put_bytes, put_line, put_numbers, put_signed};
 use levels::PointTable;
-use settings::{SettingAnswer, setting_of};
+use settings::setting_of;
 
 const SIZES: [u8; 5] = *b"sizes";
 
@@ -54,19 +54,20 @@ pub fn put_span(
     ensures { Appended text.old place (span_line (points_of working) from to load price) span_room text.new result }
 {
     let set = setting_of(working, to - from, load);
-    match set {
-        SettingAnswer::Set { band, extra, gap } => put_line(
-            text,
-            place,
-            &SPAN,
-            &[from, to, load, band as u64, extra, gap, price as u64],
-        ),
-        // Not met: a load that fits is not refused.
-        SettingAnswer::Refused {
-            number: _,
-            place: _,
-        } => place,
-    }
+    put_line(
+        text,
+        place,
+        &SPAN,
+        &[
+            from,
+            to,
+            load,
+            set.band as u64,
+            set.extra,
+            set.gap,
+            price as u64,
+        ],
+    )
 }
 
 // step: interval, job, cycles. A share of 0 has no step.

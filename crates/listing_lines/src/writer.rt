@@ -21,10 +21,8 @@ pub(crate) fn put_bytes(text: &mut [u8], place: usize, bytes: &[u8]) -> usize
     ensures { Appended text.old place bytes.now (length bytes.now) text.new result }
 {
     let mut next = place;
-    let mut i = 0;
-    while i < bytes.len() {
-        next = put_byte(text, next, bytes[i]);
-        i += 1;
+    for &byte in bytes {
+        next = put_byte(text, next, byte);
     }
     next
 }
@@ -67,10 +65,8 @@ pub(crate) fn put_numbers(text: &mut [u8], place: usize, numbers: &[u64]) -> usi
     ensures { Appended text.old place (fields numbers.now) (number_room * length numbers.now) text.new result }
 {
     let mut next = place;
-    let mut i = 0;
-    while i < numbers.len() {
-        next = put_number(text, next, numbers[i]);
-        i += 1;
+    for &number in numbers {
+        next = put_number(text, next, number);
     }
     next
 }

@@ -1,14 +1,17 @@
 -- A plan for the site that was read, in the arrays that the site is read into: its lines can be written, and they are its text.
 -- Assumes nothing.
-use mathlib.Core.Path.{◌≡◌, sym, ◌∙◌, ap}
+use mathlib.Core.Path.{◌≡◌, refl, sym, ◌∙◌, ap}
 use mathlib.Core.List.{List}
 use Prim.Native.Nat.{ℕ, suc, ◌+◌, ◌-◌, ◌*◌, ◌<◌, ◌≤◌}
 use native.Mathlib.Nat.{mul-le-mul_right}
 use native.Mathlib.Omega.{arith}
 use lib.ListN.{length, get_or, take, length-take}
 use lib.Seq.{get_or-take}
+use Rattle.std.specs.Prelude.{Result, Ok, Err}
+use Rattle.std.specs.Result.{IsOk}
 use Rattle.model.specs.declared.Parameters.{Parameters}
-use Rattle.model.specs.Outcome.{answer}
+use Rattle.model.specs.declared.refusal.Refusal.{Refusal}
+use Rattle.model.specs.Outcome.{Outcome, answer}
 use Rattle.model.specs.Sum.{sum}
 use Rattle.model.specs.Processors.{working_of, top_of}
 use Rattle.model.specs.Intervals.{bound_at, length_of}
@@ -19,18 +22,26 @@ use Rattle.model.specs.PriceBytes.{prices_of}
 use Rattle.model.specs.Planning.{Planned}
 use Rattle.model.specs.Accepted.{Accepted}
 use Rattle.model.proofs.Sum.{sum_cong}
-use Rattle.model.proofs.Outcome.{answer_injective}
+use Rattle.model.proofs.Outcome.{refused≢answer, answer_injective}
+use Rattle.model.proofs.Refusals.{returns_refused}
 use Rattle.model.proofs.Sites.{sites_are_valid}
 use Rattle.model.proofs.Accepted.{check_accepts}
 use Rattle.levels.specs.PointTables.{points_of}
 use Rattle.settings.specs.Settings.{Fits}
 use Rattle.site.specs.declared.SiteTable.{SiteTable}
-use Rattle.site.specs.SiteTables.{HoldsSite}
+use Rattle.site.specs.SiteTables.{HoldsSite, SiteRead}
 use Rattle.site.proofs.HeldSites.{held_jobs_counted, held_points, held_small, held_curve, held_top_point, held_bounds, held_bounds_small}
 use Rattle.intervals.specs.Times.{SmallBounds}
 use Rattle.model.proofs.Joined.{joined_cong}
 use Rattle.listing_lines.specs.PlanText.{span_lines, plan_text, text_of_plan}
 use Rattle.listing_text.specs.ShownPlans.{bounds_in, prices_in, ShownPlan, ListedPlan}
+
+-- a site that is read is returned
+pub returned_site : (outcome : Outcome Site) (site : Site) → outcome ≡ answer site → (releases deadlines cycles times : List ℕ)
+    → (result : Result SiteTable Refusal) → SiteRead outcome result releases deadlines cycles times → IsOk result
+returned_site outcome site is releases deadlines cycles times (Ok table) read = refl
+returned_site outcome site is releases deadlines cycles times (Err own) read =
+    absurd (refused≢answer (sym (returns_refused _ outcome own read).outcome_is ∙ is))
 
 module _ {level_bytes job_bytes mark_bytes : List ℕ} {parameters : Parameters} {intervals steps energy : ℕ} {prices shares : List ℕ}
     (listed : ListedPlan level_bytes job_bytes mark_bytes parameters intervals steps energy prices shares)

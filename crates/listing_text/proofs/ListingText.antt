@@ -7,18 +7,20 @@ use native.Mathlib.Omega.{arith}
 use lib.ListN.{length, take, drop, set}
 use lib.IntN.{ℤ}
 use lib.Seq.{sets, take-nil}
+use Rattle.std.specs.Prelude.{Err}
 use Rattle.model.specs.declared.Parameters.{Parameters}
+use Rattle.model.specs.declared.refusal.Refusal.{Refusal}
 use Rattle.model.specs.Outcome.{Outcome, refused, answer}
+use Rattle.model.specs.Refusals.{number_of}
 use Rattle.model.specs.SiteParameters.{as_given}
 use Rattle.model.specs.Sites.{Site, read_site, read_given_site}
 use Rattle.model.specs.Plans.{shares_in}
 use Rattle.model.specs.PriceBytes.{prices_of}
 use Rattle.model.proofs.Sites.{as_given_alters_nothing}
 use Rattle.model.proofs.RefusalNumbers.{given_site_by}
-use Rattle.planning.specs.declared.operation.PlanAnswer.{PlanAnswer}
-use Rattle.planning.specs.declared.operation.PlanAnswer.TheVariants.{Plan, Overfull, Refused}
+use Rattle.spare.specs.declared.unmet.NoAnswer.TheVariants.{Refused}
 use Rattle.planning.specs.MadePlans.{Buffers}
-use Rattle.planning.specs.PlanAnswers.{outcome_of, PlanContract}
+use Rattle.planning.specs.PlanAnswers.{PlanAnswer, Plan, Overfull, PlanContract}
 use Rattle.planning.proofs.PlanStages.{site_planned, plan_read}
 use Rattle.listing_lines.specs.TextLines.{overfull_line, refused_line}
 use Rattle.listing_lines.specs.PlanText.{text_of_plan}
@@ -68,12 +70,13 @@ module _ {level_bytes job_bytes mark_bytes : List ℕ} {left : Buffers} {answere
         planned = (planned.written site read intervals steps energy is).planned;
       }
 
-  read_refused : (number place : ℕ) → answered ≡ Refused number place → read_site level_bytes job_bytes mark_bytes (as_given level_bytes) ≡ refused number place
-  read_refused number place is = reading_refused level_bytes job_bytes mark_bytes (as_given level_bytes) number place (rw is at planned.outcome)
+  read_refused : (own : Refusal) → answered ≡ Err (Refused own)
+      → read_site level_bytes job_bytes mark_bytes (as_given level_bytes) ≡ refused (number_of own.fault) own.place
+  read_refused own is = reading_refused level_bytes job_bytes mark_bytes (as_given level_bytes) (number_of own.fault) own.place (rw is at planned.outcome)
 
   -- the site, or the refusal, is that of the tables as they are given
-  given_refused : (number place : ℕ) → answered ≡ Refused number place → read_given_site level_bytes job_bytes mark_bytes ≡ refused number place
-  given_refused number place is = sym (as_given_alters_nothing level_bytes job_bytes mark_bytes) ∙ read_refused number place is
+  given_refused : (own : Refusal) → answered ≡ Err (Refused own) → read_given_site level_bytes job_bytes mark_bytes ≡ refused (number_of own.fault) own.place
+  given_refused own is = sym (as_given_alters_nothing level_bytes job_bytes mark_bytes) ∙ read_refused own is
 
   given_read : (site : Site) → read_site level_bytes job_bytes mark_bytes (as_given level_bytes) ≡ answer site → read_given_site level_bytes job_bytes mark_bytes ≡ answer site
   given_read site read = sym (as_given_alters_nothing level_bytes job_bytes mark_bytes) ∙ read
@@ -90,7 +93,7 @@ module _ {level_bytes job_bytes mark_bytes : List ℕ} {left : Buffers} {answere
             left = left;
             planned = planned;
             text_is = is;
-            of_reading = λ number place refused. given_site_by level_bytes job_bytes mark_bytes number place (given_refused number place refused);
+            of_reading = λ own told. given_site_by level_bytes job_bytes mark_bytes (number_of own.fault) own.place (given_refused own told);
           };
           length_is = omega (arith, put.next_is);
           written = put.after_is ∙ sets_start before text;
@@ -110,10 +113,10 @@ module _ {level_bytes job_bytes mark_bytes : List ℕ} {left : Buffers} {answere
         → Appended before 0 (overfull_line start end spare) text_room after whole → ListingContract level_bytes job_bytes mark_bytes before after whole
     unfolding site_text
     overfull_put start end spare is put =
-        let (site, read) = site_planned planned (λ number place e. let z : ◌≡◌ {A = ℕ} 0 1 = cc (ap outcome_of is, e) in omega (arith, z)) in
+        let (site, read) = site_planned planned (λ number place e. let z : ◌≡◌ {A = ℕ} 0 1 = cc e in omega (arith, z)) in
         text_put _ (text_read _ site (given_read site read) answered _ is left) put
 
-    pub refused_put : (number place : ℕ) → answered ≡ Refused number place
-        → Appended before 0 (refused_line number place) text_room after whole → ListingContract level_bytes job_bytes mark_bytes before after whole
+    pub refused_put : (own : Refusal) → answered ≡ Err (Refused own)
+        → Appended before 0 (refused_line (number_of own.fault) own.place) text_room after whole → ListingContract level_bytes job_bytes mark_bytes before after whole
     unfolding listing_text
-    refused_put number place is put = text_put _ (rw (given_refused number place is)) put
+    refused_put own is put = text_put _ (rw (given_refused own is)) put

@@ -1,16 +1,17 @@
 -- The listing of a site from its tables in bytes, and the contract of writing it.
-use Rattle.std.specs.Prelude.{ℕ, ◌+◌, ◌-◌, ◌*◌, ◌≤◌, ◌≡◌, List, [], ◌∷◌, ◌++◌, length, take, drop, replicate}
+use Rattle.std.specs.Prelude.{ℕ, ◌+◌, ◌-◌, ◌*◌, ◌≤◌, ◌≡◌, List, [], ◌∷◌, ◌++◌, length, take, drop, replicate, Ok, Err}
 use Rattle.model.specs.Limits.{max_jobs, max_intervals}
+use Rattle.model.specs.declared.refusal.Refusal.{Refusal}
 use Rattle.model.specs.Outcome.{Outcome, refused, answer}
+use Rattle.model.specs.Refusals.{number_of}
 use Rattle.model.specs.SiteParameters.{as_given}
 use Rattle.model.specs.Marks.{no_marks}
 use Rattle.model.specs.Sites.{Site, read_given_site, GivenSiteNumbers}
 use Rattle.model.specs.Plans.{shares_in}
 use Rattle.model.specs.PriceBytes.{prices_of}
-use Rattle.planning.specs.declared.operation.PlanAnswer.{PlanAnswer}
-use Rattle.planning.specs.declared.operation.PlanAnswer.TheVariants.{Plan, Overfull, Refused}
+use Rattle.spare.specs.declared.unmet.NoAnswer.TheVariants.{Overfull, Refused}
 use Rattle.planning.specs.MadePlans.{Buffers}
-use Rattle.planning.specs.PlanAnswers.{PlanContract}
+use Rattle.planning.specs.PlanAnswers.{PlanAnswer, PlanContract}
 use Rattle.listing_lines.specs.TextLines.{overfull_line, refused_line}
 use Rattle.listing_lines.specs.PlanText.{text_of_plan}
 use Rattle.listing_lines.specs.Appending.{text_room}
@@ -40,10 +41,10 @@ zero_buffers = record { plan = zeros plan_room; prices = zeros price_room; share
 -- The text for what planning a site answered and left in its buffers: of a plan the prices and the shares that were written.
 -- No jobs give `sizes 0 0 0` and `energy 0`.
 unfoldable pub site_text : Site → PlanAnswer → (left : Buffers) → List ℕ
-site_text site (Plan intervals steps energy) left =
-    text_of_plan site (prices_of (take (2 + 5 * intervals) left.prices)) (shares_in (length site.jobs) left.shares) steps energy
-site_text site (Overfull start end spare) left = overfull_line start end spare
-site_text site (Refused number place) left = refused_line number place
+site_text site (Ok written) left =
+    text_of_plan site (prices_of (take (2 + 5 * written.intervals) left.prices)) (shares_in (length site.jobs) left.shares) written.steps written.energy
+site_text site (Err (Overfull start end spare)) left = overfull_line start end spare
+site_text site (Err (Refused own)) left = refused_line (number_of own.fault) own.place
 
 -- A site that is refused has its refusal's line.
 unfoldable pub listing_text : Outcome Site → PlanAnswer → (left : Buffers) → List ℕ
@@ -60,7 +61,7 @@ pub record Listed (level_bytes job_bytes mark_bytes text : List ℕ) : Type 0 wh
   pub text_is : text ≡ listing_text (read_given_site level_bytes job_bytes mark_bytes) answered left
   -- "refused, number, place (1 to 10, and later numbers that its files can meet)": those of reading a site; no buffer is too
   -- short, and 11 is an overfull window
-  pub of_reading : (number place : ℕ) → answered ≡ Refused number place → GivenSiteNumbers number
+  pub of_reading : (own : Refusal) → answered ≡ Err (Refused own) → GivenSiteNumbers (number_of own.fault)
 
 -- The whole promise: the length of a listing's text is answered, as many of its bytes as have room stand in the buffer, and the
 -- rest of the buffer stays.

@@ -6,7 +6,8 @@ use crate::plan::put_plan;
 use listing_lines::{put_overfull, put_refused};
 use model::{MAX_INTERVALS, MAX_JOBS};
 use parameters::as_given;
-use planning::{PlanAnswer, plan};
+use planning::plan;
+use spare::NoAnswer;
 
 // Long enough for the plan, the prices and the shares of any site.
 const PLAN_ROOM: usize = 4 + 6 * (MAX_JOBS + MAX_INTERVALS - 1);
@@ -46,27 +47,24 @@ fn list_site(levels: &[u8], jobs: &[u8], marks: &[u8], text: &mut [u8]) -> usize
         &mut shares,
     );
     match answer {
-        PlanAnswer::Plan {
-            intervals,
-            steps,
-            energy,
-        } => put_plan(
+        Ok(written) => put_plan(
             levels,
             jobs,
             marks,
             parameters,
-            intervals as usize,
-            steps,
-            energy,
+            written.intervals as usize,
+            written.steps,
+            written.energy,
             &prices,
             &shares,
             text,
         ),
-        PlanAnswer::Overfull { start, end, spare } => put_overfull(text, start, end, spare),
-        PlanAnswer::Refused { number, place } => put_refused(text, number, place),
+        Err(NoAnswer::Overfull { start, end, spare }) => put_overfull(text, start, end, spare),
+        Err(NoAnswer::Refused(own)) => put_refused(text, own.fault.number(), own.place),
     }
 }
 
+// One function over the length for this buffer and the next was tried: its own proof did not close yet.
 fn plan_buffer() -> [u8; PLAN_ROOM]
     ensures { result ≡ zeros plan_room }
 {

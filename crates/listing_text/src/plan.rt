@@ -48,7 +48,8 @@ pub(crate) fn put_plan(
         &mut deadlines,
         &mut cycles,
         &mut times,
-    );
+    )
+    .unwrap();
     put_lines(
         site.working,
         &times,
@@ -103,12 +104,10 @@ fn put_spans(
         (prices_in intervals prices.now) (shares_in jobs shares.now)) (span_room * intervals) text.new result }
 {
     let mut next = place;
-    let mut i = 0;
-    while i < intervals {
+    for i in 0..intervals {
         let load = load_of(shares, jobs, i);
         let price = prices[2 + 4 * intervals + i];
         next = put_span(working, times[i], times[i + 1], load, price, text, next);
-        i += 1;
     }
     next
 }
@@ -119,10 +118,8 @@ fn load_of(shares: &[u32], jobs: usize, interval: usize) -> u64
     ensures { result ≡ sum jobs (shares_in jobs shares.now interval) }
 {
     let mut load = 0u64;
-    let mut j = 0;
-    while j < jobs {
+    for j in 0..jobs {
         load += shares[interval * jobs + j] as u64;
-        j += 1;
     }
     load
 }
@@ -133,10 +130,8 @@ fn put_steps(shares: &[u32], jobs: usize, intervals: usize, text: &mut [u8], pla
     ensures { Appended text.old place (step_lines jobs intervals (shares_in jobs shares.now)) (step_room * jobs * intervals) text.new result }
 {
     let mut next = place;
-    let mut i = 0;
-    while i < intervals {
+    for i in 0..intervals {
         next = put_interval(shares, jobs, i, text, next);
-        i += 1;
     }
     next
 }
@@ -153,10 +148,8 @@ fn put_interval(
     ensures { Appended text.old place (encode_each step_line (steps_in jobs (shares_in jobs shares.now) interval)) (step_room * jobs) text.new result }
 {
     let mut next = place;
-    let mut j = 0;
-    while j < jobs {
+    for j in 0..jobs {
         next = put_step(interval, j, shares[interval * jobs + j], text, next);
-        j += 1;
     }
     next
 }

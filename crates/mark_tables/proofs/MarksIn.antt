@@ -9,15 +9,15 @@ use lib.ListN.{length, get_or}
 use borrow.Author.Tests.{lt-ltb, le-ltb, eq-eqb, ne_eqb, le-leb, lt-leb}
 use Rattle.model.specs.Limits.{max_marks}
 use Rattle.model.specs.Bytes.{number32}
+use Rattle.std.specs.Prelude.{Ok}
 use Rattle.model.specs.Outcome.{refused, answer}
 use Rattle.model.specs.Marks.{mark_of, mark_count, mark_entries, not_rising, read_marks}
 use Rattle.model.proofs.Entries.{length_list_of, get_d_list_of, list_of_get_d, list_of_cong}
 use Rattle.model.proofs.Search.{some_below_holds, some_below_fails}
 use Rattle.model.proofs.Marks.{marks_valid}
-use Rattle.reading.specs.declared.Reading.TheVariants.{Entries, Refused}
+use Rattle.model.proofs.Refusals.{returned_answered}
 use Rattle.reading.specs.Column.{column_of}
 use Rattle.reading.proofs.Column.{column_at, column_of_entries}
-use Rattle.reading.proofs.ByEntry.{reading_refused, reading_held}
 use Rattle.mark_tables.specs.declared.marks.MarkTable.{MarkTable}
 use Rattle.mark_tables.specs.Tables.{mark_table, marks_in}
 
@@ -51,19 +51,20 @@ unfolding marks_in
 marks_held marks few =
     list_of_cong (length marks) _ _ (λ i below. let inside : i < max_marks = omega arith in rw column_at) ∙ list_of_get_d marks 0
 
--- what a caller that matched on the answer's case knows
-module _ (bytes : List ℕ) (table : MarkTable) (read : table ≡ mark_table (read_marks bytes)) where
-  pub marks_read_refused : (number place : ℕ) → table.reading ≡ Refused number place → read_marks bytes ≡ refused number place
-  marks_read_refused number place e = reading_refused _ number place (sym (ap (λ (t : MarkTable). t.reading) read) ∙ e)
-
-  pub marks_read : (count : ℕ) → table.reading ≡ Entries count → read_marks bytes ≡ answer (marks_in count table.marks)
-  marks_read count e =
-      reading_held _ count _ (sym (ap (λ (t : MarkTable). t.reading) read) ∙ e)
-      (λ marks answered counted. rw (read, answered, ← counted) (marks_held marks (marks_valid bytes marks answered).few))
+-- what a caller that was given the marks knows
+module _ (bytes : List ℕ) (table : MarkTable) (read : mark_table (read_marks bytes) ≡ Ok table) where
+  pub marks_read : read_marks bytes ≡ answer (marks_in table.count table.marks)
+  marks_read =
+      let (marks, answered, is) = returned_answered _ (read_marks bytes) table read in
+      answered ∙ ap answer (sym (held is (marks_valid bytes marks answered).few))
+    where
+      held : {marks : List ℕ} → record { count = length marks; marks = column_of max_marks (length marks) (λ i. mark_of marks i) } ≡ table
+          → length marks ≤ max_marks → marks_in table.count table.marks ≡ marks
+      held {marks} is few = rw (← is) (marks_held marks few)
 
   -- no more than there may be
-  pub marks_few : (count : ℕ) → table.reading ≡ Entries count → count ≤ max_marks
-  marks_few count e = omega (arith, (marks_valid bytes _ (marks_read count e)).few, length_marks_in count table.marks)
+  pub marks_few : table.count ≤ max_marks
+  marks_few = omega (arith, (marks_valid bytes _ marks_read).few, length_marks_in table.count table.marks)
 
 -- the ways out of reading
 module _ (bytes : List ℕ) where
@@ -97,7 +98,7 @@ module _ (bytes : List ℕ) where
             rw (le-ltb _ _ long, le-ltb _ _ few, eq-eqb _ _ whole, found)
 
         pub marks_answered : false ≡ not_rising (marks_in count marks)
-            → record { reading = Entries count; marks = marks } ≡ mark_table (read_marks bytes)
+            → Ok (record { count = count; marks = marks }) ≡ mark_table (read_marks bytes)
         unfolding read_marks
         marks_answered rises =
             let none : not_rising (mark_entries bytes) ≡ false = rw (← marks_are) (sym rises) in

@@ -42,10 +42,8 @@ fn insert_marks(
     ensures { HoldsTimes times.new result (insert_marks first last (marks_in mark_count marks.now) (take count times.old)) }
 {
     let mut bounds = count;
-    let mut i = mark_count;
-    while i > 0 {
-        i -= 1;
-        bounds = insert_mark(times, bounds, marks[i], first, last);
+    for mark in marks[..mark_count].iter().rev() {
+        bounds = insert_mark(times, bounds, *mark, first, last);
     }
     bounds
 }

@@ -1,5 +1,6 @@
 pub mod Numbers
 pub mod Outcome
+pub mod Refusals
 pub mod Entries
 pub mod Bytes
 pub mod Tests

@@ -1,6 +1,7 @@
 -- The definitions that a reader must believe, in the order in which they build on each other.
 pub mod Limits
 pub mod Outcome
+pub mod Refusals
 pub mod Bytes
 pub mod Entries
 pub mod Levels

@@ -2,6 +2,10 @@
 // What the words mean is defined in specs/, and the laws on the definitions are proved in proofs/.
 #![tactic(auto)]
 
+mod refusal;
+
+pub use refusal::{Fault, Refusal};
+
 // A frequency level of the processor: cycles per tick, and hundredths of a volt. A level table may begin with the idle entry:
 // 0, and what idling draws in thousands of power units.
 #[derive(Clone, Copy)]

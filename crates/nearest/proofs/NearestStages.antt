@@ -8,28 +8,30 @@ use native.Mathlib.Omega.{arith}
 use lib.ListN.{length, get_or}
 use lib.IntN.{ℤ}
 use borrow.Author.Tests.{lt-ltb, le-ltb}
+use Rattle.std.specs.Prelude.{Some, Err}
 use Rattle.model.specs.declared.Job.{Job}
 use Rattle.model.specs.declared.Parameters.{Parameters}
+use Rattle.model.specs.declared.refusal.Refusal.{Refusal}
 use Rattle.model.specs.Limits.{max_frequency, max_deadline}
-use Rattle.model.specs.Outcome.{refused, answer}
+use Rattle.model.specs.Outcome.{answer}
 use Rattle.model.specs.Jobs.{job_of, ValidJobs}
 use Rattle.model.specs.Processors.{top_of}
 use Rattle.model.specs.Sites.{Tables, read_tables}
 use Rattle.model.specs.Windows.{spare_of, earliest_overfull}
+use Rattle.model.proofs.Refusals.{RefusedBy}
 use Rattle.model.proofs.Search.{first_below_law}
 use Rattle.spans.specs.SpanAnswers.{listed}
-use Rattle.windows.specs.declared.overfull.Overfull.TheVariants.{Window as WindowFound}
+use Rattle.windows.specs.declared.overfull.Window.{Window}
 use Rattle.windows.specs.Answers.{overfull_answer}
 use Rattle.windows.proofs.Answers.{window_is}
 use Rattle.windows.proofs.Capacity.{capacity_small}
+use Rattle.spare.specs.declared.unmet.NoAnswer.TheVariants.{Refused as RefusedFor}
 use Rattle.room_order.specs.RoomOrder.{room_list}
 use Rattle.room_order.specs.Ordered.{room_in}
 use Rattle.room_order.proofs.Places.{length_room_list, room_list_alike}
 use Rattle.job_rooms.specs.AddedCycles.{with_added, is_overfull_set, room_of}
 use Rattle.nearest.specs.Nearest.{list_fitting, nearest_for, nearest}
-use Rattle.nearest.specs.declared.operation.NearestAnswer.{NearestAnswer}
-use Rattle.nearest.specs.declared.operation.NearestAnswer.TheVariants.{Listed, Overfull, Refused}
-use Rattle.nearest.specs.NearestAnswers.{Answers, NearestContract}
+use Rattle.nearest.specs.NearestAnswers.{NearestAnswer, Listed, Overfull, Refused, Answers, NearestContract}
 
 -- a set that fits
 module _ (top : ℕ) (jobs : List Job) (before : List ℕ) where
@@ -60,13 +62,13 @@ room_small top jobs valid slow j below =
 
 -- tables that were read
 module _ (tables : Tables) (before : List ℕ) where
-  pub window_found : (top start end : ℕ) (spare : ℤ) → top ≡ top_of tables.processor
-      → overfull_answer (earliest_overfull top tables.jobs) ≡ WindowFound start end
-      → spare ≡ spare_of top tables.jobs start end → Answers (nearest_for tables) before before (Overfull start end spare)
+  pub window_found : (top : ℕ) (window : Window) (spare : ℤ) → top ≡ top_of tables.processor
+      → overfull_answer (earliest_overfull top tables.jobs) ≡ Some window
+      → spare ≡ spare_of top tables.jobs window.start window.end → Answers (nearest_for tables) before before (Overfull window.start window.end spare)
   unfolding nearest_for
-  window_found top start end spare is-top found is =
-      let here : earliest_overfull (top_of tables.processor) tables.jobs ≡ some (record { start = start; end = end }) =
-      rw (← is-top) (window_is (earliest_overfull top tables.jobs) start end found) in
+  window_found top window spare is-top found is =
+      let here : earliest_overfull (top_of tables.processor) tables.jobs ≡ some (record { start = window.start; end = window.end }) =
+      rw (← is-top) (window_is (earliest_overfull top tables.jobs) window found) in
       record { answer_is = rw (here, ← is-top, is); list_is = rw here }
 
   pub set_fits : (top : ℕ) → top ≡ top_of tables.processor → earliest_overfull top tables.jobs ≡ none
@@ -78,10 +80,10 @@ module _ (tables : Tables) (before : List ℕ) where
 
 -- bytes that are refused or read
 module _ (level_bytes job_bytes : List ℕ) (parameters : Parameters) (before : List ℕ) where
-  pub tables_refused : (number place : ℕ) → read_tables level_bytes job_bytes parameters ≡ refused number place
-      → NearestContract level_bytes job_bytes parameters before before (Refused number place)
+  pub tables_refused : (own : Refusal) → RefusedBy (read_tables level_bytes job_bytes parameters) own
+      → NearestContract level_bytes job_bytes parameters before before (Err (RefusedFor own))
   unfolding nearest
-  tables_refused number place e = record { answer_is = rw e; list_is = rw e }
+  tables_refused own by = record { answer_is = rw (by.own_is, by.outcome_is); list_is = rw by.outcome_is }
 
   pub tables_answered : (tables : Tables) → read_tables level_bytes job_bytes parameters ≡ answer tables → {after : List ℕ} {answered : NearestAnswer}
       → Answers (nearest_for tables) before after answered → NearestContract level_bytes job_bytes parameters before after answered

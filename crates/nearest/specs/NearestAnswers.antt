@@ -1,12 +1,28 @@
 -- The contract of the operation: what one call answers and what it leaves in the lent list, for bytes, numbers and a list of any kind.
-use Rattle.std.specs.Prelude.{ℕ, ◌≡◌, List, length}
+use Rattle.std.specs.Prelude.{ℕ, ◌≡◌, List, length, ℤ, Result, Ok, Err}
 use Rattle.model.specs.declared.Parameters.{Parameters}
 use Rattle.job_rooms.specs.SetOutcomes.{SetOutcome, refusal, overfull, answered}
 use Rattle.nearest.specs.Nearest.{nearest, list_after}
-use Rattle.nearest.specs.declared.operation.NearestAnswer.{NearestAnswer}
-use Rattle.nearest.specs.declared.operation.NearestAnswer.TheVariants.{Listed, Overfull, Refused}
+use Rattle.model.specs.Refusals.{refusal as refusal_at}
+use Rattle.spare.specs.declared.unmet.NoAnswer.{NoAnswer}
+use Rattle.spare.specs.declared.unmet.NoAnswer.TheVariants.{Overfull as OverfullWindow, Refused as RefusedBy}
 
--- The length written, in numbers; 11 with the window and its spare; or another refusal's number and place.
+abbrev pub NearestAnswer : Type 0
+NearestAnswer = Result ℕ NoAnswer
+
+-- A list of a length was written.
+abbrev pub Listed : (length : ℕ) → NearestAnswer
+Listed size = Ok size
+
+-- 11, with the window and its spare.
+abbrev pub Overfull : (start end : ℕ) → (spare : ℤ) → NearestAnswer
+Overfull start end spare = Err (OverfullWindow start end spare)
+
+-- Another refusal, by its number and place.
+abbrev pub Refused : (number place : ℕ) → NearestAnswer
+Refused number place = Err (RefusedBy (refusal_at number place))
+
+-- The length written, in numbers; 11 with the window and its spare; or another refusal.
 abbrev pub nearest_job_answer : SetOutcome (List ℕ) → NearestAnswer
 nearest_job_answer (refusal number place) = Refused number place
 nearest_job_answer (overfull start end spare) = Overfull start end spare

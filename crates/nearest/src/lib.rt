@@ -3,4 +3,4 @@
 
 mod operation;
 
-pub use operation::{NearestAnswer, nearest};
+pub use operation::nearest;

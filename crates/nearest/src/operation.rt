@@ -14,29 +14,20 @@ ghost use Rattle.nearest.specs.NearestAnswers.{Answers, NearestContract};
 use intervals::{bound_numbers, bounds_of, interval_count, open_sets};
 use job_rooms::job_rooms;
 use job_sets::SET_WORDS;
-use model::{MAX_BOUNDS, MAX_JOBS, Parameters};
+use model::{Fault, MAX_BOUNDS, MAX_JOBS, Parameters};
 use room_order::list_rooms;
-use site::{SiteReading, TablePair, read_tables};
-use spare::window_spare;
-use windows::{Overfull, earliest_overfull};
+use site::{TablePair, read_tables};
+use spare::{NoAnswer, window_spare};
+use windows::earliest_overfull;
 
-// The length of the list that was written, in numbers; the earliest overfull window and its spare, which is refusal 11; or another
-// refusal's number and place.
-#[derive(Clone, Copy)]
-pub enum NearestAnswer {
-    Listed { length: u64 },
-    Overfull { start: u32, end: u32, spare: i64 },
-    Refused { number: u32, place: u32 },
-}
-
-// Lists for each job its number and its room, the most cycles that can be added to it alone, the smallest room first, ties by job number. Any
-// bytes, any numbers and a list of any length are answered.
+// Lists for each job its number and its room, the most cycles that can be added to it alone, the smallest room first, ties by job number, and
+// answers the length of the list in numbers. Any bytes, any numbers and a list of any length are answered.
 pub fn nearest(
     levels: &[u8],
     jobs: &[u8],
     parameters: Parameters,
     list: &mut [u32],
-) -> NearestAnswer
+) -> Result<u64, NoAnswer>
     ensures { NearestContract levels.now jobs.now parameters list.old list.new result }
 {
     let mut releases = [0u64; MAX_JOBS];
@@ -49,12 +40,8 @@ pub fn nearest(
         &mut releases,
         &mut deadlines,
         &mut cycles,
-    );
-    let reading = tables.reading;
-    match reading {
-        SiteReading::Refused { number, place } => NearestAnswer::Refused { number, place },
-        SiteReading::Read => nearest_of_tables(tables, &releases, &deadlines, &cycles, list),
-    }
+    )?;
+    nearest_of_tables(tables, &releases, &deadlines, &cycles, list)
 }
 
 // The operation where levels and jobs were read: the bounds of the jobs and the sets of the open ones are found.
@@ -64,7 +51,7 @@ fn nearest_of_tables<'a>(
     deadlines: &'a [u64; MAX_JOBS],
     cycles: &[u64; MAX_JOBS],
     list: &mut [u32],
-) -> NearestAnswer
+) -> Result<u64, NoAnswer>
     requires { (t : Tables) × ValidPair t × HoldsTables t tables releases.now deadlines.now cycles.now }
     ensures { (t : Tables) → ValidPair t → HoldsTables t tables releases.now deadlines.now cycles.now
         → Answers (nearest_for t) list.old list.new result }
@@ -104,24 +91,29 @@ fn nearest_or_window(
     last: &[u8; MAX_JOBS],
     sets: &[u64; SET_WORDS],
     list: &mut [u32],
-) -> NearestAnswer
+) -> Result<u64, NoAnswer>
     requires { (t : Tables) × (bounds : List ℕ) × InArrays t bounds count top releases.now deadlines.now cycles.now times.now intervals last.now sets.now }
     ensures { (t : Tables) (bounds : List ℕ) → InArrays t bounds count top releases.now deadlines.now cycles.now times.now intervals last.now sets.now
         → Answers (nearest_for t) list.old list.new result }
 {
     let test = earliest_overfull(times, cycles, sets, intervals, top);
-    let found = test.found;
-    match found {
-        Overfull::Window { start, end } => {
-            let spare = window_spare(releases, deadlines, cycles, count, top, start, end);
-            NearestAnswer::Overfull {
-                start: start as u32,
-                end: end as u32,
-                spare,
-            }
-        }
-        Overfull::Fits => list_fitting(count, top, cycles, times, intervals, last, sets, list),
+    if let Some(window) = test.found {
+        let spare = window_spare(
+            releases,
+            deadlines,
+            cycles,
+            count,
+            top,
+            window.start,
+            window.end,
+        );
+        return Err(NoAnswer::Overfull {
+            start: window.start as u32,
+            end: window.end as u32,
+            spare,
+        });
     }
+    list_fitting(count, top, cycles, times, intervals, last, sets, list)
 }
 
 // The list of a set that fits, where there is room for it.
@@ -134,7 +126,7 @@ fn list_fitting(
     last: &[u8; MAX_JOBS],
     sets: &[u64; SET_WORDS],
     list: &mut [u32],
-) -> NearestAnswer
+) -> Result<u64, NoAnswer>
     requires by_index { (jobs : List Job) × (bounds : List ℕ) × RoomArrays jobs bounds times.now cycles.now sets.now last.now count intervals
         × (earliest_overfull top jobs ≡ none) }
     requires top_le_max_frequency { top ≤ max_frequency }
@@ -143,15 +135,10 @@ fn list_fitting(
 {
     let wanted = 2 * count;
     if list.len() < wanted {
-        return NearestAnswer::Refused {
-            number: 14,
-            place: wanted as u32,
-        };
+        return Err(Fault::ListRoom.at(wanted as u32).into());
     }
     let mut rooms = [0u64; MAX_JOBS];
     job_rooms(times, last, cycles, sets, count, intervals, top, &mut rooms);
     list_rooms(&rooms, count, list);
-    NearestAnswer::Listed {
-        length: wanted as u64,
-    }
+    Ok(wanted as u64)
 }

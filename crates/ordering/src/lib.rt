@@ -5,4 +5,4 @@ mod operation;
 mod ordered;
 mod ranking;
 
-pub use operation::{OrderAnswer, order};
+pub use operation::order;

@@ -1,7 +1,7 @@
 -- Laws of jobs in arrays while they are altered one after another: the arrays between two jobs, one law for each way out, and what a
--- caller that matched on the answer's case knows.
+-- caller that was told how many there are, or the refusal, knows.
 -- Assumes nothing.
-use mathlib.Core.Path.{◌≡◌, sym, ◌∙◌, ap}
+use mathlib.Core.Path.{◌≡◌, refl, sym, ◌∙◌, ap}
 use mathlib.Core.Bool.{cond}
 use mathlib.Core.Logic.{◌⊎◌, inl, inr}
 use mathlib.Core.List.{List, map}
@@ -11,20 +11,21 @@ use lib.Dec.{ltb}
 use lib.ListN.{length, get_or, set, length-map}
 use lib.Seq.{ext_get_or}
 use borrow.Author.Tests.{lt-ltb, le-ltb}
+use Rattle.std.specs.Prelude.{Some, Result, Ok, Err}
+use Rattle.model.specs.declared.refusal.Fault.{Fault}
+use Rattle.model.specs.declared.refusal.Refusal.{Refusal}
 use Rattle.model.specs.declared.Job.{Job}
 use Rattle.model.specs.Limits.{max_jobs, max_free, max_margin}
 use Rattle.model.specs.Outcome.{Outcome, refused, answer}
 use Rattle.model.specs.Jobs.{no_job, job_of}
+use Rattle.model.specs.Refusals.{fault_of, refusal}
 use Rattle.model.specs.SiteParameters.{altered_job, altered_fault, alter_jobs}
 use Rattle.model.proofs.Numbers.{lt_or_le}
 use Rattle.model.proofs.Outcome.{by_entry_stops, by_entry_passes}
 use Rattle.model.proofs.SiteParameters.{altered-at}
-use Rattle.reading.specs.declared.Reading.{Reading}
-use Rattle.reading.specs.declared.Reading.TheVariants.{Entries, Refused}
+use Rattle.model.proofs.Refusals.{err≢ok, RefusedBy, fault_nonzero, fault_is, returned_refused, refused_returned}
 use Rattle.reading.specs.Column.{column_of}
-use Rattle.reading.specs.Tables.{reading_of}
 use Rattle.reading.proofs.Column.{column_at, column_cong, column_changed}
-use Rattle.reading.proofs.ByEntry.{entries≢refused, reading_refused}
 use Rattle.job_tables.specs.Tables.{jobs_in}
 use Rattle.job_tables.proofs.Read.{length_jobs_in, job-in}
 use Rattle.parameters.specs.AlteredArrays.{ZerosPast, AlteredIn}
@@ -72,13 +73,13 @@ module _ (count : ℕ) (few : count ≤ max_jobs) (new : ℕ → ℕ) where
     altered_padded = all_altered ∙ column_cong max_jobs count _ _ (λ k below. sym (altered_number k below))
 
 -- a refusal, whatever the arrays hold
-pub altering_refused : {outcome : Outcome (List Job)} {releases deadlines cycles : List ℕ} (number place : ℕ)
-    → outcome ≡ refused number place → AlteredIn outcome (Refused number place) releases deadlines cycles
-altering_refused number place e =
+pub altering_refused : {outcome : Outcome (List Job)} {own : Refusal} {releases deadlines cycles : List ℕ}
+    → RefusedBy outcome own → AlteredIn outcome (Err own) releases deadlines cycles
+altering_refused by =
     record {
-      told = ap reading_of (sym e);
-      held = λ n told. absurd (entries≢refused (sym told));
-      cycles_past = λ n told. absurd (entries≢refused (sym told));
+      told = refused_returned length by;
+      held = λ n told. absurd (err≢ok told);
+      cycles_past = λ n told. absurd (err≢ok told);
     }
 
 module _ (count free margin : ℕ) (releases deadlines cycles : List ℕ) where
@@ -86,13 +87,19 @@ module _ (count free margin : ℕ) (releases deadlines cycles : List ℕ) where
   jobs = jobs_in count releases deadlines cycles
 
   -- 35
-  pub free_refused : max_free < free → alter_jobs free margin jobs ≡ refused 35 0
+  pub free_refused : max_free < free → RefusedBy (alter_jobs free margin jobs) (refusal 35 0)
   unfolding alter_jobs
-  free_refused high = rw (lt-ltb max_free free high)
+  free_refused high = record { number = 35; place = 0; outcome_is = is; own_is = refl }
+    where
+      is : alter_jobs free margin jobs ≡ refused 35 0
+      is = rw (lt-ltb max_free free high)
 
-  pub margin_refused : free ≤ max_free → max_margin < margin → alter_jobs free margin jobs ≡ refused 35 0
+  pub margin_refused : free ≤ max_free → max_margin < margin → RefusedBy (alter_jobs free margin jobs) (refusal 35 0)
   unfolding alter_jobs
-  margin_refused low high = rw (le-ltb max_free free low, lt-ltb max_margin margin high)
+  margin_refused low high = record { number = 35; place = 0; outcome_is = is; own_is = refl }
+    where
+      is : alter_jobs free margin jobs ≡ refused 35 0
+      is = rw (le-ltb max_free free low, lt-ltb max_margin margin high)
 
   -- Job number j as it is altered.
   abbrev pub altered_at : ℕ → Job
@@ -108,25 +115,28 @@ module _ (count free margin : ℕ) (releases deadlines cycles : List ℕ) where
 
   module _ (free_high : free ≤ max_free) (margin_high : margin ≤ max_margin) where
     -- 36 at the first job that has it
-    pub job_refused : (j number : ℕ) → j < count → ((k : ℕ) → k < j → altered_fault (altered_at k) ≡ 0) → number ≡ altered_fault (altered_at j)
-        → (number ≡ 0 → ⊥) → alter_jobs free margin jobs ≡ refused number j
+    pub job_refused : (j : ℕ) (fault : Fault) → j < count → ((k : ℕ) → k < j → altered_fault (altered_at k) ≡ 0)
+        → fault_of (altered_fault (altered_at j)) ≡ Some fault → RefusedBy (alter_jobs free margin jobs) (record { fault = fault; place = j })
     unfolding alter_jobs
-    job_refused j number below sound is-fault bad =
-        let here = fault_at j below in
-        rw (
-          le-ltb max_free free free_high,
-          le-ltb max_margin margin margin_high,
-          is-fault,
-          ← here,
-          by_entry_stops (λ k. altered_fault (job_of (map (altered_job free margin) jobs) k)) (answer (map (altered_job free margin) jobs)) (length jobs) j
-              (λ k before. fault_at k (omega arith) ∙ sound k before) (rw (length_jobs_in count releases deadlines cycles) below)
-              (omega (arith, here, is-fault, bad)),
-        )
+    job_refused j fault below sound found =
+        record { number = altered_fault (altered_at j); place = j; outcome_is = is; own_is = rw (fault_is _ _ found) refl }
+      where
+        is : alter_jobs free margin jobs ≡ refused (altered_fault (altered_at j)) j
+        is =
+            let here = fault_at j below in
+            rw (
+              le-ltb max_free free free_high,
+              le-ltb max_margin margin margin_high,
+              ← here,
+              by_entry_stops (λ k. altered_fault (job_of (map (altered_job free margin) jobs) k)) (answer (map (altered_job free margin) jobs)) (length jobs) j
+                  (λ k before. fault_at k (omega arith) ∙ sound k before) (rw (length_jobs_in count releases deadlines cycles) below)
+                  (omega (arith, here, fault_nonzero _ _ found)),
+            )
 
     -- no job has it, and the arrays hold the altered ones
     pub jobs_held : (new_deadlines new_cycles : List ℕ) → ((k : ℕ) → k < count → altered_fault (altered_at k) ≡ 0)
         → ((k : ℕ) → k < count → get_or new_deadlines k 0 ≡ (altered_at k).deadline) → ((k : ℕ) → k < count → get_or new_cycles k 0 ≡ (altered_at k).cycles)
-        → ZerosPast count new_cycles → AlteredIn (alter_jobs free margin jobs) (Entries count) releases new_deadlines new_cycles
+        → ZerosPast count new_cycles → AlteredIn (alter_jobs free margin jobs) (Ok count) releases new_deadlines new_cycles
     unfolding alter_jobs altered_job
     jobs_held new_deadlines new_cycles sound earlier more padded =
         record {
@@ -154,7 +164,7 @@ module _ (count free margin : ℕ) (releases deadlines cycles : List ℕ) where
             (λ k below. let inside : k < count = rw (length_jobs_in count releases deadlines cycles) at below in fault_at k inside ∙ sound k inside))
 
 -- what a caller knows
-module _ {outcome : Outcome (List Job)} {reading : Reading} {releases deadlines cycles : List ℕ}
-    (altered : AlteredIn outcome reading releases deadlines cycles) where
-  pub refused_altering : (number place : ℕ) → reading ≡ Refused number place → outcome ≡ refused number place
-  refused_altering number place e = reading_refused outcome number place (sym altered.told ∙ e)
+module _ {outcome : Outcome (List Job)} {result : Result ℕ Refusal} {releases deadlines cycles : List ℕ}
+    (altered : AlteredIn outcome result releases deadlines cycles) where
+  pub refused_altering : (own : Refusal) → result ≡ Err own → RefusedBy outcome own
+  refused_altering own e = returned_refused length outcome own (sym altered.told ∙ e)

@@ -9,17 +9,19 @@ use lib.Dec.{eqb}
 use lib.ListN.{length, get_or, take}
 use lib.Seq.{length-take-le, get_or-take, ext_get_or}
 use borrow.Author.Tests.{le-leb, lt-leb}
+use Rattle.std.specs.Prelude.{Result, Ok, Err}
+use Rattle.model.specs.declared.refusal.Refusal.{Refusal}
 use Rattle.model.specs.declared.Level.{Level}
-use Rattle.model.specs.Outcome.{refused, answer}
+use Rattle.model.specs.Outcome.{answer}
 use Rattle.model.specs.Levels.{idling}
 use Rattle.model.specs.LevelTables.{idle_entries, running_levels, ValidLevelTable}
+use Rattle.model.specs.Refusals.{refusal}
 use Rattle.model.specs.SiteParameters.{alter_levels}
 use Rattle.model.proofs.LevelTables.{idle_few, running_length}
 use Rattle.model.proofs.SiteParameters.{levels_altered, altered_are_valid}
-use Rattle.reading.specs.declared.Reading.{Reading}
-use Rattle.reading.specs.declared.Reading.TheVariants.{Entries, Refused}
-use Rattle.reading.specs.Tables.{reading_of}
-use Rattle.reading.proofs.ByEntry.{reading_refused, reading_held}
+use Rattle.model.proofs.Refusals.{RefusedBy, returned_refused}
+use Rattle.reading.specs.Tables.{returned_count}
+use Rattle.reading.proofs.ByEntry.{reading_held}
 use Rattle.level_tables.specs.Tables.{levels_in}
 use Rattle.level_tables.proofs.Read.{length_levels_in, level_in}
 
@@ -39,19 +41,19 @@ module _ (count : ℕ) (frequencies voltages : List ℕ) (some : 1 ≤ count) wh
 
   module _ (highest : ℕ) where
     -- 35: no level, or more than there are
-    pub none_allowed : highest < 1 → Refused 35 0 ≡ reading_of (alter_levels highest entries)
+    pub none_allowed : highest < 1 → Err (refusal 35 0) ≡ returned_count (alter_levels highest entries)
     unfolding alter_levels
     none_allowed low = rw (lt-leb 1 highest low)
 
     module _ (low : 1 ≤ highest) (idle : ℕ) (told : idle ≡ cond (eqb (get_or frequencies 0 0) 0) 1 0) where
-      pub too_high : count < idle + highest → Refused 35 0 ≡ reading_of (alter_levels highest entries)
+      pub too_high : count < idle + highest → Err (refusal 35 0) ≡ returned_count (alter_levels highest entries)
       unfolding alter_levels
       too_high past =
           let few : idle ≤ 1 = rw (idle_in idle told) at (idle_few entries) in
           let above : length (running_levels entries) < highest = omega (arith, counted idle told) in
           rw (le-leb 1 highest low, lt-leb highest (length (running_levels entries)) above)
 
-      pub allowed : idle + highest ≤ count → Entries (idle + highest) ≡ reading_of (alter_levels highest entries)
+      pub allowed : idle + highest ≤ count → Ok (idle + highest) ≡ returned_count (alter_levels highest entries)
       unfolding alter_levels
       allowed inside =
           let upto : highest ≤ length (running_levels entries) = omega (arith, counted idle told) in
@@ -77,10 +79,10 @@ take_levels_in kept count frequencies voltages few =
     ∙ level_in count frequencies voltages i (omega arith)
     ∙ sym (level_in kept frequencies voltages i inside))
 
--- what a caller that matched on the answer's case knows of the altered table
-module _ (count : ℕ) (frequencies voltages : List ℕ) (highest : ℕ) (reading : Reading)
-    (told : reading ≡ reading_of (alter_levels highest (levels_in count frequencies voltages))) where
-  pub levels_kept : (kept : ℕ) → reading ≡ Entries kept → alter_levels highest (levels_in count frequencies voltages) ≡ answer (levels_in kept frequencies voltages)
+-- what a caller that was told how many are kept, or the refusal, knows of the altered table
+module _ (count : ℕ) (frequencies voltages : List ℕ) (highest : ℕ) (result : Result ℕ Refusal)
+    (told : result ≡ returned_count (alter_levels highest (levels_in count frequencies voltages))) where
+  pub levels_kept : (kept : ℕ) → result ≡ Ok kept → alter_levels highest (levels_in count frequencies voltages) ≡ answer (levels_in kept frequencies voltages)
   levels_kept kept e =
       reading_held _ kept (levels_in kept frequencies voltages) (sym told ∙ e)
       (λ levels altered size.
@@ -92,8 +94,8 @@ module _ (count : ℕ) (frequencies voltages : List ℕ) (highest : ℕ) (readin
       let few : kept ≤ count = omega (arith, same, enough, length_levels_in count frequencies voltages) in
       sym (take_levels_in kept count frequencies voltages few) ∙ ap (λ (n : ℕ). take n given) (sym same) ∙ sym law.entries_are)
 
-  pub kept_valid : ValidLevelTable (levels_in count frequencies voltages) → (kept : ℕ) → reading ≡ Entries kept → ValidLevelTable (levels_in kept frequencies voltages)
+  pub kept_valid : ValidLevelTable (levels_in count frequencies voltages) → (kept : ℕ) → result ≡ Ok kept → ValidLevelTable (levels_in kept frequencies voltages)
   kept_valid valid kept e = altered_are_valid.0 highest _ _ valid (levels_kept kept e)
 
-  pub levels_limited : (number place : ℕ) → reading ≡ Refused number place → alter_levels highest (levels_in count frequencies voltages) ≡ refused number place
-  levels_limited number place e = reading_refused _ number place (sym told ∙ e)
+  pub levels_limited : (own : Refusal) → result ≡ Err own → RefusedBy (alter_levels highest (levels_in count frequencies voltages)) own
+  levels_limited own e = returned_refused length _ own (sym told ∙ e)

@@ -1,13 +1,12 @@
 -- Jobs in plain arrays before and after they are altered.
-use Rattle.std.specs.Prelude.{ℕ, ◌≡◌, List, get_or}
+use Rattle.std.specs.Prelude.{ℕ, ◌≡◌, List, get_or, Result, Ok}
+use Rattle.model.specs.declared.refusal.Refusal.{Refusal}
 use Rattle.model.specs.declared.Job.{Job}
 use Rattle.model.specs.Limits.{max_jobs}
 use Rattle.model.specs.Outcome.{Outcome, answer}
 use Rattle.model.specs.Jobs.{ValidJobs}
-use Rattle.reading.specs.declared.Reading.{Reading}
-use Rattle.reading.specs.declared.Reading.TheVariants.{Entries}
 use Rattle.reading.specs.Column.{column_of}
-use Rattle.reading.specs.Tables.{reading_of}
+use Rattle.reading.specs.Tables.{returned_count}
 use Rattle.job_tables.specs.Tables.{jobs_in}
 
 -- An array of 64 numbers has zeros past the first `count`.
@@ -20,8 +19,8 @@ pub record ValidArrays (count : ℕ) (releases deadlines cycles : List ℕ) : Ty
   pub deadlines_past : ZerosPast count deadlines
   pub cycles_past : ZerosPast count cycles
 
--- What altering jobs answers: the enum's case and, where they are altered, the jobs in the arrays, zeros past the last one's cycles.
-pub record AlteredIn (outcome : Outcome (List Job)) (reading : Reading) (releases deadlines cycles : List ℕ) : Type 0 where
-  pub told : reading ≡ reading_of outcome
-  pub held : (n : ℕ) → reading ≡ Entries n → outcome ≡ answer (jobs_in n releases deadlines cycles)
-  pub cycles_past : (n : ℕ) → reading ≡ Entries n → ZerosPast n cycles
+-- What altering jobs answers: how many there are or the refusal and, where they are altered, the jobs in the arrays, zeros past the last one's cycles.
+pub record AlteredIn (outcome : Outcome (List Job)) (result : Result ℕ Refusal) (releases deadlines cycles : List ℕ) : Type 0 where
+  pub told : result ≡ returned_count outcome
+  pub held : (n : ℕ) → result ≡ Ok n → outcome ≡ answer (jobs_in n releases deadlines cycles)
+  pub cycles_past : (n : ℕ) → result ≡ Ok n → ZerosPast n cycles

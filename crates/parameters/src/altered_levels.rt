@@ -3,24 +3,24 @@ ghost use Rattle.std.specs.Prelude.{◌≡◌, List, ℕ, ◌≤◌, length};
 ghost use Rattle.model.specs.Limits.{max_levels};
 ghost use Rattle.model.specs.LevelTables.{running_levels};
 ghost use Rattle.model.specs.SiteParameters.{alter_levels, as_given};
-ghost use Rattle.reading.specs.Tables.{reading_of};
+ghost use Rattle.reading.specs.Tables.{returned_count};
 ghost use Rattle.level_tables.specs.Tables.{levels_in};
 
 use level_tables::{idle_entries, read_levels};
-use model::{Level, MAX_LEVELS, Parameters};
-use reading::Reading;
+use model::{Fault, Level, MAX_LEVELS, Parameters, Refusal};
 
 // How many entries of a level table in arrays stay, the idle entry with them, where running levels are allowed up to the highest. The
 // frequencies tell: those that stay are the first, and voltages do not bear on it.
-pub fn alter_levels(frequencies: &[u64; MAX_LEVELS], count: usize, highest: u32) -> Reading
+pub fn alter_levels(
+    frequencies: &[u64; MAX_LEVELS],
+    count: usize,
+    highest: u32,
+) -> Result<usize, Refusal>
     requires { (1 ≤ count) × (count ≤ max_levels) }
-    ensures { (voltages : List ℕ) → result ≡ reading_of (alter_levels highest (levels_in count frequencies.now voltages)) }
+    ensures { (voltages : List ℕ) → result ≡ returned_count (alter_levels highest (levels_in count frequencies.now voltages)) }
 {
     if highest < 1 {
-        return Reading::Refused {
-            number: 35,
-            place: 0,
-        };
+        return Err(Fault::Parameter.at(0));
     }
     let first = Level {
         frequency: frequencies[0],
@@ -28,12 +28,9 @@ pub fn alter_levels(frequencies: &[u64; MAX_LEVELS], count: usize, highest: u32)
     };
     let kept = idle_entries(first) + highest as usize;
     if kept > count {
-        return Reading::Refused {
-            number: 35,
-            place: 0,
-        };
+        return Err(Fault::Parameter.at(0));
     }
-    Reading::Entries(kept)
+    Ok(kept)
 }
 
 // The parameters with which a level table, and any job table, stay as they are given: all running levels, 0 and 0. Any bytes are
@@ -41,25 +38,14 @@ pub fn alter_levels(frequencies: &[u64; MAX_LEVELS], count: usize, highest: u32)
 pub fn as_given(levels: &[u8]) -> Parameters
     ensures { result ≡ as_given levels.now }
 {
-    let table = read_levels(levels);
-    let reading = table.reading;
-    match reading {
-        Reading::Refused {
-            number: _,
-            place: _,
-        } => Parameters {
-            highest: 0,
-            free: 0,
-            margin: 0,
-        },
-        Reading::Entries(count) => {
-            let frequencies = table.frequencies;
-            Parameters {
-                highest: running_count(&frequencies, count),
-                free: 0,
-                margin: 0,
-            }
-        }
+    let highest = match read_levels(levels) {
+        Ok(table) => running_count(&table.frequencies, table.count),
+        Err(_) => 0,
+    };
+    Parameters {
+        highest,
+        free: 0,
+        margin: 0,
     }
 }
 

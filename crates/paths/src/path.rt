@@ -34,7 +34,7 @@ pub fn fill(
 {
     let target = found.target;
     let free = room[target];
-    let most = if free < turn.left { free } else { turn.left };
+    let most = free.min(turn.left);
     let mut route = [0; MAX_JOBS];
     let amount = path_limit(
         first, last, shares, reached, source, found, turn.jobs, most, &mut route,
@@ -79,9 +79,7 @@ fn path_limit(
     while s > 0 {
         let gap = source[s] as usize;
         let share = share_of(shares, jobs, gap, reached[s] as usize);
-        if share < limit {
-            limit = share;
-        }
+        limit = limit.min(share);
         s = first_open(first, last, reached, gap);
         steps += 1;
         route[steps] = s as u8;
@@ -131,6 +129,7 @@ fn first_open(
         → result ≡ first_open (with_windows p jobs first.now last.now) count (numbers_in reached.now) interval }
 {
     let here = interval as u8;
+    // no range: one is open, so that the search needs no end
     let mut s = 0;
     loop {
         let job = reached[s] as usize;

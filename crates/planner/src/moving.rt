@@ -34,15 +34,13 @@ pub(crate) fn move_jobs(
         shares.old room.old holders.old prices.old left.old
         shares.new room.new holders.new prices.new left.new band jobs }
 {
-    let mut job = 0;
-    while job < jobs {
+    for job in 0..jobs {
         let turn = Turn {
             job,
             jobs,
             left: left[job],
         };
         left[job] = move_job(first, last, shares, room, holders, prices, band, turn);
-        job += 1;
     }
 }
 

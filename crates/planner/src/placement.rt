@@ -50,8 +50,7 @@ pub fn place(
 {
     clear(shares, intervals * jobs);
     let mut left = *cycles;
-    let mut band = 0;
-    while band < bands {
+    for band in 0..bands {
         let gap = frequency[band + 1] - frequency[band];
         add_band(size, intervals, gap, loads);
         fill_jobs(
@@ -60,7 +59,6 @@ pub fn place(
         move_jobs(
             first, last, shares, loads, holders, prices, &mut left, jobs, band as u8,
         );
-        band += 1;
     }
     loads_of(size, intervals, frequency[bands], loads);
 }
@@ -71,9 +69,5 @@ fn clear(shares: &mut [u32], count: usize)
     ensures { KeptPast count shares.old shares.new
         × ((k : ℕ) → k < count → numbers_in shares.new k ≡ 0) }
 {
-    let mut k = 0;
-    while k < count {
-        shares[k] = 0;
-        k += 1;
-    }
+    shares[..count].fill(0);
 }

@@ -18,10 +18,9 @@ pub(crate) fn add_band(
         × ((i : ℕ) → i < intervals → numbers_in room.new i ≡ numbers_in room.old i + numbers_in size.now i * gap)
         × ((i : ℕ) → intervals ≤ i → numbers_in room.new i ≡ numbers_in room.old i) }
 {
-    let mut i = 0;
-    while i < intervals {
+    // no zip: after one of iter_mut nothing is known of what was written
+    for i in 0..intervals {
         room[i] += size[i] * gap;
-        i += 1;
     }
 }
 
@@ -38,9 +37,8 @@ pub(crate) fn loads_of(
         × ((i : ℕ) → i < intervals → numbers_in room.new i + numbers_in room.old i ≡ numbers_in size.now i * frequency)
         × ((i : ℕ) → intervals ≤ i → numbers_in room.new i ≡ numbers_in room.old i) }
 {
-    let mut i = 0;
-    while i < intervals {
+    // no zip: after one of iter_mut nothing is known of what was written
+    for i in 0..intervals {
         room[i] = size[i] * frequency - room[i];
-        i += 1;
     }
 }

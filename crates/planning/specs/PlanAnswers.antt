@@ -1,19 +1,36 @@
 -- The contract of planning: what one call answers and what it leaves in the buffers, for bytes and buffers of any length.
-use Rattle.std.specs.Prelude.{ℕ, ◌+◌, ◌*◌, ◌≡◌, ◌↔◌, List, length, take, ℤ}
+use Rattle.std.specs.Prelude.{ℕ, ◌+◌, ◌*◌, ◌≡◌, ◌↔◌, List, length, take, ℤ, Result, Ok, Err}
 use Rattle.model.specs.declared.Parameters.{Parameters}
 use Rattle.model.specs.Sites.{Site}
 use Rattle.model.specs.Planning.{PlanOutcome, refusal, overfull, comes_out, plan_for, planning}
 use Rattle.model.specs.Demands.{ValidTables, LongEnough, CanBeServed, EarliestWindow, BestPlan}
-use Rattle.planning.specs.declared.operation.PlanAnswer.{PlanAnswer}
-use Rattle.planning.specs.declared.operation.PlanAnswer.TheVariants.{Plan, Overfull, Refused}
+use Rattle.model.specs.Refusals.{number_of, refusal as refusal_at}
+use Rattle.spare.specs.declared.unmet.NoAnswer.{NoAnswer}
+use Rattle.spare.specs.declared.unmet.NoAnswer.TheVariants.{Overfull as OverfullWindow, Refused as RefusedBy}
+use Rattle.planning.specs.declared.operation.WrittenPlan.{WrittenPlan}
 use Rattle.planning.specs.MadePlans.{Buffers, Written}
+
+abbrev pub PlanAnswer : Type 0
+PlanAnswer = Result WrittenPlan NoAnswer
+
+-- A plan was written, of so many intervals and steps, with its energy figure.
+abbrev pub Plan : (intervals steps energy : ℕ) → PlanAnswer
+Plan intervals steps energy = Ok (record { intervals = intervals; steps = steps; energy = energy })
+
+-- 11, with the window and its spare.
+abbrev pub Overfull : (start end : ℕ) → (spare : ℤ) → PlanAnswer
+Overfull start end spare = Err (OverfullWindow start end spare)
+
+-- Another refusal, by its number and place.
+abbrev pub Refused : (number place : ℕ) → PlanAnswer
+Refused number place = Err (RefusedBy (refusal_at number place))
 
 -- Document 01's number and values for each case: a plan came out, 11 with the window and its spare, or another refusal
 -- with its number and place.
 abbrev pub outcome_of : PlanAnswer → PlanOutcome
-outcome_of (Plan intervals steps energy) = comes_out
-outcome_of (Overfull start end spare) = overfull start end spare
-outcome_of (Refused number place) = refusal number place
+outcome_of (Ok written) = comes_out
+outcome_of (Err (OverfullWindow start end spare)) = overfull start end spare
+outcome_of (Err (RefusedBy own)) = refusal (number_of own.fault) own.place
 
 -- What planning a site that was read keeps: the outcome, the buffers where no plan comes out, and what is written where one does.
 pub record SitePlanned (site : Site) (before after : Buffers) (answered : PlanAnswer) : Type 0 where

@@ -5,4 +5,4 @@ mod making;
 mod operation;
 mod placing;
 
-pub use operation::{PlanAnswer, plan};
+pub use operation::{WrittenPlan, plan};

@@ -94,9 +94,7 @@ fn sizes(times: &[u64; MAX_BOUNDS], intervals: usize, lengths: &mut [u64; MAX_IN
     requires { (intervals ≤ max_intervals) × (lengths.old ≡ replicate max_intervals 0) × ((i : ℕ) → i < intervals → get_or times.now i 0 ≤ get_or times.now (i + 1) 0) }
     ensures { lengths.new ≡ column_of max_intervals intervals (λ i. get_or times.now (i + 1) 0 - get_or times.now i 0) }
 {
-    let mut i = 0;
-    while i < intervals {
+    for i in 0..intervals {
         lengths[i] = times[i + 1] - times[i];
-        i += 1;
     }
 }

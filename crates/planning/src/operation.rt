@@ -1,4 +1,5 @@
 // Planning, from bytes.
+ghost use Rattle.std.specs.Prelude.{◌≡◌, ℕ, ◌^◌, ◌<◌, Ok, Err, cond, ltb};
 ghost use Rattle.model.specs.Sites.{Site, ValidSite};
 ghost use Rattle.site.specs.SiteTables.{HoldsSite, HoldsSome};
 ghost use Rattle.planning.specs.SiteArrays.{InArrays};
@@ -8,30 +9,18 @@ ghost use Rattle.planning.specs.PlanAnswers.{SitePlanned, PlanContract};
 use crate::making::make_plan;
 use intervals::{bound_numbers, interval_count, open_sets};
 use job_sets::SET_WORDS;
-use model::{MAX_BOUNDS, MAX_JOBS, Parameters};
+use model::{Fault, MAX_BOUNDS, MAX_JOBS, Parameters, Refusal};
 use rooms::rooms_of;
-use site::{SiteReading, SiteTable, read_site};
-use spare::window_spare;
-use windows::{Overfull, earliest_overfull};
+use site::{SiteTable, read_site};
+use spare::{NoAnswer, window_spare};
+use windows::earliest_overfull;
 
-// Intervals, steps and energy figure of the plan written; the earliest overfull window and its spare, which is refusal 11;
-// or another refusal's number and place.
-#[derive(Clone, Copy)]
-pub enum PlanAnswer {
-    Plan {
-        intervals: u32,
-        steps: u32,
-        energy: u64,
-    },
-    Overfull {
-        start: u32,
-        end: u32,
-        spare: i64,
-    },
-    Refused {
-        number: u32,
-        place: u32,
-    },
+// Intervals, steps and energy figure of the plan that was written.
+#[derive(Clone, Copy, Debug, PartialEq, Eq)]
+pub struct WrittenPlan {
+    pub intervals: u32,
+    pub steps: u32,
+    pub energy: u64,
 }
 
 // Plans a site: writes a plan of least energy, its prices and its shares. Any bytes, numbers and buffers are answered.
@@ -43,7 +32,7 @@ pub fn plan(
     plan: &mut [u8],
     prices: &mut [u8],
     shares: &mut [u32],
-) -> PlanAnswer
+) -> Result<WrittenPlan, NoAnswer>
     ensures { PlanContract levels.now jobs.now marks.now parameters
         (record { plan = plan.entry.now; prices = prices.old; shares = shares.old })
         (record { plan = plan.exit.now; prices = prices.new; shares = shares.new }) result }
@@ -61,14 +50,10 @@ pub fn plan(
         &mut deadlines,
         &mut cycles,
         &mut times,
-    );
-    let reading = site.reading;
-    match reading {
-        SiteReading::Refused { number, place } => PlanAnswer::Refused { number, place },
-        SiteReading::Read => plan_site(
-            site, &releases, &deadlines, &cycles, &times, plan, prices, shares,
-        ),
-    }
+    )?;
+    plan_site(
+        site, &releases, &deadlines, &cycles, &times, plan, prices, shares,
+    )
 }
 
 // Planning where the site was read: for each job the numbers of its bounds, and for each interval the set of the jobs open there,
@@ -82,7 +67,7 @@ fn plan_site(
     plan: &mut [u8],
     prices: &mut [u8],
     shares: &mut [u32],
-) -> PlanAnswer
+) -> Result<WrittenPlan, NoAnswer>
     requires { HoldsSome site releases.now deadlines.now cycles.now times.now }
     ensures { (s : Site) → ValidSite s → HoldsSite s site releases.now deadlines.now cycles.now times.now → SitePlanned s
         (record { plan = plan.entry.now; prices = prices.old; shares = shares.old })
@@ -113,7 +98,7 @@ fn plan_or_window(
     plan: &mut [u8],
     prices: &mut [u8],
     shares: &mut [u32],
-) -> PlanAnswer
+) -> Result<WrittenPlan, NoAnswer>
     requires { (s : Site) × InArrays s site cycles.now times.now first.now last.now «open».now
         × HoldsSite s site releases.now deadlines.now cycles.now times.now }
     ensures { (s : Site) → InArrays s site cycles.now times.now first.now last.now «open».now
@@ -124,20 +109,23 @@ fn plan_or_window(
     let intervals = interval_count(site.bounds);
     let top = site.top;
     let test = earliest_overfull(times, cycles, open, intervals, top);
-    let found = test.found;
-    match found {
-        Overfull::Window { start, end } => {
-            let spare = window_spare(releases, deadlines, cycles, site.jobs, top, start, end);
-            PlanAnswer::Overfull {
-                start: start as u32,
-                end: end as u32,
-                spare,
-            }
-        }
-        Overfull::Fits => {
-            plan_fitting(site, cycles, times, first, last, open, plan, prices, shares)
-        }
+    if let Some(window) = test.found {
+        let spare = window_spare(
+            releases,
+            deadlines,
+            cycles,
+            site.jobs,
+            top,
+            window.start,
+            window.end,
+        );
+        return Err(NoAnswer::Overfull {
+            start: window.start as u32,
+            end: window.end as u32,
+            spare,
+        });
     }
+    plan_fitting(site, cycles, times, first, last, open, plan, prices, shares)
 }
 
 // Planning where no window is overfull: each buffer is compared with the length wanted, and then the plan is made.
@@ -151,35 +139,31 @@ fn plan_fitting(
     plan: &mut [u8],
     prices: &mut [u8],
     shares: &mut [u32],
-) -> PlanAnswer
+) -> Result<WrittenPlan, NoAnswer>
     requires { (s : Site) × FitsIn s site cycles.now times.now first.now last.now «open».now }
     ensures { (s : Site) → FitsIn s site cycles.now times.now first.now last.now «open».now → SitePlanned s
         (record { plan = plan.entry.now; prices = prices.old; shares = shares.old })
         (record { plan = plan.exit.now; prices = prices.new; shares = shares.new }) result }
 {
     let rooms = rooms_of(site.jobs, interval_count(site.bounds), open);
-    if plan.len() < rooms.plan {
-        return PlanAnswer::Refused {
-            number: 12,
-            place: rooms.plan as u32,
-        };
-    }
-    if prices.len() < rooms.prices {
-        return PlanAnswer::Refused {
-            number: 13,
-            place: rooms.prices as u32,
-        };
-    }
-    if shares.len() < rooms.shares {
-        return PlanAnswer::Refused {
-            number: 14,
-            place: rooms.shares as u32,
-        };
-    }
+    room_for(rooms.plan, plan.len(), Fault::PlanRoom)?;
+    room_for(rooms.prices, prices.len(), Fault::PricesRoom)?;
+    room_for(rooms.shares, shares.len(), Fault::ListRoom)?;
     let figures = make_plan(site, cycles, times, first, last, open, plan, prices, shares);
-    PlanAnswer::Plan {
+    Ok(WrittenPlan {
         intervals: figures.intervals as u32,
         steps: figures.steps as u32,
         energy: figures.energy,
+    })
+}
+
+// Refuses a buffer that is shorter than the length wanted.
+fn room_for(wanted: usize, length: usize, fault: Fault) -> Result<(), Refusal>
+    requires { wanted < 2 ^ 32 }
+    ensures { result ≡ cond (ltb length wanted) (Err (record { fault = fault; place = wanted })) (Ok tt) }
+{
+    if length < wanted {
+        return Err(fault.at(wanted as u32));
     }
+    Ok(())
 }

@@ -2,10 +2,10 @@
 ghost use Rattle.std.specs.Prelude.{◌≡◌, ◌++◌, ℕ, suc, ◌+◌, ◌*◌, ◌<◌, ◌≤◌, length, get_or, drop};
 ghost use Rattle.std.proofs.lemmas.List.Edits.{sets};
 ghost use Rattle.model.specs.Limits.{max_intervals};
-ghost use Rattle.price_writing.specs.PriceListBytes.{end_bytes, price_bytes, encode_prices};
+ghost use Rattle.price_writing.specs.PriceListBytes.{price_bytes, encode_prices};
 
 use model::{MAX_BOUNDS, MAX_INTERVALS};
-use writing::{put16, put32};
+use writing::{put_column, put16};
 
 // Writes the price list at the start of the buffer. Interval i goes from time i to time i + 1. The prices that are lent
 // count from 0, those of a price list from 1.
@@ -20,20 +20,8 @@ pub fn write_prices(
     ensures { out.new ≡ encode_prices intervals (λ i. get_or times.now (suc i) 0) (λ i. suc (get_or prices.now i 0)) ++ drop (2 + 5 * intervals) out.old }
 {
     put16(out, 0, intervals as u64);
-    write_ends(times, intervals, out);
+    put_column(out, 2, &times[1..intervals + 1]);
     write_price_bytes(prices, intervals, out);
-}
-
-// Writes the ends of the intervals after the count.
-fn write_ends(times: &[u64; MAX_BOUNDS], intervals: usize, out: &mut [u8])
-    requires { (intervals ≤ max_intervals) × (2 + 4 * intervals ≤ length out.old) }
-    ensures { out.new ≡ sets out.old 2 (end_bytes intervals (λ i. get_or times.now (suc i) 0)) }
-{
-    let mut i = 0;
-    while i < intervals {
-        put32(out, 2 + 4 * i, times[i + 1]);
-        i += 1;
-    }
 }
 
 // Writes the prices of the intervals, counted from 1, after the ends.
@@ -42,9 +30,7 @@ fn write_price_bytes(prices: &[u8; MAX_INTERVALS], intervals: usize, out: &mut [
     requires by_index { (i : ℕ) → i < intervals → get_or prices.now i 0 < 255 }
     ensures { out.new ≡ sets out.old (2 + 4 * intervals) (price_bytes intervals (λ i. suc (get_or prices.now i 0))) }
 {
-    let mut i = 0;
-    while i < intervals {
-        out[2 + 4 * intervals + i] = prices[i] + 1;
-        i += 1;
+    for (i, price) in prices[..intervals].iter().enumerate() {
+        out[2 + 4 * intervals + i] = *price + 1;
     }
 }

@@ -3,7 +3,7 @@
 use mathlib.Core.Path.{◌≡◌, refl, sym, ◌∙◌}
 use mathlib.Core.Bool.{true, false}
 use mathlib.Core.List.{List}
-use Prim.Native.Nat.{ℕ, ◌<◌, ◌≤◌, max}
+use Prim.Native.Nat.{ℕ, ◌<◌, max}
 use native.Mathlib.Decide.{ℕ_discrete}
 use native.Mathlib.Omega.{arith}
 use lib.ListN.{length, set, length-set}
@@ -63,17 +63,13 @@ pub raises_end : {all rest : JobSet} {price : ℕ} {before after : List ℕ} →
 raises_end {rest = rest} so_far empty =
     record { size = so_far.size; members = λ j has. so_far.done j has (empty_has rest empty j); others = so_far.others }
 
--- a number that is lower becomes the price, and another stays
-module _ {all rest : JobSet} {price job : ℕ} {before after : List ℕ} (so_far : RaisedSoFar all rest price before after) (has : is_member rest job ≡ true)
-    (small : job < max_jobs) where
-  pub raises_store : numbers_in after job < price → RaisedSoFar all (without_job rest job) price before (set after job price)
-  raises_store lower =
-      raises_next so_far has (rw length-set so_far.size)
-      (get_or-set_same after job price 0 (omega (arith, so_far.size)) ∙ (let e : price ≡ max (numbers_in after job) price = omega arith in e))
-      (λ j other. get_or-set_other after job j price 0 other)
-
-  pub raises_pass : price ≤ numbers_in after job → RaisedSoFar all (without_job rest job) price before after
-  raises_pass high = raises_next so_far has so_far.size (let e : numbers_in after job ≡ max (numbers_in after job) price = omega arith in e) (λ j other. refl)
+-- a member's number becomes the larger of it and the price
+pub raises_store : {all rest : JobSet} {price job : ℕ} {before after : List ℕ} → RaisedSoFar all rest price before after → is_member rest job ≡ true
+    → job < max_jobs → RaisedSoFar all (without_job rest job) price before (set after job (max (numbers_in after job) price))
+raises_store {price = price} {job} {after = after} so_far has small =
+    raises_next so_far has (rw length-set so_far.size)
+    (get_or-set_same after job (max (numbers_in after job) price) 0 (omega (arith, so_far.size)))
+    (λ j other. get_or-set_other after job j (max (numbers_in after job) price) 0 other)
 
 -- the least of a set that is not empty is a member
 pub least-member : (rest : JobSet) {job : ℕ} → job ≡ least_member rest → is_empty rest ≡ false → (job < max_jobs) × (is_member rest job ≡ true)

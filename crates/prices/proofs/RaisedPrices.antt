@@ -1,14 +1,14 @@
--- Laws of raising the prices of a range, in an array one interval a turn.
+-- Laws of raising the prices of a range, in a part of an array.
 -- Assumes nothing.
-use mathlib.Core.Path.{◌≡◌, refl, ◌∙◌}
+use mathlib.Core.Path.{◌≡◌, ◌∙◌, ap}
 use mathlib.Core.Logic.{◌⊎◌, inl, inr}
 use mathlib.Core.List.{List}
-use Prim.Native.Nat.{ℕ, suc, ◌+◌, ◌<◌, ◌≤◌, max}
-use native.Mathlib.Nat.{eq-or-lt_of_le, le_of_suc-le-suc}
-use native.Mathlib.Numerals.{add-one}
+use Prim.Native.Nat.{ℕ, ◌+◌, ◌-◌, ◌<◌, ◌≤◌, max}
 use native.Mathlib.Omega.{arith}
-use lib.ListN.{length, set}
-use lib.Seq.{get_or-set_same, get_or-set_other}
+use lib.ListN.{length}
+use borrow.Rule.Slice.PartMut.{put_mid}
+use Rattle.std.proofs.Common.{rules}
+use Rattle.std.proofs.lemmas.List.{places}
 use Rattle.model.proofs.Numbers.{lt_or_le}
 use Rattle.workloads.specs.Arrays.{numbers_in}
 use Rattle.prices.specs.RisingPrices.{Raised}
@@ -31,40 +31,21 @@ module _ {start end price : ℕ} {before after : ℕ → ℕ} (raised : Raised s
       go (inl same) = omega arith
       go (inr (from, to, up)) = omega arith
 
-  -- one interval more
-  raised_next : {next : ℕ → ℕ} → start ≤ end → next end ≡ max (after end) price → ((i : ℕ) → (i ≡ end → ⊥) → next i ≡ after i)
-      → Raised start (suc end) price before next
-  raised_next {next} order here others =
-      record {
-        inside = λ i from to. go i from (eq-or-lt_of_le (le_of_suc-le-suc to));
-        outside = λ i beyond. others i (not_end i beyond) ∙ raised.outside i (further i beyond);
-      }
-    where
-      go : (i : ℕ) → start ≤ i → (i ≡ end) ⊎ (i < end) → next i ≡ max (before i) price
-      go i from (inl e) = rw e (here ∙ rw (raised.outside end (inr (omega arith))))
-      go i from (inr to) = others i (λ e. omega arith) ∙ raised.inside i from to
+-- the prices of a range, raised in a part of the array
+pub raised_part : (start end price : ℕ) (prices part : List ℕ) → start ≤ end → end ≤ length prices → length part ≡ end - start
+    → ((k : ℕ) → k < length part → numbers_in part k ≡ max (numbers_in prices (start + k)) price)
+    → Raised start end price (numbers_in prices) (numbers_in (put_mid start (end - start) prices part))
+raised_part start end price prices part order within long raise = record { inside = in_part; outside = out_of_part }
+  where
+    after : ℕ → ℕ
+    after = numbers_in (put_mid start (end - start) prices part)
 
-      not_end : (i : ℕ) → (i < start) ⊎ (suc end ≤ i) → i ≡ end → ⊥
-      not_end i (inl early) e = omega arith
-      not_end i (inr past) e = omega arith
+    in_part : (i : ℕ) → start ≤ i → i < end → after i ≡ max (numbers_in prices i) price
+    in_part i from to =
+        let place : start + (i - start) ≡ i = omega arith in
+        let put : after i ≡ numbers_in part (i - start) = search (rules, places) in
+        rw put (raise (i - start) (omega arith) ∙ ap (λ n. max (numbers_in prices n) price) place)
 
-      further : (i : ℕ) → (i < start) ⊎ (suc end ≤ i) → (i < start) ⊎ (end ≤ i)
-      further i (inl early) = inl early
-      further i (inr past) = inr (omega arith)
-
--- no interval yet
-pub raised_none : (start price : ℕ) (prices : ℕ → ℕ) → Raised start start price prices prices
-raised_none start price prices = record { inside = λ i from to. absurd (omega arith); outside = λ i beyond. refl }
-
-module _ (prices : List ℕ) {start i price : ℕ} {before : ℕ → ℕ} (raised : Raised start i price before (numbers_in prices)) (order : start ≤ i) where
-  -- a price that is high enough stays
-  pub raised_pass : price ≤ numbers_in prices i → Raised start (i + 1) price before (numbers_in prices)
-  raised_pass high =
-      let here : numbers_in prices i ≡ max (numbers_in prices i) price = omega arith in
-      rw add-one (raised_next raised order here (λ k other. refl))
-
-  -- a lower one is raised
-  pub raised_store : i < length prices → numbers_in prices i < price → Raised start (i + 1) price before (numbers_in (set prices i price))
-  raised_store inside low =
-      let here : price ≡ max (numbers_in prices i) price = omega arith in
-      rw add-one (raised_next raised order (get_or-set_same prices i price 0 inside ∙ here) (λ k other. get_or-set_other prices i k price 0 other))
+    out_of_part : (i : ℕ) → (i < start) ⊎ (end ≤ i) → after i ≡ numbers_in prices i
+    out_of_part i (inl early) = search (rules, places)
+    out_of_part i (inr past) = search (rules, places)

@@ -12,12 +12,8 @@ pub fn raise(prices: &mut [u8; MAX_INTERVALS], start: usize, end: usize, price: 
     ensures { Raised start end price (numbers_in prices.old) (numbers_in prices.new)
         × (length prices.new ≡ max_intervals) }
 {
-    let mut i = start;
-    while i < end {
-        if prices[i] < price {
-            prices[i] = price;
-        }
-        i += 1;
+    for here in &mut prices[start..end] {
+        *here = (*here).max(price);
     }
 }
 
@@ -26,12 +22,10 @@ pub fn is_below(prices: &[u8; MAX_INTERVALS], start: usize, end: usize, price: u
     requires { end ≤ max_intervals }
     ensures { IsBelow (numbers_in prices.now) start end price result }
 {
-    let mut i = start;
-    while i < end {
+    for i in start..end {
         if prices[i] < price {
             return true;
         }
-        i += 1;
     }
     false
 }

@@ -48,27 +48,24 @@ fn least_prices(
         × ((i : ℕ) → i < intervals
         → LeastBand (numbers_in frequency.now) bands (numbers_in size.now i) (numbers_in loads.now i) (numbers_in prices.new i)) }
 {
-    let mut i = 0;
-    while i < intervals {
+    for i in 0..intervals {
         let band = least_band(frequency, bands, size[i], loads[i]);
         prices[i] = band as u8;
-        i += 1;
     }
 }
 
-// The least band that ends at or above a load.
+// The least band that ends at or above a load. A setting's band is searched alike, but over a table of points, for its own definition and in
+// a crate that planning has no other use for: neither search calls the other.
 fn least_band(frequency: &[u64; MAX_POINTS], bands: usize, size: u64, load: u64) -> usize
     requires { (bands ≤ max_levels) × (size ≤ max_deadline) × ((k : ℕ) → k ≤ bands → numbers_in frequency.now k ≤ max_frequency) }
     ensures { (result ≤ bands) × LeastBand (numbers_in frequency.now) bands size load result }
 {
-    let mut band = 0;
-    while band < bands {
+    for band in 0..bands {
         if load <= size * frequency[band + 1] {
             return band;
         }
-        band += 1;
     }
-    band
+    bands
 }
 
 // Goes over the jobs once, and answers whether a price was raised.
@@ -99,10 +96,8 @@ fn highest_prices(
     requires { (intervals ≤ max_intervals) × (highest.old ≡ replicate max_jobs 0) }
     ensures { HighestPrices holders.now prices.now intervals highest.new }
 {
-    let mut i = 0;
-    while i < intervals {
-        raise_members(job_sets::set_at(holders, i), prices[i], highest);
-        i += 1;
+    for (i, &price) in prices[..intervals].iter().enumerate() {
+        raise_members(job_sets::set_at(holders, i), price, highest);
     }
 }
 
@@ -112,12 +107,10 @@ fn raise_members(set: JobSet, price: u8, highest: &mut [u8; MAX_JOBS])
     ensures { MembersRaised set price highest.old highest.new }
 {
     let mut rest = set;
-    while !job_sets::is_empty(rest) {
-        let job = job_sets::least(rest);
-        if highest[job] < price {
-            highest[job] = price;
-        }
-        rest = job_sets::without(rest, job);
+    while !rest.is_empty() {
+        let job = rest.least();
+        highest[job] = highest[job].max(price);
+        rest = rest.without(job);
     }
 }
 
@@ -133,8 +126,7 @@ fn raise_jobs(
     ensures { JobsRaised jobs first.now last.now highest.now prices.old prices.new result }
 {
     let mut changed = false;
-    let mut job = 0;
-    while job < jobs {
+    for job in 0..jobs {
         if raise_window(
             prices,
             first[job] as usize,
@@ -143,7 +135,6 @@ fn raise_jobs(
         ) {
             changed = true;
         }
-        job += 1;
     }
     changed
 }

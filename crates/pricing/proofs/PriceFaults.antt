@@ -1,8 +1,8 @@
 -- Refusal 23 at an interval, one law for each way out of the code: a price fits a load exactly where the load lies between
--- the ends of the band that the price names.
+-- the ends of the band that the price names. And what a test's answer says of the fault at an interval.
 -- Assumes nothing.
 use mathlib.Core.Path.{◌≡◌, sym, ◌∙◌}
-use mathlib.Core.Bool.{true, false, cond, ◌&&◌, and-false}
+use mathlib.Core.Bool.{Bool, true, false, not, cond, ◌&&◌, and-false}
 use mathlib.Core.Logic.{◌⊎◌, inl, inr}
 use mathlib.Core.List.{List}
 use Prim.Native.Nat.{ℕ, zero, suc, ◌-◌, ◌*◌, ◌<◌, ◌≤◌}
@@ -10,7 +10,7 @@ use native.Mathlib.Nat.{mul-le-mul_left}
 use native.Mathlib.Omega.{arith}
 use lib.ListN.{get_or}
 use lib.Dec.{leb}
-use borrow.Author.Tests.{ne_eqb, lt-leb, le-leb, le-ltb}
+use borrow.Author.Tests.{ne_eqb, lt-leb, le-leb, le-ltb, not-true, not-false}
 use Rattle.model.specs.Points.{Point}
 use Rattle.model.specs.Bands.{band_count, frequency_of, Curve}
 use Rattle.model.specs.Setting.{band_of}
@@ -110,7 +110,15 @@ module _ (working : PointTable) (curve : Curve (points_of working)) (length load
             load_between curve length load (number - 1) band some (omega (arith, lower)) (omega (arith, upper)),
           )
 
-  pub band_fault : (fault : ℕ)
-      → fault ≡ cond (leb (length * get_or working.frequencies (number - 1) 0) load && leb load (length * get_or working.frequencies number 0)) 0 23
-      → fault ≡ cond (fits_load (points_of working) length load number) 0 23
-  band_fault fault found = rw fits_in_band found
+  pub outside_told : (told : Bool)
+      → told ≡ not (leb (length * get_or working.frequencies (number - 1) 0) load && leb load (length * get_or working.frequencies number 0))
+      → told ≡ not (fits_load (points_of working) length load number)
+  outside_told told found = rw fits_in_band found
+
+-- the fault at an interval, where it was told whether a test fails there
+module _ (test told : Bool) (is : told ≡ not test) (number : ℕ) where
+  pub told_wrong : told ≡ true → cond test 0 number ≡ number
+  told_wrong e = rw (not-true test (sym is ∙ e))
+
+  pub told_right : told ≡ false → cond test 0 number ≡ 0
+  told_right e = rw (not-false test (sym is ∙ e))

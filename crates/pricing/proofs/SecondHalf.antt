@@ -8,7 +8,10 @@ use Prim.Native.Nat.{ℕ, ◌+◌, ◌-◌, ◌*◌, ◌<◌, ◌≤◌}
 use native.Mathlib.Omega.{arith}
 use lib.ListN.{length, get_or}
 use lib.Dec.{ltb, leb, eqb}
+use Rattle.std.specs.Prelude.{Result, Ok, Err}
 use Rattle.model.specs.declared.Job.{Job}
+use Rattle.model.specs.declared.refusal.Fault.TheVariants.{PricesLength}
+use Rattle.model.specs.declared.refusal.Refusal.{Refusal}
 use Rattle.model.specs.Limits.{max_intervals, max_jobs, max_bounds}
 use Rattle.model.specs.Outcome.{Outcome, by_entry}
 use Rattle.model.specs.Points.{Point}
@@ -24,14 +27,13 @@ use Rattle.model.proofs.Outcome.{by_entry_answered}
 use Rattle.model.proofs.Steps.{load_of_steps}
 use Rattle.model.proofs.Numbers.{both_true}
 use Rattle.model.proofs.Faults.{price-length}
+use Rattle.model.proofs.Refusals.{refused_returned}
 use Rattle.model.proofs.Tests.{in-range, fault_unless}
 use Rattle.reading.specs.Column.{column_of}
 use Rattle.reading.proofs.Column.{column_at}
 use Rattle.levels.specs.declared.points.PointTable.{PointTable}
 use Rattle.levels.specs.PointTables.{points_of}
 use Rattle.levels.proofs.PointTables.{length_points_of}
-use Rattle.fitting.specs.declared.Verdict.{Verdict}
-use Rattle.fitting.specs.declared.Verdict.TheVariants.{Passed, Refused}
 use Rattle.fitting.specs.Verdicts.{verdict_of, passed}
 use Rattle.intervals.specs.Times.{SmallBounds}
 use Rattle.job_sets.specs.JobSets.{is_member}
@@ -64,8 +66,8 @@ module _ (bounds : ℕ) (times prices : List ℕ) (few : bounds ≤ max_bounds) 
     price_at i below =
         rw (filled, lengths.0) (sym (column_at max_intervals _ intervals i (omega arith) below))
 
-    module _ (bands : ℕ) (entries : Verdict) (went : entries ≡ verdict_of (by_entry intervals (entry_fault_in bands times prices numbers) passed))
-        (sound : entries ≡ Passed) where
+    module _ (bands : ℕ) (entries : Result (Unit {0}) Refusal) (went : entries ≡ verdict_of (by_entry intervals (entry_fault_in bands times prices numbers) passed))
+        (sound : entries ≡ Ok tt) where
       in_bands : (i : ℕ) → i < intervals → not (leb 1 (get_or numbers i 0) && leb (get_or numbers i 0) bands) ≡ false
       in_bands i below =
           let faultless = (by_entry_answered _ passed intervals (entries_passed passed intervals _ entries went sound)).0 i below in
@@ -107,7 +109,7 @@ module _ (working : PointTable) (sets : List ℕ) (count bounds : ℕ) (times pl
   all_intervals : interval_count bs ≡ intervals
   all_intervals = intervals_in bounds times ∙ sym counted
 
-  pub wrong_length_refused : wrong_length_in intervals prices ≡ true → Refused 21 0 ≡ verdict_of outcome
+  pub wrong_length_refused : wrong_length_in intervals prices ≡ true → Err (record { fault = PricesLength; place = 0 }) ≡ verdict_of outcome
   unfolding pricing
   wrong_length_refused wrong = rw (all_intervals, wrong)
 
@@ -120,7 +122,7 @@ module _ (working : PointTable) (sets : List ℕ) (count bounds : ℕ) (times pl
       price_here : (i : ℕ) → i < intervals → prices_of prices i ≡ get_or numbers i 0
       price_here = price_at bounds times prices small.rising.few intervals counted right numbers filled
 
-      module _ (entries : Verdict)
+      module _ (entries : Result (Unit {0}) Refusal)
           (went : entries ≡ verdict_of (by_entry intervals (entry_fault_in (working.count - 1) times prices numbers) passed)) where
         same_entry : (i : ℕ) → i < intervals → entry_fault site plan prices i ≡ entry_fault_in (working.count - 1) times prices numbers i
         unfolding entry_fault
@@ -129,13 +131,13 @@ module _ (working : PointTable) (sets : List ℕ) (count bounds : ℕ) (times pl
         entered : outcome ≡ by_entry intervals (entry_fault_in (working.count - 1) times prices numbers) after_entries
         entered = past_lengths ∙ rw all_intervals (by_entry_cong intervals _ _ _ same_entry)
 
-        pub entries_refuse : (number place : ℕ) → entries ≡ Refused number place → Refused number place ≡ verdict_of outcome
-        entries_refuse number place e = rw (entered ∙ entries_refused after_entries intervals _ entries went number place e)
+        pub entries_refuse : (own : Refusal) → entries ≡ Err own → Err own ≡ verdict_of outcome
+        entries_refuse own e = rw entered (refused_returned _ (entries_refused after_entries intervals _ entries went own e))
 
-        module _ (sound : entries ≡ Passed) where
+        module _ (sound : entries ≡ Ok tt) where
           module _
               (jobs_counted : length jobs ≡ count) (opened : SetsHave sets (open_below jobs count times bounds))
-              (fits : Verdict) (tested : fits ≡ verdict_of (by_entry (bounds - 1) (price_fault_in ws times loads numbers) passed)) where
+              (fits : Result (Unit {0}) Refusal) (tested : fits ≡ verdict_of (by_entry (bounds - 1) (price_fault_in ws times loads numbers) passed)) where
             loaded : (i : ℕ) → i < intervals → load jobs (shares_of plan) i ≡ get_or loads i 0
             loaded i below =
                 load_of_steps plan jobs (λ s inside. rw jobs_counted (planned.step_job s inside)) i
@@ -152,8 +154,8 @@ module _ (working : PointTable) (sets : List ℕ) (count bounds : ℕ) (times pl
                 ∙ entries_passed after_entries intervals _ entries went sound
                 ∙ rw (intervals_in bounds times) (by_entry_cong (bounds - 1) _ _ after_fits (λ i below. same_price i (omega arith)))
 
-            pub fits_refuse : (number place : ℕ) → fits ≡ Refused number place → Refused number place ≡ verdict_of outcome
-            fits_refuse number place e = rw (past_entries ∙ entries_refused after_fits (bounds - 1) _ fits tested number place e)
+            pub fits_refuse : (own : Refusal) → fits ≡ Err own → Err own ≡ verdict_of outcome
+            fits_refuse own e = rw past_entries (refused_returned _ (entries_refused after_fits (bounds - 1) _ fits tested own e))
 
             -- the step's job is open in an interval exactly when the interval's set has it
             same_step : (s : ℕ) → s < step_count plan → cheaper_fault site plan prices s ≡ cheaper_fault_in sets bounds numbers plan s
@@ -174,7 +176,7 @@ module _ (working : PointTable) (sets : List ℕ) (count bounds : ℕ) (times pl
                       )),
                 )
 
-            pub cheapest_decides : fits ≡ Passed → (last : Verdict) → last ≡ verdict_of (by_entry (step_count plan) (cheaper_fault_in sets bounds numbers plan) passed)
+            pub cheapest_decides : fits ≡ Ok tt → (last : Result (Unit {0}) Refusal) → last ≡ verdict_of (by_entry (step_count plan) (cheaper_fault_in sets bounds numbers plan) passed)
                 → last ≡ verdict_of outcome
             cheapest_decides fit last found =
                 found

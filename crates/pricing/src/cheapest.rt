@@ -7,9 +7,9 @@ ghost use Rattle.model.specs.Steps.{step_count, step_at};
 ghost use Rattle.fitting.specs.Verdicts.{verdict_of, passed};
 ghost use Rattle.pricing.specs.SecondHalf.{priced_sets, cheaper_sets, cheaper_fault_in};
 
-use fitting::Verdict;
-use job_sets::{JobSet, SET_WORDS, either, has, none, set_at};
-use model::{MAX_INTERVALS, MAX_POINTS};
+use intervals::interval_count;
+use job_sets::{JobSet, SET_WORDS, set_at};
+use model::{Fault, MAX_INTERVALS, MAX_POINTS, Refusal};
 use walking::{decode_step, step_count};
 
 // Goes through the steps one after another.
@@ -18,7 +18,7 @@ pub(crate) fn check_cheapest(
     bounds: usize,
     plan: &[u8],
     numbers: &[u64; MAX_INTERVALS],
-) -> Verdict
+) -> Result<(), Refusal>
     requires bounds_le_max_bounds { (bounds ≤ max_bounds) × (length plan.now ≡ 4 + 6 * step_count plan.now) }
     requires by_index { (i : ℕ) → i < bounds - 1 → get_or numbers.now i 0 < max_points }
     requires by_index_2 { (s : ℕ) → s < step_count plan.now → (step_at plan.now s).interval < bounds - 1 }
@@ -26,21 +26,15 @@ pub(crate) fn check_cheapest(
 {
     let priced = priced_sets(sets, bounds, numbers);
     let cheaper = cheaper_sets(priced);
-    let steps = step_count(plan);
-    let mut s = 0;
-    while s < steps {
+    for s in 0..step_count(plan) {
         let step = decode_step(plan, s);
         let interval = step.interval;
         let price = numbers[interval] as usize;
-        if has(cheaper[price], step.job) {
-            return Verdict::Refused {
-                number: 24,
-                place: s as u32,
-            };
+        if cheaper[price].has(step.job) {
+            return Err(Fault::CheaperInterval.at(s as u32));
         }
-        s += 1;
     }
-    Verdict::Passed
+    Ok(())
 }
 
 // For each price the jobs that are open in an interval of that price.
@@ -52,13 +46,11 @@ fn priced_sets(
     requires { (bounds ≤ max_bounds) × ((i : ℕ) → i < bounds - 1 → get_or numbers.now i 0 < max_points) }
     ensures { result ≡ priced_sets (bounds - 1) sets.now numbers.now }
 {
-    let nobody = none();
+    let nobody = JobSet::none();
     let mut priced = [nobody; MAX_POINTS];
-    let mut i = 0;
-    while i + 1 < bounds {
+    for i in 0..interval_count(bounds) {
         let price = numbers[i] as usize;
-        priced[price] = either(priced[price], set_at(sets, i));
-        i += 1;
+        priced[price] = priced[price].either(set_at(sets, i));
     }
     priced
 }
@@ -67,13 +59,11 @@ fn priced_sets(
 fn cheaper_sets(priced: [JobSet; MAX_POINTS]) -> [JobSet; MAX_POINTS]
     ensures { result ≡ cheaper_sets priced }
 {
-    let mut union = none();
+    let mut union = JobSet::none();
     let mut cheaper = [union; MAX_POINTS];
-    let mut price = 0;
-    while price < MAX_POINTS {
+    for price in 0..MAX_POINTS {
         cheaper[price] = union;
-        union = either(union, priced[price]);
-        price += 1;
+        union = union.either(priced[price]);
     }
     cheaper
 }

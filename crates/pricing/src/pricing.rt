@@ -1,5 +1,5 @@
 // The second half of the check, refusals 21 to 24: the prices fit the plan.
-ghost use Rattle.std.specs.Prelude.{◌≡◌, cond, ◌&&◌, List, ◌+◌, ◌-◌, ◌*◌, ◌≤◌, length, get_or, leb, eqb};
+ghost use Rattle.std.specs.Prelude.{◌≡◌, not, ◌&&◌, List, ◌+◌, ◌-◌, ◌*◌, ◌≤◌, length, get_or, leb, eqb};
 ghost use Rattle.model.specs.declared.Job.{Job};
 ghost use Rattle.model.specs.Limits.{max_jobs, max_deadline, max_frequency, max_intervals};
 ghost use Rattle.model.specs.Outcome.{by_entry};
@@ -16,11 +16,10 @@ ghost use Rattle.fitting.specs.FirstHalf.{site_in};
 ghost use Rattle.pricing.specs.SecondHalf.{Planned, BandNumbers, wrong_length_in, entry_fault_in, price_fault_in};
 
 use crate::cheapest::check_cheapest;
-use fitting::Verdict;
 use intervals::interval_count;
 use job_sets::SET_WORDS;
 use levels::PointTable;
-use model::{MAX_BOUNDS, MAX_INTERVALS};
+use model::{Fault, MAX_BOUNDS, MAX_INTERVALS, Refusal};
 use reading::{number16, number32};
 
 // Checks a price list against a plan that fits, with the open sets and the loads of its intervals.
@@ -33,7 +32,7 @@ pub fn price(
     plan: &[u8],
     loads: &[u64; MAX_INTERVALS],
     prices: &[u8],
-) -> Verdict
+) -> Result<(), Refusal>
     requires small_points { SmallPoints working × Curve (points_of working) }
     requires small_bounds { SmallBounds bounds times.now × (count ≤ max_jobs) }
     requires planned { Planned count bounds plan.now loads.now }
@@ -41,21 +40,12 @@ pub fn price(
 {
     let intervals = interval_count(bounds);
     if wrong_price_length(prices, intervals) {
-        return Verdict::Refused {
-            number: 21,
-            place: 0,
-        };
+        return Err(Fault::PricesLength.at(0));
     }
     let numbers = price_numbers(prices, intervals);
     let bands = (working.count - 1) as u64;
-    let entries = check_entries(bands, times, intervals, prices, &numbers);
-    if let Verdict::Refused { number, place } = entries {
-        return Verdict::Refused { number, place };
-    }
-    let fits = check_fits(working, times, bounds, loads, &numbers);
-    if let Verdict::Refused { number, place } = fits {
-        return Verdict::Refused { number, place };
-    }
+    check_entries(bands, times, intervals, prices, &numbers)?;
+    check_fits(working, times, bounds, loads, &numbers)?;
     check_cheapest(sets, bounds, plan, &numbers)
 }
 
@@ -79,10 +69,8 @@ fn price_numbers(prices: &[u8], intervals: usize) -> [u64; MAX_INTERVALS]
     ensures { result ≡ column_of max_intervals intervals (λ i. get_or prices.now (2 + 4 * intervals + i) 0) }
 {
     let mut numbers = [0u64; MAX_INTERVALS];
-    let mut i = 0;
-    while i < intervals {
+    for i in 0..intervals {
         numbers[i] = prices[2 + 4 * intervals + i] as u64;
-        i += 1;
     }
     numbers
 }
@@ -94,39 +82,33 @@ fn check_entries(
     intervals: usize,
     prices: &[u8],
     numbers: &[u64; MAX_INTERVALS],
-) -> Verdict
+) -> Result<(), Refusal>
     requires { (intervals ≤ max_intervals) × (length prices.now ≡ 2 + 5 * intervals) }
     ensures { result ≡ verdict_of (by_entry intervals (entry_fault_in bands times.now prices.now numbers.now) passed) }
 {
-    let mut i = 0;
-    while i < intervals {
+    for i in 0..intervals {
         let end = number32(prices, 2 + 4 * i);
-        let number = entry_fault(end, times[i + 1], numbers[i], bands);
-        if number != 0 {
-            return Verdict::Refused {
-                number,
-                place: i as u32,
-            };
+        if wrong_entry(end, times[i + 1], numbers[i], bands) {
+            return Err(Fault::PriceEntry.at(i as u32));
         }
-        i += 1;
     }
-    Verdict::Passed
+    Ok(())
 }
 
-// 22 where an interval's end is not its bound or its price is not 1 to the number of bands; 0 for none.
-fn entry_fault(end: u64, bound: u64, number: u64, bands: u64) -> u32
-    ensures { result ≡ cond (eqb end bound && (leb 1 number && leb number bands)) 0 22 }
+// Whether an interval's end is not its bound or its price is not 1 to the number of bands.
+fn wrong_entry(end: u64, bound: u64, number: u64, bands: u64) -> bool
+    ensures { result ≡ not (eqb end bound && (leb 1 number && leb number bands)) }
 {
     if end != bound {
-        return 22;
+        return true;
     }
     if number < 1 {
-        return 22;
+        return true;
     }
     if number > bands {
-        return 22;
+        return true;
     }
-    0
+    false
 }
 
 // Goes through the intervals one after another: refusal 23.
@@ -136,38 +118,32 @@ fn check_fits(
     bounds: usize,
     loads: &[u64; MAX_INTERVALS],
     numbers: &[u64; MAX_INTERVALS],
-) -> Verdict
+) -> Result<(), Refusal>
     requires small_points { SmallPoints working × Curve (points_of working) }
     requires small_bounds { SmallBounds bounds times.now × BandNumbers (working.count - 1) (bounds - 1) numbers.now }
     ensures { result ≡ verdict_of (by_entry (bounds - 1) (price_fault_in (points_of working) times.now loads.now numbers.now) passed) }
 {
-    let mut i = 0;
-    while i + 1 < bounds {
+    for i in 0..interval_count(bounds) {
         let k = numbers[i] as usize;
         let low = working.frequencies[k - 1];
         let high = working.frequencies[k];
-        let number = load_fault(times[i + 1] - times[i], loads[i], low, high);
-        if number != 0 {
-            return Verdict::Refused {
-                number,
-                place: i as u32,
-            };
+        if is_outside(times[i + 1] - times[i], loads[i], low, high) {
+            return Err(Fault::PriceLoad.at(i as u32));
         }
-        i += 1;
     }
-    Verdict::Passed
+    Ok(())
 }
 
-// 23 where a load does not lie between what the lower and the upper end of a band give in an interval; 0 for none.
-fn load_fault(length: u64, load: u64, low: u64, high: u64) -> u32
+// Whether a load does not lie between what the lower and the upper end of a band give in an interval.
+fn is_outside(length: u64, load: u64, low: u64, high: u64) -> bool
     requires { (length ≤ max_deadline) × (low ≤ max_frequency) × (high ≤ max_frequency) }
-    ensures { result ≡ cond (leb (length * low) load && leb load (length * high)) 0 23 }
+    ensures { result ≡ not (leb (length * low) load && leb load (length * high)) }
 {
     if load < length * low {
-        return 23;
+        return true;
     }
     if load > length * high {
-        return 23;
+        return true;
     }
-    0
+    false
 }

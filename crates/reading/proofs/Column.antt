@@ -59,6 +59,16 @@ module _ (size : ℕ) (f : ℕ → ℕ) where
   pub column_whole : (numbers : List ℕ) (i count : ℕ) → i ≤ count → count ≤ i → numbers ≡ column_of size i f → numbers ≡ column_of size count f
   column_whole numbers i count low high filled = let e : count ≡ i = omega arith in rw e filled
 
+  -- numbers that are filled one by one, with zeros after them, are the column
+  pub column_filled : (numbers : List ℕ) (count : ℕ) → length numbers ≡ size → ((i : ℕ) → i < count → get_or numbers i 0 ≡ f i)
+      → ((i : ℕ) → count ≤ i → get_or numbers i 0 ≡ 0) → numbers ≡ column_of size count f
+  column_filled numbers count long filled zeros =
+      ext_get_or 0 _ _ (long ∙ sym (length_column count)) (λ i below. at i (omega arith) (lt_or_le i count))
+    where
+      at : (i : ℕ) → i < size → (i < count) ⊎ (count ≤ i) → get_or numbers i 0 ≡ get_or (column_of size count f) i 0
+      at i inside (inl below) = filled i below ∙ sym (column_at count i inside below)
+      at i inside (inr past) = zeros i past ∙ sym (column_past count i inside past)
+
 -- one number in place of another
 pub column_changed : (size count : ℕ) (f g : ℕ → ℕ) (i value : ℕ) → i < count → count ≤ size → value ≡ g i
     → ((k : ℕ) → k < count → (k ≡ i → ⊥) → f k ≡ g k) → set (column_of size count f) i value ≡ column_of size count g

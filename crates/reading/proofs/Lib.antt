@@ -3,4 +3,3 @@ pub mod Column
 pub mod ByEntry
 pub mod Read
 pub mod Encodings
-pub mod SmallNumbers

@@ -1,20 +1,13 @@
--- What reading a table answers, for each outcome: the enum's case, and the entries.
-use Rattle.std.specs.Prelude.{ℕ, ◌<◌, List, [], length, get_or}
-use Rattle.model.specs.Limits.{max_levels}
-use Rattle.model.specs.Outcome.{Outcome, refused, answer}
-use Rattle.reading.specs.declared.Reading.{Reading}
-use Rattle.reading.specs.declared.Reading.TheVariants.{Entries, Refused}
+-- What decoding a table answers, and numbers of 16 bits.
+use Rattle.std.specs.Prelude.{ℕ, ◌<◌, List, length, get_or, Result}
+use Rattle.model.specs.declared.refusal.Refusal.{Refusal}
+use Rattle.model.specs.Outcome.{Outcome}
+use Rattle.model.specs.Refusals.{returned_by}
 
--- The enum's case for an outcome: the number of entries, or the refusal's number and place.
-abbrev pub reading_of : {A : Type 0} → Outcome (List A) → Reading
-reading_of (refused number place) = Refused number place
-reading_of (answer entries) = Entries (length entries)
+-- How many entries there are, or the refusal.
+abbrev pub returned_count : {A : Type 0} → Outcome (List A) → Result ℕ Refusal
+returned_count outcome = returned_by length outcome
 
--- The entries of an outcome; a refusal has none.
-abbrev pub entries_of : {A : Type 0} → Outcome (List A) → List A
-entries_of (refused number place) = []
-entries_of (answer entries) = entries
-
--- The numbers of a level table have 16 bits.
-abbrev pub SmallNumbers : List ℕ → Type 0
-SmallNumbers numbers = (i : ℕ) → i < max_levels → get_or numbers i 0 < 65_536
+-- The numbers in an array of `size` have 16 bits.
+abbrev pub SmallNumbers : (size : ℕ) → List ℕ → Type 0
+SmallNumbers size numbers = (i : ℕ) → i < size → get_or numbers i 0 < 65_536

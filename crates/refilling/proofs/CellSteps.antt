@@ -3,11 +3,15 @@
 use mathlib.Core.Path.{◌≡◌, refl, sym, ◌∙◌, ap}
 use mathlib.Core.Logic.{◌⊎◌, inl, inr}
 use mathlib.Core.List.{List}
-use Prim.Native.Nat.{ℕ, suc, ◌+◌, ◌-◌, ◌<◌, ◌≤◌}
+use Prim.Native.Nat.{ℕ, suc, ◌+◌, ◌-◌, ◌<◌, ◌≤◌, min}
 use native.Mathlib.Nat.{eq-or-lt_of_le, le_of_suc-le-suc}
 use native.Mathlib.Omega.{arith}
 use lib.ListN.{length, get_or, set}
 use lib.Seq.{get_or-set_same, get_or-set_other, set-get_or}
+use borrow.Rule.Slice.PartMut.{put_mid}
+use Rattle.model.proofs.Numbers.{lt_or_le}
+use Rattle.std.proofs.Common.{rules}
+use Rattle.std.proofs.lemmas.List.{places}
 use Rattle.workloads.specs.Arrays.{numbers_in}
 use Rattle.paths.specs.Moves.{put_at}
 use Rattle.loads.specs.Crossing.{Lowered, Takes}
@@ -24,42 +28,39 @@ module _ {cross : ℕ → ℕ} {most i d t : ℕ} (found : Most cross most i d t
       each (inl e) = rw e last
       each (inr h) = omega (arith, found.crosses b late h)
 
-  pub most_pass : t ≤ cross d → Most cross most i (d + 1) t
-  most_pass more = record { fits = found.fits; crosses = all t (omega arith) more; met = go found.met }
+  -- one bound more
+  pub most_next : i < d → Most cross most i (d + 1) (min t (cross d))
+  most_next inside =
+      record {
+        fits = omega (arith, found.fits);
+        crosses = all (min t (cross d)) (omega arith) (omega arith);
+        met = go (lt_or_le (cross d) t) found.met;
+      }
     where
-      go : (t ≡ most) ⊎ ((b : ℕ) × (i < b) × (b < d) × (t ≡ cross b)) → (t ≡ most) ⊎ ((b : ℕ) × (i < b) × (b < d + 1) × (t ≡ cross b))
-      go (inl e) = inl e
-      go (inr (b, late, early, e)) = inr (b, late, omega arith, e)
+      go : (cross d < t) ⊎ (t ≤ cross d) → (t ≡ most) ⊎ ((b : ℕ) × (i < b) × (b < d) × (t ≡ cross b))
+          → (min t (cross d) ≡ most) ⊎ ((b : ℕ) × (i < b) × (b < d + 1) × (min t (cross d) ≡ cross b))
+      go (inl less) met = inr (d, inside, omega arith, omega arith)
+      go (inr more) (inl e) = inl (omega arith)
+      go (inr more) (inr (b, late, early, e)) = inr (b, late, omega arith, omega arith)
 
-  pub most_less : i < d → cross d < t → Most cross most i (d + 1) (cross d)
-  most_less inside less =
-      record { fits = omega (arith, found.fits); crosses = all (cross d) (omega arith) (omega arith); met = inr (d, inside, omega arith, refl) }
-
-pub lowered_none : (i amount : ℕ) (cross : ℕ → ℕ) → Lowered i (i + 1) amount cross cross
-lowered_none i amount cross = record { inside = λ b late early. absurd (omega arith); outside = λ b out. refl }
-
-pub lowered_store : {i d amount : ℕ} {before : ℕ → ℕ} (array : List ℕ) → Lowered i d amount before (numbers_in array) → i < d → d < length array
-    → amount ≤ before d → Lowered i (d + 1) amount before (numbers_in (set array d (numbers_in array d - amount)))
-lowered_store {i} {d} {amount} {before} array so_far past inside enough =
-    record {
-      inside = λ b late early. go b late (eq-or-lt_of_le (le_of_suc-le-suc (let h : b < suc d = omega arith in h)));
-      outside = λ b out. others b (not_here b out) ∙ so_far.outside b (further b out);
-    }
+-- the crosses of the bounds strictly between i and d, lowered in a part of the array
+pub lowered_part : (i d amount : ℕ) (cross part : List ℕ) → i < d → d ≤ length cross → length part ≡ d - (i + 1)
+    → ((k : ℕ) → k < length part → numbers_in part k + amount ≡ numbers_in cross (i + 1 + k))
+    → Lowered i d amount (numbers_in cross) (numbers_in (put_mid (i + 1) (d - (i + 1)) cross part))
+lowered_part i d amount cross part order within long lower = record { inside = in_part; outside = out_of_part }
   where
-    others : (b : ℕ) → (b ≡ d → ⊥) → numbers_in (set array d (numbers_in array d - amount)) b ≡ numbers_in array b
-    others b other = get_or-set_other array d b (numbers_in array d - amount) 0 other
+    after : ℕ → ℕ
+    after = numbers_in (put_mid (i + 1) (d - (i + 1)) cross part)
 
-    go : (b : ℕ) → i < b → (b ≡ d) ⊎ (b < d) → numbers_in (set array d (numbers_in array d - amount)) b + amount ≡ before b
-    go b late (inl e) = rw (e, get_or-set_same array d (numbers_in array d - amount) 0 inside) (omega (arith, so_far.outside d (inr (omega arith))))
-    go b late (inr h) = rw (others b (λ e. omega arith)) (so_far.inside b late h)
+    in_part : (b : ℕ) → i < b → b < d → after b + amount ≡ numbers_in cross b
+    in_part b late early =
+        let place : i + 1 + (b - (i + 1)) ≡ b = omega arith in
+        let put : after b ≡ numbers_in part (b - (i + 1)) = search (rules, places) in
+        rw put (lower (b - (i + 1)) (omega arith) ∙ ap (numbers_in cross) place)
 
-    not_here : (b : ℕ) → (b ≤ i) ⊎ (d + 1 ≤ b) → b ≡ d → ⊥
-    not_here b (inl early) e = omega arith
-    not_here b (inr later) e = omega arith
-
-    further : (b : ℕ) → (b ≤ i) ⊎ (d + 1 ≤ b) → (b ≤ i) ⊎ (d ≤ b)
-    further b (inl early) = inl early
-    further b (inr later) = inr (omega arith)
+    out_of_part : (b : ℕ) → (b ≤ i) ⊎ (d ≤ b) → after b ≡ numbers_in cross b
+    out_of_part b (inl early) = search (rules, places)
+    out_of_part b (inr late) = search (rules, places)
 
 -- the most is taken
 pub takes_most : {i d amount : ℕ} (j : ℕ) (left : List ℕ) (cross cross-after : ℕ → ℕ) → j < length left → Most cross (numbers_in left j) i d amount

@@ -1,11 +1,10 @@
 -- Laws of what is due at each bound and by it, and of the crosses so far.
 -- Assumes nothing.
-use mathlib.Core.Path.{◌≡◌, refl, sym, ◌∙◌}
+use mathlib.Core.Path.{◌≡◌, refl, ◌∙◌}
 use mathlib.Core.Logic.{◌⊎◌, inl, inr}
 use mathlib.Core.List.{List}
 use Prim.Native.Nat.{ℕ, ◌+◌, ◌-◌, ◌<◌, ◌≤◌, ◌^◌}
 use native.Mathlib.Decide.{ℕ_discrete}
-use native.Mathlib.Numerals.{add-one}
 use native.Mathlib.Omega.{arith}
 use lib.Dec.{eqb, leb}
 use lib.ListN.{length, set, length-set}
@@ -14,39 +13,10 @@ use borrow.Author.Tests.{eq-eqb, ne_eqb, le-leb, lt-leb}
 use Rattle.model.specs.Limits.{max_bounds}
 use Rattle.model.specs.Sum.{sum, only_if}
 use Rattle.model.proofs.Numbers.{lt_or_le}
-use Rattle.model.proofs.Sum.{sum_cong, sum_mono, sum_zero, sum_add, sum_next, sum_longer}
-use Rattle.model.proofs.SumMore.{only_if_le}
+use Rattle.model.proofs.Sum.{sum_cong, sum_zero, sum_add, sum_next, sum_longer}
 use Rattle.workloads.specs.Arrays.{numbers_in}
-use Rattle.refilling.specs.Crosses.{due_at, due_to, CanCross}
-
--- no job is due
-pub due_none : (last cycles : ℕ → ℕ) (b : ℕ) → due_at 0 last cycles b ≡ 0
-unfolding due_at sum
-due_none last cycles b = refl
-
--- one more job, due at the bound or at another
-pub due_take : (last cycles : ℕ → ℕ) (b j : ℕ) → b ≡ last j → due_at (j + 1) last cycles b ≡ due_at j last cycles b + cycles j
-unfolding due_at sum
-due_take last cycles b j e = rw (add-one, eq-eqb (last j) b (sym e))
-
-pub due_pass : (last cycles : ℕ → ℕ) (b j : ℕ) → (b ≡ last j → ⊥) → due_at (j + 1) last cycles b ≡ due_at j last cycles b
-unfolding due_at sum
-due_pass last cycles b j other = rw (add-one, ne_eqb (last j) b (λ e. other (sym e))) (omega arith)
-
--- no more is due at a bound than all cycles
-pub due_most : (jobs : ℕ) (last cycles : ℕ → ℕ) (b : ℕ) → due_at jobs last cycles b ≤ sum jobs cycles
-unfolding due_at
-due_most jobs last cycles b = sum_mono jobs (λ j below. only_if_le (eqb (last j) b) (cycles j))
-
--- the cycles of one more job, stored at its bound
-pub due_store : (last cycles : ℕ → ℕ) (j : ℕ) (cross : List ℕ) (value : ℕ) → last j < length cross
-    → ((b : ℕ) → numbers_in cross b ≡ due_at j last cycles b) → value ≡ due_at (j + 1) last cycles (last j)
-    → (b : ℕ) → numbers_in (set cross (last j) value) b ≡ due_at (j + 1) last cycles b
-due_store last cycles j cross value inside so_far here b = go (ℕ_discrete b (last j))
-  where
-    go : Dec (b ≡ last j) → numbers_in (set cross (last j) value) b ≡ due_at (j + 1) last cycles b
-    go (yes e) = rw (e, get_or-set_same cross (last j) value 0 inside) here
-    go (no other) = get_or-set_other cross (last j) b value 0 other ∙ so_far b ∙ sym (due_pass last cycles b j other)
+use Rattle.due_cycles.specs.Due.{due_at}
+use Rattle.refilling.specs.Crosses.{due_to, CanCross}
 
 -- nothing is due by the first bound where each window ends after it
 pub due_start : (jobs : ℕ) (last cycles : ℕ → ℕ) → ((j : ℕ) → j < jobs → 0 < last j) → due_to jobs last cycles 0 ≡ 0

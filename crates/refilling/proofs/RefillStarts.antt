@@ -21,7 +21,8 @@ use Rattle.loads.specs.Refilled.{Refilled}
 use Rattle.loads.proofs.Loads.{serving_fills, fillable_same}
 use Rattle.loads.proofs.Crossing.{cross_starts, due_all}
 use Rattle.loads.proofs.Refilled.{refill_starts}
-use Rattle.refilling.specs.Crosses.{due_at, due_to, CanCross}
+use Rattle.due_cycles.specs.Due.{due_at}
+use Rattle.refilling.specs.Crosses.{due_to, CanCross}
 use Rattle.refilling.specs.Clearing.{HoldsShares, Cleared}
 use Rattle.refilling.specs.RefillTables.{BetweenRows}
 use Rattle.refilling.specs.RefilledTables.{CanRefill, RefilledTables}

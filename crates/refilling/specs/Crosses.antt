@@ -1,13 +1,11 @@
 -- The crosses at the start, in plain arrays.
-use Rattle.std.specs.Prelude.{ℕ, ◌<◌, ◌≤◌, ◌^◌, ◌≡◌, List, eqb, leb, length}
+use Rattle.std.specs.Prelude.{ℕ, ◌<◌, ◌≤◌, ◌^◌, ◌≡◌, List, leb, length}
 use Rattle.model.specs.Limits.{max_intervals, max_bounds}
 use Rattle.model.specs.Sum.{sum, only_if}
 use Rattle.workloads.specs.Arrays.{numbers_in}
+use Rattle.due_cycles.specs.Due.{due_at}
 
--- The cycles of the first `jobs` jobs that are due at a bound, and by it.
-unfoldable pub due_at : (jobs : ℕ) → (last cycles : ℕ → ℕ) → (bound : ℕ) → ℕ
-due_at jobs last cycles b = sum jobs (λ j. only_if (eqb (last j) b) (cycles j))
-
+-- The cycles of the first `jobs` jobs that are due by a bound.
 unfoldable pub due_to : (jobs : ℕ) → (last cycles : ℕ → ℕ) → (bound : ℕ) → ℕ
 due_to jobs last cycles b = sum jobs (λ j. only_if (leb (last j) b) (cycles j))
 

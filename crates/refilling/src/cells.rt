@@ -15,12 +15,8 @@ fn most(cross: &[u32; MAX_BOUNDS], left: u32, interval: usize, last: usize) -> u
     ensures { Most (numbers_in cross.now) left interval last result }
 {
     let mut amount = left;
-    let mut b = interval + 1;
-    while b < last {
-        if cross[b] < amount {
-            amount = cross[b];
-        }
-        b += 1;
+    for &crossing in &cross[interval + 1..last] {
+        amount = amount.min(crossing);
     }
     amount
 }
@@ -32,10 +28,8 @@ fn lower(cross: &mut [u32; MAX_BOUNDS], interval: usize, last: usize, amount: u3
     ensures { Lowered interval last amount (numbers_in cross.old) (numbers_in cross.new)
         × (length cross.new ≡ max_bounds) }
 {
-    let mut b = interval + 1;
-    while b < last {
-        cross[b] -= amount;
-        b += 1;
+    for crossing in &mut cross[interval + 1..last] {
+        *crossing -= amount;
     }
 }
 
@@ -71,6 +65,7 @@ pub(crate) fn first_uncrossed(cross: &[u32; MAX_BOUNDS], interval: usize) -> usi
     ensures { (interval < result) × (numbers_in cross.now result ≡ 0)
         × ((b : ℕ) → interval < b → numbers_in cross.now b ≡ 0 → result ≤ b) }
 {
+    // no range: the search needs no end
     let mut b = interval + 1;
     while cross[b] > 0 {
         b += 1;

@@ -15,11 +15,9 @@ pub(crate) fn clear(
     requires { HoldsShares jobs intervals shares.old holders.old }
     ensures { Cleared jobs intervals shares.old shares.new holders.new }
 {
-    let mut interval = 0;
-    while interval < intervals {
+    for interval in 0..intervals {
         let set = job_sets::set_at(holders, interval);
         clear_row(shares, set, jobs, interval);
-        interval += 1;
     }
     *holders = [0; SET_WORDS];
 }
@@ -30,9 +28,9 @@ fn clear_row(shares: &mut [u32], set: JobSet, jobs: usize, interval: usize)
     ensures { RowCleared jobs interval set shares.old shares.new }
 {
     let mut rest = set;
-    while !job_sets::is_empty(rest) {
-        let job = job_sets::least(rest);
+    while !rest.is_empty() {
+        let job = rest.least();
         shares[interval * jobs + job] = 0;
-        rest = job_sets::without(rest, job);
+        rest = rest.without(job);
     }
 }

@@ -25,7 +25,7 @@ fn due_by(open: &[u64; SET_WORDS], intervals: usize, set: JobSet, bound: usize) 
     ensures { result ≡ cond (ltb bound intervals) (in_first_only set (set_in «open».now bound)) set }
 {
     if bound < intervals {
-        return job_sets::less(set, job_sets::set_at(open, bound));
+        return set.less(job_sets::set_at(open, bound));
     }
     set
 }
@@ -47,7 +47,7 @@ fn start_row(
     } else {
         next[uncrossed] as usize
     };
-    let unfinished = job_sets::less(job_sets::set_at(open, interval), finished);
+    let unfinished = job_sets::set_at(open, interval).less(finished);
     Row {
         uncrossed: ahead,
         finished,
@@ -78,13 +78,13 @@ fn fill_next(
 {
     let rest = row.rest;
     let finished = row.finished;
-    let job = job_sets::least(rest);
-    let others = job_sets::without(rest, job);
+    let job = rest.least();
+    let others = rest.without(job);
     take(last, shares, holders, left, cross, jobs, interval, job);
     if left[job] == 0 {
         return Row {
             uncrossed: row.uncrossed,
-            finished: job_sets::with(finished, job),
+            finished: finished.with(job),
             rest: others,
         };
     }
@@ -118,7 +118,7 @@ fn fill_row(
     ensures rest_value { is_empty result.rest ≡ true }
 {
     let mut row = start;
-    while !job_sets::is_empty(row.rest) {
+    while !row.rest.is_empty() {
         row = fill_next(
             open, last, shares, holders, left, cross, next, jobs, intervals, interval, row,
         );
@@ -144,15 +144,13 @@ pub(crate) fn fill_rows(
         shares.new holders.new }
 {
     let mut uncrossed = intervals;
-    let mut finished = job_sets::none();
-    let mut interval = 0;
-    while interval < intervals {
+    let mut finished = JobSet::none();
+    for interval in 0..intervals {
         let start = start_row(open, next, intervals, interval, uncrossed, finished);
         let row = fill_row(
             open, last, shares, holders, left, cross, next, jobs, intervals, interval, start,
         );
         uncrossed = row.uncrossed;
         finished = row.finished;
-        interval += 1;
     }
 }

@@ -4,8 +4,9 @@ ghost use Rattle.refilling.specs.RefillTables.{lent_cycles};
 ghost use Rattle.refilling.specs.RefilledTables.{CanRefill, RefilledTables};
 
 use crate::clearing::clear;
-use crate::crosses::{add_due, add_loads};
+use crate::crosses::add_loads;
 use crate::rows::fill_rows;
+use due_cycles::add_due;
 use job_sets::SET_WORDS;
 use model::{MAX_BOUNDS, MAX_INTERVALS, MAX_JOBS};
 

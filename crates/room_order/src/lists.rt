@@ -24,11 +24,8 @@ fn write_rooms(rooms: &[u64; MAX_JOBS], order: &[u8; MAX_JOBS], count: usize, li
     requires ordered_in { OrderedIn rooms.now count order.now }
     ensures { list.new ≡ listed (room_list (room_in rooms.now) count) list.old }
 {
-    let mut place = 0;
-    while place < count {
-        let job = order[place] as usize;
-        list[2 * place] = job as u32;
-        list[2 * place + 1] = rooms[job] as u32;
-        place += 1;
+    for (place, job) in order[..count].iter().enumerate() {
+        list[2 * place] = *job as u32;
+        list[2 * place + 1] = rooms[*job as usize] as u32;
     }
 }

@@ -40,5 +40,5 @@ fn step_limit(jobs: usize, intervals: usize, pairs: usize) -> usize
         return 0;
     }
     let most = jobs + intervals - 1;
-    if most < pairs { most } else { pairs }
+    most.min(pairs)
 }

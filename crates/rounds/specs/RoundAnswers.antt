@@ -1,15 +1,22 @@
 -- The contract of laying out a round: what one call answers and what it leaves in the buffer, for bytes and buffers of any
 -- length.
-use Rattle.std.specs.Prelude.{ℕ, ◌≡◌, List, length}
-use Rattle.model.specs.Outcome.{Outcome, refused, answer}
+use Rattle.std.specs.Prelude.{ℕ, ◌≡◌, List, length, Result, Ok}
+use Rattle.model.specs.declared.refusal.Refusal.{Refusal}
+use Rattle.model.specs.Outcome.{Outcome}
+use Rattle.model.specs.Refusals.{returned_by}
 use Rattle.tasks.specs.Rounds.{Round, table_length, rounds, buffer_after}
-use Rattle.rounds.specs.declared.operation.RoundsAnswer.{RoundsAnswer}
-use Rattle.rounds.specs.declared.operation.RoundsAnswer.TheVariants.{LaidOut, Refused}
+use Rattle.rounds.specs.declared.operation.LaidOut.{LaidOut as Lengths}
 
--- Document 02's values for each case: the job table's length in bytes and the multiple, or the refusal's number and place.
+abbrev pub RoundsAnswer : Type 0
+RoundsAnswer = Result Lengths Refusal
+
+-- A job table of a length was written, and a multiple.
+abbrev pub LaidOut : (length multiple : ℕ) → RoundsAnswer
+LaidOut size multiple = Ok (record { length = size; multiple = multiple })
+
+-- Document 02's values: the job table's length in bytes and the multiple, or the refusal.
 abbrev pub rounds_answer : Outcome Round → RoundsAnswer
-rounds_answer (refused number place) = Refused number place
-rounds_answer (answer round) = LaidOut (table_length round.jobs) round.multiple
+rounds_answer outcome = returned_by (λ round. record { length = table_length round.jobs; multiple = round.multiple }) outcome
 
 -- The whole promise: two equations. What an answered round is stands in `RoundIs` of the crate tasks.
 pub record RoundsContract (task_bytes before after : List ℕ) (answered : RoundsAnswer) : Type 0 where

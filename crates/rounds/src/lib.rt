@@ -3,4 +3,4 @@
 
 mod operation;
 
-pub use operation::{RoundsAnswer, rounds};
+pub use operation::{LaidOut, rounds};

@@ -1,5 +1,5 @@
 // What a search has reached: the jobs, and the range of intervals in which they are open.
-ghost use Rattle.std.specs.Prelude.{◌≡◌, ℕ, ◌<◌, min, max, List, length};
+ghost use Rattle.std.specs.Prelude.{◌≡◌, ℕ, ◌<◌, List, length};
 ghost use Rattle.model.specs.Limits.{max_jobs, max_intervals};
 ghost use Rattle.searching.specs.Reaching.{state_of, only_job, with_reached, CanScan, Scans};
 
@@ -24,7 +24,7 @@ pub(crate) fn only(job: usize, first: usize, last: usize) -> Found
     requires { job < max_jobs }
     ensures { (reached source : List ℕ) → state_of result reached source ≡ only_job job first last reached source }
 {
-    let unlisted = job_sets::without(job_sets::all(), job);
+    let unlisted = JobSet::all().without(job);
     Found {
         count: 1,
         start: first,
@@ -49,9 +49,9 @@ pub(crate) fn scan(
         (state_of result reached.new source.new) }
 {
     let mut found = before;
-    let mut new = job_sets::both(set, before.unlisted);
-    while !job_sets::is_empty(new) {
-        let job = job_sets::least(new);
+    let mut new = set.both(before.unlisted);
+    while !new.is_empty() {
+        let job = new.least();
         found = reach(
             found,
             job,
@@ -61,7 +61,7 @@ pub(crate) fn scan(
             reached,
             source,
         );
-        new = job_sets::without(new, job);
+        new = new.without(job);
     }
     found
 }
@@ -84,24 +84,12 @@ fn reach(
     let count = before.count;
     reached[count] = job as u8;
     source[count] = interval as u8;
-    let unlisted = job_sets::without(before.unlisted, job);
+    let unlisted = before.unlisted.without(job);
     Found {
         count: count + 1,
-        start: smaller(before.start, first),
-        end: larger(before.end, last),
+        start: before.start.min(first),
+        end: before.end.max(last),
         target: before.target,
         unlisted,
     }
-}
-
-fn smaller(a: usize, b: usize) -> usize
-    ensures { result ≡ min a b }
-{
-    if b < a { b } else { a }
-}
-
-fn larger(a: usize, b: usize) -> usize
-    ensures { result ≡ max a b }
-{
-    if a < b { b } else { a }
 }

@@ -66,6 +66,7 @@ fn scan_up(
 {
     let mut found = before;
     let mut high = from;
+    // no range: the end moves up as jobs are reached
     while high < found.end {
         if room[high] > 0 {
             found.target = high;

@@ -18,7 +18,6 @@ use Rattle.levels.specs.declared.points.PointTable.{PointTable}
 use Rattle.levels.specs.PointTables.{points_of, SmallPoints}
 use Rattle.levels.proofs.PointTables.{length_points_of}
 use Rattle.levels.proofs.Frequencies.{frequency_in, band-count, frequency_high}
-use Rattle.settings.specs.declared.interval.SettingAnswer.TheVariants.{Set}
 use Rattle.settings.specs.Settings.{answered, Fits}
 
 module _ (table : PointTable) (small : SmallPoints table) where
@@ -65,7 +64,11 @@ module _ (table : PointTable) (curve : Curve (points_of table)) (length load k :
       rw (frequency_in table k (omega (arith, band_inside)), frequency_in table (k + 1) band_inside, add-one k)
       (omega (arith, curve.frequency_rises k in_band.band))
 
-  pub setting_found : Set (k + 1) (load - length * get_or table.frequencies k 0) (get_or table.frequencies (k + 1) 0 - get_or table.frequencies k 0)
+  pub setting_found : record {
+    band = k + 1;
+    extra = load - length * get_or table.frequencies k 0;
+    gap = get_or table.frequencies (k + 1) 0 - get_or table.frequencies k 0;
+  }
       ≡ answered (setting_of (points_of table) length load)
   unfolding gap
   setting_found =
@@ -76,6 +79,6 @@ module _ (table : PointTable) (curve : Curve (points_of table)) (length load k :
         setting_of_is curve length load k in_band,
       )
 
-pub setting_idle : (table : PointTable) (length load : ℕ) → load ≡ 0 → Set 0 0 0 ≡ answered (setting_of (points_of table) length load)
+pub setting_idle : (table : PointTable) (length load : ℕ) → load ≡ 0 → record { band = 0; extra = 0; gap = 0 } ≡ answered (setting_of (points_of table) length load)
 unfolding setting_of
 setting_idle table length load empty = rw empty

@@ -1,19 +1,20 @@
--- What the setting of one interval answers: the paper's number and values for each case of the enum.
-use Rattle.std.specs.Prelude.{ℕ, ◌*◌, ◌≤◌, List}
-use Rattle.model.specs.Outcome.{Outcome, refused, answer}
+-- What the setting of one interval answers: the paper's values, or the refusal.
+use Rattle.std.specs.Prelude.{ℕ, ◌*◌, ◌≤◌, List, Result}
+use Rattle.model.specs.declared.refusal.Refusal.{Refusal}
+use Rattle.model.specs.Outcome.{Outcome}
+use Rattle.model.specs.Refusals.{returned_by}
 use Rattle.model.specs.Points.{Point}
 use Rattle.model.specs.Bands.{band_count, frequency_of}
 use Rattle.model.specs.Setting.{Setting}
-use Rattle.settings.specs.declared.interval.SettingAnswer.{SettingAnswer}
-use Rattle.settings.specs.declared.interval.SettingAnswer.TheVariants.{Set, Refused}
+use Rattle.settings.specs.declared.interval.IntervalSetting.{IntervalSetting}
 
-abbrev pub answered : Setting → SettingAnswer
-answered setting = Set setting.band setting.extra setting.gap
+-- A setting of the definitions as one of the code.
+abbrev pub answered : Setting → IntervalSetting
+answered setting = record { band = setting.band; extra = setting.extra; gap = setting.gap }
 
--- The enum's case for an outcome.
-abbrev pub setting_answer : Outcome Setting → SettingAnswer
-setting_answer (refused number place) = Refused number place
-setting_answer (answer setting) = answered setting
+-- The setting, or the refusal.
+abbrev pub setting_answer : Outcome Setting → Result IntervalSetting Refusal
+setting_answer outcome = returned_by answered outcome
 
 -- A load at most length × top frequency.
 abbrev pub Fits : List Point → (length load : ℕ) → Type 0

@@ -13,32 +13,36 @@ ghost use Rattle.settings.specs.Settings.{setting_answer, answered, Fits};
 
 use level_tables::read_levels;
 use levels::{PointTable, working_levels};
-use model::{MAX_DEADLINE, MAX_LEVELS};
+use model::{Fault, MAX_DEADLINE, MAX_LEVELS, Refusal};
 use parameters::alter_levels;
-use reading::Reading;
 
 // The band counts from 1; zeros for load 0.
-#[derive(Clone, Copy)]
-pub enum SettingAnswer {
-    Set { band: u32, extra: u64, gap: u64 },
-    Refused { number: u32, place: u32 },
+#[derive(Clone, Copy, Debug, PartialEq, Eq)]
+pub struct IntervalSetting {
+    pub band: u32,
+    pub extra: u64,
+    pub gap: u64,
 }
 
 // The setting of an interval of some length for some load, with running levels up to the highest. Any bytes and any numbers are
 // answered.
-pub fn setting(levels: &[u8], highest: u32, length: u32, load: u64) -> SettingAnswer
+pub fn setting(
+    levels: &[u8],
+    highest: u32,
+    length: u32,
+    load: u64,
+) -> Result<IntervalSetting, Refusal>
     ensures { result ≡ setting_answer (setting_of_bytes levels.now highest length load) }
 {
-    let table = read_levels(levels);
-    let reading = table.reading;
-    match reading {
-        Reading::Refused { number, place } => SettingAnswer::Refused { number, place },
-        Reading::Entries(count) => {
-            let frequencies = table.frequencies;
-            let voltages = table.voltages;
-            setting_up_to(&frequencies, &voltages, count, highest, length as u64, load)
-        }
-    }
+    let table = read_levels(levels)?;
+    setting_up_to(
+        &table.frequencies,
+        &table.voltages,
+        table.count,
+        highest,
+        length as u64,
+        load,
+    )
 }
 
 // The setting over a decoded level table, with its running levels up to the highest.
@@ -49,15 +53,12 @@ fn setting_up_to(
     highest: u32,
     length: u64,
     load: u64,
-) -> SettingAnswer
+) -> Result<IntervalSetting, Refusal>
     requires { ValidLevelTable (levels_in count frequencies.now voltages.now) }
     ensures { result ≡ setting_answer (and_then (alter_levels highest (levels_in count frequencies.now voltages.now)) λ levels. setting_for (processor_of levels) length load) }
 {
-    let reading = alter_levels(frequencies, count, highest);
-    match reading {
-        Reading::Refused { number, place } => SettingAnswer::Refused { number, place },
-        Reading::Entries(kept) => setting_in(frequencies, voltages, kept, length, load),
-    }
+    let kept = alter_levels(frequencies, count, highest)?;
+    setting_in(frequencies, voltages, kept, length, load)
 }
 
 // The setting over a level table whose running levels are all allowed.
@@ -67,40 +68,32 @@ fn setting_in(
     count: usize,
     length: u64,
     load: u64,
-) -> SettingAnswer
+) -> Result<IntervalSetting, Refusal>
     requires { ValidLevelTable (levels_in count frequencies.now voltages.now) }
     ensures { result ≡ setting_answer (setting_for (processor_of (levels_in count frequencies.now voltages.now)) length load) }
 {
     if length < 1 {
-        return SettingAnswer::Refused {
-            number: 25,
-            place: 0,
-        };
+        return Err(Fault::IntervalLength.at(0));
     }
     if length > MAX_DEADLINE {
-        return SettingAnswer::Refused {
-            number: 25,
-            place: 0,
-        };
+        return Err(Fault::IntervalLength.at(0));
     }
     if length * frequencies[count - 1] < load {
-        return SettingAnswer::Refused {
-            number: 26,
-            place: 0,
-        };
+        return Err(Fault::LoadAboveTop.at(0));
     }
-    setting_of(working_levels(frequencies, voltages, count), length, load)
+    let working = working_levels(frequencies, voltages, count);
+    Ok(setting_of(working, length, load))
 }
 
 // The setting of a load that fits, over the working points.
-pub fn setting_of(working: PointTable, length: u64, load: u64) -> SettingAnswer
+pub fn setting_of(working: PointTable, length: u64, load: u64) -> IntervalSetting
     requires small_points { SmallPoints working × Curve (points_of working) }
     requires length_le_max_deadline { length ≤ max_deadline }
     requires fits { Fits (points_of working) length load }
     ensures { result ≡ answered (setting_of (points_of working) length load) }
 {
     if load == 0 {
-        return SettingAnswer::Set {
+        return IntervalSetting {
             band: 0,
             extra: 0,
             gap: 0,
@@ -108,7 +101,7 @@ pub fn setting_of(working: PointTable, length: u64, load: u64) -> SettingAnswer
     }
     let k = band_of(working, length, load);
     let lower = working.frequencies[k];
-    SettingAnswer::Set {
+    IntervalSetting {
         band: k as u32 + 1,
         extra: load - length * lower,
         gap: working.frequencies[k + 1] - lower,
@@ -122,12 +115,10 @@ fn band_of(working: PointTable, length: u64, load: u64) -> usize
     ensures { result ≡ band_of (points_of working) length load }
 {
     let last = working.count - 1;
-    let mut k = 0;
-    while k < last {
+    for k in 0..last {
         if load <= length * working.frequencies[k + 1] {
             return k;
         }
-        k += 1;
     }
-    k
+    last
 }

@@ -3,4 +3,4 @@
 
 mod interval;
 
-pub use interval::{SettingAnswer, setting, setting_of};
+pub use interval::{IntervalSetting, setting, setting_of};

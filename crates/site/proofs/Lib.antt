@@ -1,3 +1,3 @@
--- Laws of reading a site, and of a site in arrays.
+-- Laws of reading levels and jobs, and of a site in arrays.
 pub mod ReadSites
 pub mod HeldSites

@@ -1,5 +1,4 @@
 -- Laws of the definitions, for the proofs of the functions.
-pub mod JobSetsWithin
 pub mod NearestDeadlines
 pub mod SpanTicks
 pub mod Listed

@@ -2,16 +2,15 @@
 -- Assumes nothing.
 use mathlib.Core.Path.{◌≡◌, refl, ap}
 use mathlib.Core.List.{List}
-use mathlib.Core.Option.{Option, none, some}
+use mathlib.Core.Option.{Option as Nearest, none, some}
 use Prim.Native.Nat.{ℕ, ◌+◌, ◌<◌, ◌≤◌, min}
 use native.Mathlib.Omega.{arith}
 use lib.ListN.{get_or}
 use lib.Dec.{leb}
 use borrow.Author.Tests.{lt-leb, le-leb}
-use Rattle.model.specs.Search.{smaller, least_below}
 use native.Mathlib.Numerals.{add-one}
-use Rattle.spans.specs.declared.jobs.NearestDeadline.{NearestDeadline}
-use Rattle.spans.specs.declared.jobs.NearestDeadline.TheVariants.{At, None}
+use Rattle.std.specs.Prelude.{Option, Some, None}
+use Rattle.model.specs.Search.{smaller, least_below}
 use Rattle.spans.specs.SpanAnswers.{nearest_answer}
 use Rattle.spans.specs.TouchedIn.{nearest_in}
 
@@ -27,29 +26,29 @@ nearest_more deadlines start j = rw (add-one j)
 
 module _ (deadline start : ℕ) where
   -- a deadline before the start does not count
-  pub nearer_early : deadline < start → (found : NearestDeadline) (least : Option ℕ) → found ≡ nearest_answer least
+  pub nearer_early : deadline < start → (found : Option ℕ) (least : Nearest ℕ) → found ≡ nearest_answer least
       → found ≡ nearest_answer (smaller (leb start deadline) deadline least)
   nearer_early early found least was = rw (lt-leb start deadline early) was
 
   module _ (counts : start ≤ deadline) where
     -- nothing was found
-    pub nearer_first : (least : Option ℕ) → None ≡ nearest_answer least → At deadline ≡ nearest_answer (smaller (leb start deadline) deadline least)
+    pub nearer_first : (least : Nearest ℕ) → None ≡ nearest_answer least → Some deadline ≡ nearest_answer (smaller (leb start deadline) deadline least)
     nearer_first none was = rw (le-leb start deadline counts)
     nearer_first (some value) was = cc was
 
     -- the deadline is nearer than what was found, or is not
-    pub nearer_than : (value : ℕ) → deadline < value → (least : Option ℕ) → At value ≡ nearest_answer least
-        → At deadline ≡ nearest_answer (smaller (leb start deadline) deadline least)
+    pub nearer_than : (value : ℕ) → deadline < value → (least : Nearest ℕ) → Some value ≡ nearest_answer least
+        → Some deadline ≡ nearest_answer (smaller (leb start deadline) deadline least)
     nearer_than value near none was = cc was
     nearer_than value near (some found) was =
         let same : value ≡ found = cc was in
         let is : deadline ≡ min deadline found = omega arith in
-        rw (le-leb start deadline counts) (ap At is)
+        rw (le-leb start deadline counts) (ap Some is)
 
-    pub not_nearer : (value : ℕ) → value ≤ deadline → (least : Option ℕ) → At value ≡ nearest_answer least
-        → At value ≡ nearest_answer (smaller (leb start deadline) deadline least)
+    pub not_nearer : (value : ℕ) → value ≤ deadline → (least : Nearest ℕ) → Some value ≡ nearest_answer least
+        → Some value ≡ nearest_answer (smaller (leb start deadline) deadline least)
     not_nearer value far none was = cc was
     not_nearer value far (some found) was =
         let same : value ≡ found = cc was in
         let is : value ≡ min deadline found = omega arith in
-        rw (le-leb start deadline counts) (ap At is)
+        rw (le-leb start deadline counts) (ap Some is)

@@ -5,6 +5,6 @@ mod jobs;
 mod lists;
 mod steps;
 
-pub use jobs::{NearestDeadline, inside_within, nearest_deadline, open_within};
+pub use jobs::{inside_within, nearest_deadline, open_within};
 pub use lists::write_members;
 pub use steps::{count_steps, write_steps};

@@ -5,7 +5,7 @@ ghost use Rattle.model.specs.Limits.{max_intervals, max_jobs};
 ghost use Rattle.job_sets.specs.JobSets.{member_count};
 ghost use Rattle.spans.specs.TouchedIn.{members_from};
 
-use job_sets::{JobSet, is_empty, least, without};
+use job_sets::JobSet;
 
 // Writes the members, rising, each with a number added, from a place of the list on, and answers the place after them.
 pub fn write_members(set: JobSet, base: usize, first: usize, list: &mut [u32]) -> usize
@@ -15,11 +15,11 @@ pub fn write_members(set: JobSet, base: usize, first: usize, list: &mut [u32]) -
 {
     let mut next = first;
     let mut rest = set;
-    while !is_empty(rest) {
-        let job = least(rest);
+    while !rest.is_empty() {
+        let job = rest.least();
         list[next] = (base + job) as u32;
         next += 1;
-        rest = without(rest, job);
+        rest = rest.without(job);
     }
     next
 }

@@ -5,7 +5,7 @@ ghost use Rattle.spans.specs.SpanAnswers.{listed};
 ghost use Rattle.spans.specs.TouchedIn.{set_within, cells_within};
 
 use crate::lists::write_members;
-use job_sets::{JobSet, SET_WORDS, count, none, set_at};
+use job_sets::{JobSet, SET_WORDS, set_at};
 use model::{MAX_BOUNDS, MAX_JOBS};
 
 // The set of an interval where it shares a tick with the span, otherwise no jobs.
@@ -20,10 +20,10 @@ fn set_within(
     ensures { result ≡ set_within times.now cells.now start end interval }
 {
     if end <= times[interval] {
-        return none();
+        return JobSet::none();
     }
     if times[interval + 1] <= start {
-        return none();
+        return JobSet::none();
     }
     set_at(cells, interval)
 }
@@ -41,10 +41,8 @@ pub fn count_steps(
     ensures upper_bound { result ≤ max_intervals * max_jobs }
 {
     let mut steps = 0;
-    let mut i = 0;
-    while i < intervals {
-        steps += count(set_within(times, cells, i, start, end));
-        i += 1;
+    for i in 0..intervals {
+        steps += set_within(times, cells, i, start, end).count();
     }
     steps
 }
@@ -62,10 +60,8 @@ pub fn write_steps(
     ensures { list.new ≡ listed (cells_within times.now cells.now intervals start end) list.old }
 {
     let mut next = 0;
-    let mut i = 0;
-    while i < intervals {
+    for i in 0..intervals {
         let set = set_within(times, cells, i, start, end);
         next = write_members(set, i * MAX_JOBS, next, list);
-        i += 1;
     }
 }

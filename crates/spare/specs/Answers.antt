@@ -1,10 +1,9 @@
--- The answers of this crate: the paper's number and values for each case of an enum.
-use Rattle.std.specs.Prelude.{ℤ}
-use Rattle.model.specs.Outcome.{Outcome, refused, answer}
-use Rattle.spare.specs.declared.window.SpareAnswer.{SpareAnswer}
-use Rattle.spare.specs.declared.window.SpareAnswer.TheVariants.{Spare, Refused}
+-- The answers of this crate: the paper's values, or the refusal.
+use Rattle.std.specs.Prelude.{ℤ, Result}
+use Rattle.model.specs.declared.refusal.Refusal.{Refusal}
+use Rattle.model.specs.Outcome.{Outcome}
+use Rattle.model.specs.Refusals.{returned}
 
--- The spare, or the refusal's number and place.
-abbrev pub spare_answer : Outcome ℤ → SpareAnswer
-spare_answer (refused number place) = Refused number place
-spare_answer (answer z) = Spare z
+-- The spare, or the refusal.
+abbrev pub spare_answer : Outcome ℤ → Result ℤ Refusal
+spare_answer outcome = returned outcome

@@ -9,24 +9,18 @@ ghost use Rattle.model.specs.Windows.{is_inside, cycles_inside, spare_of, spare_
 ghost use Rattle.job_tables.specs.Tables.{jobs_in};
 ghost use Rattle.spare.specs.Answers.{spare_answer};
 
-use model::{MAX_DEADLINE, MAX_JOBS, Parameters};
-use site::{SiteReading, TablePair, read_tables};
+use model::{Fault, MAX_DEADLINE, MAX_JOBS, Parameters, Refusal};
+use site::{TablePair, read_tables};
 
-// The spare may be negative.
-#[derive(Clone, Copy)]
-pub enum SpareAnswer {
-    Spare(i64),
-    Refused { number: u32, place: u32 },
-}
-
-// What the top frequency gives in a window less the cycles of the jobs inside. Any bytes and any numbers are answered.
+// What the top frequency gives in a window less the cycles of the jobs inside, negative where these are more. Any bytes and any numbers
+// are answered.
 pub fn spare(
     levels: &[u8],
     jobs: &[u8],
     parameters: Parameters,
     start: u32,
     end: u32,
-) -> SpareAnswer
+) -> Result<i64, Refusal>
     ensures { result ≡ spare_answer (spare_of_bytes levels.now jobs.now parameters start end) }
 {
     let mut releases = [0u64; MAX_JOBS];
@@ -39,19 +33,15 @@ pub fn spare(
         &mut releases,
         &mut deadlines,
         &mut cycles,
-    );
-    let reading = tables.reading;
-    match reading {
-        SiteReading::Refused { number, place } => SpareAnswer::Refused { number, place },
-        SiteReading::Read => spare_of_tables(
-            tables,
-            &releases,
-            &deadlines,
-            &cycles,
-            start as u64,
-            end as u64,
-        ),
-    }
+    )?;
+    spare_of_tables(
+        tables,
+        &releases,
+        &deadlines,
+        &cycles,
+        start as u64,
+        end as u64,
+    )
 }
 
 // The spare of a window for levels and jobs that were read.
@@ -62,24 +52,18 @@ fn spare_of_tables(
     cycles: &[u64; MAX_JOBS],
     start: u64,
     end: u64,
-) -> SpareAnswer
+) -> Result<i64, Refusal>
     requires { ValidJobs (jobs_in tables.jobs releases.now deadlines.now cycles.now) × (tables.top ≤ max_frequency) }
     ensures { (t : Tables) → top_of t.processor ≡ tables.top → t.jobs ≡ jobs_in tables.jobs releases.now deadlines.now cycles.now → result ≡ spare_answer (spare_for t start end) }
 {
     if end <= start {
-        return SpareAnswer::Refused {
-            number: 27,
-            place: 0,
-        };
+        return Err(Fault::WindowBounds.at(0));
     }
     if end > MAX_DEADLINE {
-        return SpareAnswer::Refused {
-            number: 27,
-            place: 0,
-        };
+        return Err(Fault::WindowBounds.at(0));
     }
     let count = tables.jobs;
-    SpareAnswer::Spare(window_spare(releases, deadlines, cycles, count, tables.top, start, end))
+    Ok(window_spare(releases, deadlines, cycles, count, tables.top, start, end))
 }
 
 // The spare of a window for jobs that were read.
@@ -113,10 +97,8 @@ pub(crate) fn cycles_inside(
     ensures { (result ≡ cycles_inside (jobs_in count releases.now deadlines.now cycles.now) start end) × (result ≤ max_jobs * max_cycles) }
 {
     let mut sum = 0;
-    let mut j = 0;
-    while j < count {
+    for j in 0..count {
         sum += cycles_if_inside(releases[j], deadlines[j], cycles[j], start, end);
-        j += 1;
     }
     sum
 }

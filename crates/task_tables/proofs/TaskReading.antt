@@ -1,6 +1,6 @@
 -- Laws of reading tasks, one for each way out, and what a table that was read is.
 -- Assumes nothing.
-use mathlib.Core.Path.{◌≡◌, refl, sym, ◌∙◌, ap}
+use mathlib.Core.Path.{◌≡◌, sym, ◌∙◌, ap}
 use mathlib.Core.Bool.{not}
 use mathlib.Core.List.{List}
 use Prim.Native.Nat.{ℕ, ◌+◌, ◌*◌, ◌<◌, ◌≤◌}
@@ -9,13 +9,13 @@ use native.Mathlib.Omega.{arith}
 use lib.ListN.{length}
 use lib.Dec.{ltb, eqb}
 use borrow.Author.Tests.{lt-ltb, le-ltb, eq-eqb, ne_eqb, ltb-false, eqb-true, not-false}
+use Rattle.std.specs.Prelude.{Result, Ok}
+use Rattle.model.specs.declared.refusal.Refusal.{Refusal}
 use Rattle.model.specs.Outcome.{Outcome, refused, answer, by_entry}
+use Rattle.model.proofs.Refusals.{returned_answered}
 use Rattle.model.proofs.Outcome.{answered_past, answer_injective, by_entry_answered}
 use Rattle.model.proofs.Entries.{length_list_of, get_d_list_of}
-use Rattle.reading.specs.declared.Reading.{Reading}
-use Rattle.reading.specs.declared.Reading.TheVariants.{Entries}
-use Rattle.reading.specs.Tables.{reading_of}
-use Rattle.reading.proofs.ByEntry.{entries≢refused}
+use Rattle.reading.specs.Tables.{returned_count}
 use Rattle.tasks.specs.declared.Task.{Task}
 use Rattle.tasks.specs.Tasks.{max_tasks, no_task, task_of, task_count, task_at, task_entries, task_fault, read_tasks}
 use Rattle.tasks.specs.Multiples.{max_multiple}
@@ -52,9 +52,9 @@ module _ (bytes : List ℕ) where
     tasks_checked = tasks_whole (omega arith) (omega arith) (omega arith)
 
     -- as the code goes through them
-    pub checked_all : {reading : Reading} → reading ≡ reading_of (by_entry count (task_fault (task_entries bytes)) (answer (task_entries bytes)))
-        → reading ≡ reading_of (read_tasks bytes)
-    checked_all found = found ∙ rw table.counted (ap reading_of (sym tasks_checked))
+    pub checked_all : {result : Result ℕ Refusal} → result ≡ returned_count (by_entry count (task_fault (task_entries bytes)) (answer (task_entries bytes)))
+        → result ≡ returned_count (read_tasks bytes)
+    checked_all found = found ∙ rw table.counted (ap returned_count (sym tasks_checked))
 
     -- the entries are as many, and each stands at its number
     pub count_entries : length (task_entries bytes) ≡ count
@@ -83,12 +83,10 @@ module _ (bytes : List ℕ) where
       }
 
   -- a number of entries that was answered is that of a table that was read
-  pub tasks_read : (count : ℕ) → Entries count ≡ reading_of (read_tasks bytes) → TasksRead bytes count
-  tasks_read count told = go (read_tasks bytes) refl told
-    where
-      go : (outcome : Outcome (List Task)) → read_tasks bytes ≡ outcome → Entries count ≡ reading_of outcome → TasksRead bytes count
-      go (refused number place) is told = absurd (entries≢refused told)
-      go (answer tasks) is told = read_as count tasks is (cc told)
+  pub tasks_read : (count : ℕ) → Ok count ≡ returned_count (read_tasks bytes) → TasksRead bytes count
+  tasks_read count told =
+      let (tasks, is, counted) = returned_answered _ (read_tasks bytes) count (sym told) in
+      read_as count tasks is (sym counted)
 
 -- a task that was read
 pub task_read : (bytes : List ℕ) (count : ℕ) → TasksRead bytes count → (i : ℕ) → i < count → (task : Task) → task ≡ task_at bytes i

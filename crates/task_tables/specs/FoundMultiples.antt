@@ -1,17 +1,23 @@
--- What the search for a least common multiple finds. Above the limit any number above it will do.
-use Rattle.std.specs.Prelude.{ℕ, ◌<◌, ◌≤◌, ◌≡◌, List}
+-- What the search for a least common multiple finds: it, or that it is above the limit.
+use Rattle.std.specs.Prelude.{ℕ, ◌<◌, ◌≤◌, ◌≡◌, List, Option, Some, None}
 use Rattle.std.specs.Int.{◌∣◌}
 use Rattle.tasks.specs.declared.Task.{Task}
 use Rattle.tasks.specs.Multiples.{max_multiple, multiple_of}
 
--- Of two numbers: no common multiple is smaller, and within the limit it is one itself.
-pub record CommonFound (one other found : ℕ) : Type 0 where
+-- A common multiple of two numbers within the limit, and no common multiple is smaller.
+pub record LeastCommon (one other found : ℕ) : Type 0 where
   pub positive : 0 < found
+  pub small : found ≤ max_multiple
   pub lowest : (n : ℕ) → 0 < n → one ∣ n → other ∣ n → found ≤ n
-  pub one_divides : found ≤ max_multiple → one ∣ found
-  pub other_divides : found ≤ max_multiple → other ∣ found
+  pub one_divides : one ∣ found
+  pub other_divides : other ∣ found
+
+-- Of two numbers: the least common multiple, or all are above the limit.
+abbrev pub CommonFound : (one other : ℕ) → (found : Option ℕ) → Type 0
+CommonFound one other None = (n : ℕ) → 0 < n → one ∣ n → other ∣ n → max_multiple < n
+CommonFound one other (Some found) = LeastCommon one other found
 
 -- Of all periods of tasks.
-pub record MultipleFound (tasks : List Task) (found : ℕ) : Type 0 where
-  pub exact : found ≤ max_multiple → found ≡ multiple_of tasks
-  pub above : max_multiple < found → max_multiple < multiple_of tasks
+abbrev pub MultipleFound : (tasks : List Task) → (found : Option ℕ) → Type 0
+MultipleFound tasks None = max_multiple < multiple_of tasks
+MultipleFound tasks (Some found) = (found ≤ max_multiple) × (found ≡ multiple_of tasks)

@@ -1,57 +1,43 @@
 // Reading tasks: refusal 28. A task is read from its bytes wherever it is needed; nothing is copied.
 ghost use Rattle.std.specs.Prelude.{◌≡◌, ◌<◌};
+ghost use Rattle.model.specs.Refusals.{fault_of};
 ghost use Rattle.model.specs.Outcome.{answer, by_entry};
-ghost use Rattle.reading.specs.Tables.{reading_of};
+ghost use Rattle.reading.specs.Tables.{returned_count};
 ghost use Rattle.tasks.specs.Tasks.{task_at, task_entries, fault_of_task, task_fault, read_tasks};
 ghost use Rattle.task_tables.specs.TaskBytes.{TaskBytes};
 
-use model::MAX_CYCLES;
-use reading::{Reading, number16, number32};
+use model::{Fault, MAX_CYCLES, Refusal};
+use reading::{number16, number32};
 use tasks::{MAX_TASKS, Task};
 
 // Reads a task table: how many tasks it has, or 28.
-pub fn read_tasks(bytes: &[u8]) -> Reading
-    ensures { result ≡ reading_of (read_tasks bytes.now) }
+pub fn read_tasks(bytes: &[u8]) -> Result<usize, Refusal>
+    ensures { result ≡ returned_count (read_tasks bytes.now) }
 {
     if bytes.len() < 2 {
-        return Reading::Refused {
-            number: 28,
-            place: 0,
-        };
+        return Err(Fault::TaskTable.at(0));
     }
     let count = number16(bytes, 0) as usize;
     if count > MAX_TASKS {
-        return Reading::Refused {
-            number: 28,
-            place: 0,
-        };
+        return Err(Fault::TaskTable.at(0));
     }
     if bytes.len() != 2 + 16 * count {
-        return Reading::Refused {
-            number: 28,
-            place: 0,
-        };
+        return Err(Fault::TaskTable.at(0));
     }
     check_tasks(bytes, count)
 }
 
 // Goes through the entries one after another.
-fn check_tasks(bytes: &[u8], count: usize) -> Reading
+fn check_tasks(bytes: &[u8], count: usize) -> Result<usize, Refusal>
     requires { TaskBytes bytes.now count }
-    ensures { result ≡ reading_of (by_entry count (task_fault (task_entries bytes.now)) (answer (task_entries bytes.now))) }
+    ensures { result ≡ returned_count (by_entry count (task_fault (task_entries bytes.now)) (answer (task_entries bytes.now))) }
 {
-    let mut i = 0;
-    while i < count {
-        let number = task_fault(task_at(bytes, count, i));
-        if number != 0 {
-            return Reading::Refused {
-                number,
-                place: i as u32,
-            };
+    for i in 0..count {
+        if let Some(fault) = task_fault(task_at(bytes, count, i)) {
+            return Err(fault.at(i as u32));
         }
-        i += 1;
     }
-    Reading::Entries(count)
+    Ok(count)
 }
 
 // The task at an entry.
@@ -68,25 +54,24 @@ pub fn task_at(bytes: &[u8], count: usize, i: usize) -> Task
     }
 }
 
-// 28 for a task with a fault, otherwise 0. The phase is compared with what the deadline leaves of the period, so that no
-// sum has to fit.
-fn task_fault(task: Task) -> u32
-    ensures { result ≡ fault_of_task task }
+// What is at fault at a task. The phase is compared with what the deadline leaves of the period, so that no sum has to fit.
+fn task_fault(task: Task) -> Option<Fault>
+    ensures { result ≡ fault_of (fault_of_task task) }
 {
     if task.deadline < 1 {
-        return 28;
+        return Some(Fault::TaskTable);
     }
     if task.period < task.deadline {
-        return 28;
+        return Some(Fault::TaskTable);
     }
     if task.period - task.deadline < task.phase {
-        return 28;
+        return Some(Fault::TaskTable);
     }
     if task.cycles < 1 {
-        return 28;
+        return Some(Fault::TaskTable);
     }
     if task.cycles > MAX_CYCLES {
-        return 28;
+        return Some(Fault::TaskTable);
     }
-    0
+    None
 }

@@ -2,20 +2,19 @@
 ghost use Rattle.std.specs.Prelude.{◌≤◌, length};
 
 use crate::print;
-use crate::print::Refusal;
 use levels::read_working_levels;
-use model::MAX_POINTS;
+use model::{MAX_POINTS, Refusal};
 use parameters::as_given;
 use test_support::encode::encode;
 use test_support::written;
 
 // Whether a board's table is read, its working frequencies with that of idling first and zeros past the last, the check's
-// refusal, and where the board ends in the line.
+// refusal if there is one, and where the board ends in the line.
 #[derive(Clone, Copy)]
 pub(crate) struct Board {
     pub read: bool,
     pub frequencies: [u64; MAX_POINTS],
-    pub refusal: Refusal,
+    pub refusal: Option<Refusal>,
     pub end: usize,
 }
 
@@ -41,10 +40,11 @@ pub(crate) fn check_board(
     let frequencies = working.frequencies;
     written::working(&frequencies, working.count);
     let answer = audit::check(&level_bytes[..length], jobs, marks, given, plan, prices);
+    print::checked(answer);
     Board {
         read: working.count > 0,
         frequencies,
-        refusal: print::checked(answer),
+        refusal: answer.err(),
         end: levels.end,
     }
 }

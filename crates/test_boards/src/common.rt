@@ -1,7 +1,6 @@
 // What the boards of a case have in common. Each board that is read is compared with the first one that is.
 use crate::board::Board;
-use crate::print::Refusal;
-use model::MAX_POINTS;
+use model::{MAX_POINTS, Refusal};
 
 // Whether a board is read, the working frequencies and the refusal of the first that is, and whether all others that are read
 // have the same working frequencies, and the same answer.
@@ -9,7 +8,7 @@ use model::MAX_POINTS;
 pub(crate) struct Common {
     pub read: bool,
     pub frequencies: [u64; MAX_POINTS],
-    pub refusal: Refusal,
+    pub refusal: Option<Refusal>,
     pub same_frequencies: bool,
     pub same_answers: bool,
 }
@@ -18,21 +17,17 @@ pub(crate) fn no_boards() -> Common {
     Common {
         read: false,
         frequencies: [0; MAX_POINTS],
-        refusal: Refusal {
-            number: 0,
-            place: 0,
-        },
+        refusal: None,
         same_frequencies: true,
         same_answers: true,
     }
 }
 
-// What the boards have in common with one more of them.
+// What the boards have in common with one more of them. Working frequencies are compared with the zeros past the last: a level's
+// frequency is above 0, so that lists of different lengths differ.
 pub(crate) fn with_board(common: Common, board: Board) -> Common {
     let first = common.frequencies;
     let frequencies = board.frequencies;
-    let first_refusal = common.refusal;
-    let refusal = board.refusal;
     if !board.read {
         return common;
     }
@@ -40,7 +35,7 @@ pub(crate) fn with_board(common: Common, board: Board) -> Common {
         return Common {
             read: true,
             frequencies,
-            refusal,
+            refusal: board.refusal,
             same_frequencies: true,
             same_answers: true,
         };
@@ -48,25 +43,8 @@ pub(crate) fn with_board(common: Common, board: Board) -> Common {
     Common {
         read: true,
         frequencies: first,
-        refusal: first_refusal,
-        same_frequencies: common.same_frequencies & same_frequencies(first, frequencies),
-        same_answers: common.same_answers & same_refusal(first_refusal, refusal),
+        refusal: common.refusal,
+        same_frequencies: common.same_frequencies & (first == frequencies),
+        same_answers: common.same_answers & (common.refusal == board.refusal),
     }
-}
-
-// Whether the working frequencies are the same. Past the last stand zeros, and a level's frequency is above 0, so that lists of
-// different lengths differ.
-fn same_frequencies(one: [u64; MAX_POINTS], other: [u64; MAX_POINTS]) -> bool {
-    let mut k = 0;
-    while k < MAX_POINTS {
-        if one[k] != other[k] {
-            return false;
-        }
-        k += 1;
-    }
-    true
-}
-
-fn same_refusal(one: Refusal, other: Refusal) -> bool {
-    (one.number == other.number) & (one.place == other.place)
 }

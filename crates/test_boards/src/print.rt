@@ -2,15 +2,8 @@
 ghost use Rattle.std.specs.Prelude.{◌≤◌, length};
 
 use crate::common::Common;
-use audit::CheckAnswer;
+use model::Refusal;
 use test_support::show;
-
-// The number and place of a refusal, zeros where the plan is accepted.
-#[derive(Clone, Copy)]
-pub struct Refusal {
-    pub number: u32,
-    pub place: u32,
-}
 
 // The name of the case, and that of the board at a place.
 pub(crate) fn names(line: &[u8], place: usize)
@@ -21,23 +14,10 @@ pub(crate) fn names(line: &[u8], place: usize)
     show::words_to(&line[place..], 0);
 }
 
-// Prints the check's answer, which ends the line of a board, and answers the refusal in it.
-pub(crate) fn checked(answer: CheckAnswer) -> Refusal {
-    let refusal = match answer {
-        CheckAnswer::Accepted { energy } => {
-            show::accepted(energy);
-            Refusal {
-                number: 0,
-                place: 0,
-            }
-        }
-        CheckAnswer::Refused { number, place } => {
-            show::refusal(number, place);
-            Refusal { number, place }
-        }
-    };
+// Prints the check's answer, which ends the line of a board.
+pub(crate) fn checked(answer: Result<u64, Refusal>) {
+    show::checked(answer);
     show::end();
-    refusal
 }
 
 // What the boards of a case have in common.

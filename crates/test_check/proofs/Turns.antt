@@ -6,13 +6,13 @@ use mathlib.Core.Logic.{◌⊎◌, inl, inr}
 use mathlib.Core.List.{List}
 use Prim.Native.Nat.{ℕ, zero, suc, ◌-◌, ◌<◌, ◌≤◌}
 use native.Mathlib.Omega.{arith}
+use Rattle.std.specs.Prelude.{Some, None, Ok, Err}
+use Rattle.model.specs.Refusals.{refusal}
 use Rattle.model.specs.Steps.{step_count, step_at, wrong_plan_length, walk}
 use Rattle.model.proofs.Numbers.{lt_or_le, true≢false}
-use Rattle.walking.specs.declared.steps.StepAnswer.{StepAnswer}
-use Rattle.walking.specs.declared.steps.StepAnswer.TheVariants.{Step as Found, End, Refused}
 use Rattle.walking.specs.declared.walk.StepReading.{StepReading}
 use Rattle.walking.specs.declared.walk.Taken.{Taken}
-use Rattle.walking.specs.Walking.{step_answer, number_after}
+use Rattle.walking.specs.Walking.{StepAnswer, step_answer, number_after}
 use Rattle.walking.specs.Readings.{answer_of, taken}
 use Rattle.walking.proofs.Walking.{step_past, walk_refused, walk_answered}
 use Rattle.test_check.specs.Printing.{is_step}
@@ -24,18 +24,18 @@ step_below plan number step = go (wrong_plan_length plan) refl
     at : wrong_plan_length plan ≡ false → (number < step_count plan) ⊎ (step_count plan ≤ number) → number < step_count plan
     at right (inl below) = below
     at right (inr past) =
-        let ended : step_answer (walk plan) number ≡ End = rw (walk_answered plan right) (sym (step_past (step_count plan) (step_at plan) number past)) in
+        let ended : step_answer (walk plan) number ≡ Ok None = rw (walk_answered plan right) (ap Ok (sym (step_past (step_count plan) (step_at plan) number past))) in
         absurd (true≢false (sym step ∙ ap is_step ended))
 
     go : (wrong : Bool) → wrong_plan_length plan ≡ wrong → number < step_count plan
-    go true wrong = let refusal : step_answer (walk plan) number ≡ Refused 15 0 = rw (walk_refused plan wrong) in absurd (true≢false (sym step ∙ ap is_step refusal))
+    go true wrong = let own : step_answer (walk plan) number ≡ Err (refusal 15 0) = rw (walk_refused plan wrong) in absurd (true≢false (sym step ∙ ap is_step own))
     go false right = at right (lt_or_le number (step_count plan))
 
 -- after a step the number is one higher
 pub number_suc : (answer : StepAnswer) (number : ℕ) → is_step answer ≡ true → number_after answer number ≡ suc number
-number_suc (Found step) number e = refl
-number_suc End number e = absurd (true≢false (sym e))
-number_suc (Refused n place) number e = absurd (true≢false (sym e))
+number_suc (Ok (Some step)) number e = refl
+number_suc (Ok None) number e = absurd (true≢false (sym e))
+number_suc (Err own) number e = absurd (true≢false (sym e))
 
 -- how many turns are left at most
 abbrev pub left_after : (step : Bool) → (count number : ℕ) → ℕ

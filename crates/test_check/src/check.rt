@@ -1,7 +1,6 @@
 // Checks the plan and the price list of a line, and prints what is answered.
 ghost use Rattle.std.specs.Prelude.{◌≤◌, length};
 
-use audit::CheckAnswer;
 use parameters::as_given;
 use test_support::encode::{ROOM, encode_tables};
 use test_support::show;
@@ -48,7 +47,7 @@ fn case_in(
     let plan = tables.plan;
     let prices = tables.prices;
     let given = as_given(&level_bytes[..levels]);
-    print(audit::check(
+    show::checked(audit::check(
         &level_bytes[..levels],
         &job_bytes[..jobs],
         &mark_bytes[..marks],
@@ -56,11 +55,4 @@ fn case_in(
         &plan_bytes[..plan],
         &price_bytes[..prices],
     ));
-}
-
-fn print(answer: CheckAnswer) {
-    match answer {
-        CheckAnswer::Accepted { energy } => show::accepted(energy),
-        CheckAnswer::Refused { number, place } => show::refusal(number, place),
-    }
 }

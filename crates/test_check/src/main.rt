@@ -14,19 +14,10 @@ mod check;
 mod walk;
 
 use case::case;
-use test_support::text::{STDIN, TEXT_ROOM, find};
+use test_support::text::{STDIN, TEXT_ROOM, each_line};
 
 fn main() {
     let mut text = [0; TEXT_ROOM];
     let length = io::read_full(STDIN, &mut text);
-    cases(&text[..length]);
-}
-
-fn cases(text: &[u8]) {
-    let mut start = 0;
-    while start < text.len() {
-        let end = find(text, start, b'\n');
-        case(&text[start..end]);
-        start = end + 1;
-    }
+    each_line(&text[..length], case);
 }

@@ -3,10 +3,11 @@
 ghost use Rattle.std.specs.Prelude.{◌≡◌, ◌≤◌, length};
 ghost use Rattle.test_check.specs.Printing.{is_step};
 
+use model::Refusal;
 use test_support::encode::encode;
 use test_support::show;
 use test_support::text::{next, number};
-use walking::{Step, StepAnswer};
+use walking::Step;
 
 pub(crate) fn case(bytes: &mut [u8], line: &[u8], kind: usize)
     requires { kind ≤ length line.now }
@@ -36,20 +37,20 @@ fn walk(plan: &[u8]) {
 }
 
 // Prints what was taken, and answers whether it is a step.
-fn print(answer: StepAnswer) -> bool
+fn print(answer: Result<Option<Step>, Refusal>) -> bool
     ensures { result ≡ is_step answer }
 {
     match answer {
-        StepAnswer::Step(step) => {
+        Ok(Some(step)) => {
             print_step(step);
             true
         }
-        StepAnswer::End => {
+        Ok(None) => {
             show::words(b" end");
             false
         }
-        StepAnswer::Refused { number, place } => {
-            show::refusal(number, place);
+        Err(own) => {
+            show::refusal(own);
             false
         }
     }

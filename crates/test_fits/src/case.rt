@@ -1,5 +1,5 @@
 // A case: whether the plan of a line fits, and what the check answers for it with the price list of the line.
-use audit::{CheckAnswer, FitsAnswer};
+use model::Refusal;
 use parameters::as_given;
 use test_support::encode::{ROOM, encode_tables};
 use test_support::show;
@@ -55,22 +55,15 @@ fn halves(levels: &[u8], jobs: &[u8], marks: &[u8], plan: &[u8], prices: &[u8]) 
     let given = as_given(levels);
     print_fits(audit::fits(levels, jobs, marks, given, plan));
     show::words(b" check");
-    print_check(audit::check(levels, jobs, marks, given, plan, prices));
+    show::checked(audit::check(levels, jobs, marks, given, plan, prices));
 }
 
-fn print_fits(answer: FitsAnswer) {
+fn print_fits(answer: Result<u64, Refusal>) {
     match answer {
-        FitsAnswer::Fits { energy } => {
+        Ok(energy) => {
             show::words(b" fits");
             show::number(energy);
         }
-        FitsAnswer::Refused { number, place } => show::refusal(number, place),
-    }
-}
-
-fn print_check(answer: CheckAnswer) {
-    match answer {
-        CheckAnswer::Accepted { energy } => show::accepted(energy),
-        CheckAnswer::Refused { number, place } => show::refusal(number, place),
+        Err(own) => show::refusal(own),
     }
 }

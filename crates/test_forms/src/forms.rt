@@ -96,11 +96,9 @@ fn climbing(state: &mut u32, start: u32, least: u32, spread: u32) -> [u32; COLUM
 {
     let mut column = [0u32; COLUMN];
     let mut number = start;
-    let mut i = 0;
-    while i < COLUMN {
+    for entry in column.iter_mut() {
         number += least + draw(state, spread);
-        column[i] = number;
-        i += 1;
+        *entry = number;
     }
     column
 }
@@ -138,10 +136,8 @@ fn several_jobs(windows: [u32; COLUMN], state: &mut u32) -> JobColumns {
 fn some_cycles(state: &mut u32, count: u32) -> [u32; COLUMN] {
     let most = most_cycles(count);
     let mut cycles = [0u32; COLUMN];
-    let mut j = 0;
-    while j < COLUMN {
-        cycles[j] = 1 + draw(state, most);
-        j += 1;
+    for entry in cycles.iter_mut() {
+        *entry = 1 + draw(state, most);
     }
     cycles
 }
@@ -160,12 +156,10 @@ fn most_cycles(count: u32) -> u32
 
 fn any_windows(state: &mut u32) -> [u32; COLUMN] {
     let mut windows = [0u32; COLUMN];
-    let mut j = 0;
-    while j < COLUMN / 2 {
+    for window in windows.chunks_exact_mut(2) {
         let release = draw(state, 6);
-        windows[2 * j] = release;
-        windows[2 * j + 1] = release + 1 + draw(state, 5);
-        j += 1;
+        window[0] = release;
+        window[1] = release + 1 + draw(state, 5);
     }
     windows
 }
@@ -174,13 +168,11 @@ fn nested_windows(state: &mut u32) -> [u32; COLUMN] {
     let mut windows = [0u32; COLUMN];
     let mut release = 0;
     let mut deadline = 8;
-    let mut j = 0;
-    while j < COLUMN / 2 {
-        windows[2 * j] = release;
-        windows[2 * j + 1] = deadline;
+    for window in windows.chunks_exact_mut(2) {
+        window[0] = release;
+        window[1] = deadline;
         release += draw(state, 2);
         deadline -= draw(state, 2);
-        j += 1;
     }
     windows
 }

@@ -8,10 +8,8 @@ use test_support::show;
 // The jobs of a list, one after another.
 pub(crate) fn rooms(levels: &[u8], jobs: &mut [u8], parameters: Parameters, list: &[u32]) {
     show::words(b" tried");
-    let mut i = 0;
-    while i < list.len() / 2 {
-        room(levels, jobs, parameters, list[2 * i], list[2 * i + 1]);
-        i += 1;
+    for pair in list.chunks_exact(2) {
+        room(levels, jobs, parameters, pair[0], pair[1]);
     }
 }
 

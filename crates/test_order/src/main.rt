@@ -16,7 +16,7 @@ mod order;
 mod print;
 
 use case::case;
-use test_support::text::{STDIN, find};
+use test_support::text::STDIN;
 
 fn main() {
     let mut text = io::large_buffer();
@@ -25,10 +25,7 @@ fn main() {
 }
 
 fn cases(text: &[u8]) {
-    let mut start = 0;
-    while start < text.len() {
-        let end = find(text, start, b'\n');
-        case(&text[start..end]);
-        start = end + 1;
+    for line in text.split_inclusive(|&byte| byte == b'\n') {
+        case(line.strip_suffix(b"\n").unwrap_or(line));
     }
 }

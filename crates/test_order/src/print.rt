@@ -1,27 +1,26 @@
 // Printing what ordering and the check answer.
-use audit::CheckAnswer;
-use ordering::OrderAnswer;
+use model::Refusal;
 use test_support::show;
 
 // Prints the answer, and answers how many bytes it says are written.
-pub(crate) fn answer(answer: OrderAnswer) -> u32 {
+pub(crate) fn answer(answer: Result<u32, Refusal>) -> u32 {
     match answer {
-        OrderAnswer::Ordered { length } => {
+        Ok(length) => {
             show::words(b" ordered");
             show::number(length as u64);
             length
         }
-        OrderAnswer::Refused { number, place } => {
-            show::refusal(number, place);
+        Err(own) => {
+            show::refusal(own);
             0
         }
     }
 }
 
-pub(crate) fn checked(answer: CheckAnswer) {
+pub(crate) fn checked(answer: Result<u64, Refusal>) {
     match answer {
-        CheckAnswer::Accepted { energy } => show::accepted(energy),
-        CheckAnswer::Refused { number, place } => show::refusal(number, place),
+        Ok(energy) => show::accepted(energy),
+        Err(own) => show::refusal(own),
     }
 }
 

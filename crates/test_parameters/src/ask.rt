@@ -1,9 +1,7 @@
 // What the first half of the check, the check and ordering answer for a plan.
 ghost use Rattle.std.specs.Prelude.{◌≤◌, length};
 
-use audit::{CheckAnswer, FitsAnswer};
-use model::Parameters;
-use ordering::OrderAnswer;
+use model::{Parameters, Refusal};
 use test_support::buffers::{UNWRITTEN, kept};
 use test_support::encode::{ROOM, encode};
 use test_support::text::MAX_NUMBERS;
@@ -109,32 +107,32 @@ pub(crate) fn ask(
     show::rest(kept(ordered, written));
 }
 
-fn print_fits(answer: FitsAnswer) {
+fn print_fits(answer: Result<u64, Refusal>) {
     show::words(b" fits");
     match answer {
-        FitsAnswer::Fits { energy } => show::number(energy),
-        FitsAnswer::Refused { number, place } => show::refusal(number, place),
+        Ok(energy) => show::number(energy),
+        Err(own) => show::refusal(own),
     }
 }
 
-fn print_check(answer: CheckAnswer) {
+fn print_check(answer: Result<u64, Refusal>) {
     show::words(b" check");
     match answer {
-        CheckAnswer::Accepted { energy } => show::accepted(energy),
-        CheckAnswer::Refused { number, place } => show::refusal(number, place),
+        Ok(energy) => show::accepted(energy),
+        Err(own) => show::refusal(own),
     }
 }
 
 // Prints the answer, and answers how many bytes it says are written.
-fn print_order(answer: OrderAnswer) -> u32 {
+fn print_order(answer: Result<u32, Refusal>) -> u32 {
     show::words(b" order");
     match answer {
-        OrderAnswer::Ordered { length } => {
+        Ok(length) => {
             show::number(length as u64);
             length
         }
-        OrderAnswer::Refused { number, place } => {
-            show::refusal(number, place);
+        Err(own) => {
+            show::refusal(own);
             0
         }
     }

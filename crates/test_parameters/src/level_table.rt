@@ -1,5 +1,4 @@
 // What is asked of a level table and the highest running level alone: the setting of one interval, and the working levels.
-use settings::SettingAnswer;
 use test_support::text::MAX_NUMBERS;
 use test_support::{show, written};
 
@@ -10,13 +9,13 @@ pub(crate) fn setting(levels: &[u8], values: [u32; MAX_NUMBERS]) {
 
 fn print(levels: &[u8], highest: u32, length: u32, load: u32) {
     match settings::setting(levels, highest, length, load as u64) {
-        SettingAnswer::Set { band, extra, gap } => {
+        Ok(set) => {
             show::words(b" set");
-            show::number(band as u64);
-            show::number(extra);
-            show::number(gap);
+            show::number(set.band as u64);
+            show::number(set.extra);
+            show::number(set.gap);
         }
-        SettingAnswer::Refused { number, place } => show::refusal(number, place),
+        Err(own) => show::refusal(own),
     }
 }
 

@@ -32,7 +32,7 @@ mod touched;
 mod window;
 
 use case::case;
-use test_support::text::{STDIN, TEXT_ROOM, find};
+use test_support::text::{STDIN, TEXT_ROOM};
 
 fn main() {
     let mut text = [0; TEXT_ROOM];
@@ -41,10 +41,7 @@ fn main() {
 }
 
 fn cases(text: &[u8]) {
-    let mut start = 0;
-    while start < text.len() {
-        let end = find(text, start, b'\n');
-        case(&text[start..end]);
-        start = end + 1;
+    for line in text.split_inclusive(|&byte| byte == b'\n') {
+        case(line.strip_suffix(b"\n").unwrap_or(line));
     }
 }

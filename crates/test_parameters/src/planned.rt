@@ -5,7 +5,8 @@ use crate::by_hand::site_and_altered;
 use crate::touched::{LIST_ROOM, Question};
 use crate::{ask, touched};
 use model::Parameters;
-use planning::PlanAnswer;
+use planning::WrittenPlan;
+use spare::NoAnswer;
 use test_support::buffers::{UNWRITTEN, UNWRITTEN_NUMBER, kept, numbers_kept, within_numbers};
 use test_support::text::MAX_NUMBERS;
 use test_support::{show, written};
@@ -95,32 +96,32 @@ fn print_answer(
     plan: &[u8],
     prices: &[u8],
     shares: &[u32],
-    answer: PlanAnswer,
+    answer: Result<WrittenPlan, NoAnswer>,
 ) {
     match answer {
-        PlanAnswer::Plan {
-            intervals,
-            steps,
-            energy,
-        } => {
+        Ok(made) => {
             show::words(b" planned");
-            show::number(intervals as u64);
-            show::number(energy);
-            print_written(
-                levels, jobs, marks, request, plan, prices, shares, intervals, steps,
-            );
+            show::number(made.intervals as u64);
+            show::number(made.energy);
+            print_written(levels, jobs, marks, request, plan, prices, shares, made);
         }
-        PlanAnswer::Overfull { start, end, spare } => {
+        Err(why) => {
+            print_no_answer(why);
+            print_rest(plan, prices, shares, 0, 0, 0);
+        }
+    }
+}
+
+// Why there is no plan.
+fn print_no_answer(why: NoAnswer) {
+    match why {
+        NoAnswer::Overfull { start, end, spare } => {
             show::words(b" overfull");
             show::number(start as u64);
             show::number(end as u64);
             show::signed(spare);
-            print_rest(plan, prices, shares, 0, 0, 0);
         }
-        PlanAnswer::Refused { number, place } => {
-            show::refusal(number, place);
-            print_rest(plan, prices, shares, 0, 0, 0);
-        }
+        NoAnswer::Refused(own) => show::refusal(own),
     }
 }
 
@@ -133,13 +134,13 @@ fn print_written(
     plan: &[u8],
     prices: &[u8],
     shares: &[u32],
-    intervals: u32,
-    steps: u32,
+    made: WrittenPlan,
 ) {
-    let plan_length = io::count((4 + 6 * steps as usize) as isize, plan);
-    let price_length = io::count((2 + 5 * intervals as usize) as isize, prices);
+    let intervals = made.intervals as usize;
+    let plan_length = io::count((4 + 6 * made.steps as usize) as isize, plan);
+    let price_length = io::count((2 + 5 * intervals) as isize, prices);
     written::list(b" shares", shares, request.shares);
-    written::prices(&prices[..price_length], 2 + 4 * intervals as usize);
+    written::prices(&prices[..price_length], 2 + 4 * intervals);
     print_rest(
         plan,
         prices,

@@ -1,11 +1,12 @@
 // What touches a span, by a plan.
 ghost use Rattle.std.specs.Prelude.{◌≤◌, length};
 
+use model::Refusal;
 use test_support::buffers::{UNWRITTEN_NUMBER, numbers_kept, within_numbers};
 use test_support::encode::{ROOM, encode};
 use test_support::text::MAX_NUMBERS;
 use test_support::{show, written};
-use touching::{NearestDeadline, TouchingAnswer};
+use touching::ListLengths;
 
 // Room for the lists of the cases, and for numbers after them.
 pub(crate) const LIST_ROOM: usize = 16;
@@ -100,29 +101,24 @@ pub(crate) fn ask(
 
 // The lists and the nearest deadline, or the refusal; and whether the rest of each list is as it was.
 fn print_touched(
-    answer: TouchingAnswer,
+    answer: Result<ListLengths, Refusal>,
     open_list: &[u32],
     inside_list: &[u32],
     step_list: &[u32],
 ) {
     match answer {
-        TouchingAnswer::Touching {
-            open_jobs,
-            inside_jobs,
-            steps,
-            deadline,
-        } => {
-            written::list(b" open", open_list, open_jobs);
-            written::list(b" inside", inside_list, inside_jobs);
-            written::list(b" steps", step_list, steps);
-            print_deadline(deadline);
-            let open_kept = numbers_kept(open_list, open_jobs as usize);
-            let inside_kept = numbers_kept(inside_list, inside_jobs as usize);
-            let steps_kept = numbers_kept(step_list, steps as usize);
+        Ok(listed) => {
+            written::list(b" open", open_list, listed.open_jobs);
+            written::list(b" inside", inside_list, listed.inside_jobs);
+            written::list(b" steps", step_list, listed.steps);
+            print_deadline(listed.deadline);
+            let open_kept = numbers_kept(open_list, listed.open_jobs as usize);
+            let inside_kept = numbers_kept(inside_list, listed.inside_jobs as usize);
+            let steps_kept = numbers_kept(step_list, listed.steps as usize);
             show::rest(open_kept & inside_kept & steps_kept);
         }
-        TouchingAnswer::Refused { number, place } => {
-            show::refusal(number, place);
+        Err(own) => {
+            show::refusal(own);
             let open_kept = numbers_kept(open_list, 0);
             let inside_kept = numbers_kept(inside_list, 0);
             let steps_kept = numbers_kept(step_list, 0);
@@ -131,10 +127,10 @@ fn print_touched(
     }
 }
 
-fn print_deadline(nearest: NearestDeadline) {
+fn print_deadline(nearest: Option<u32>) {
     show::words(b" deadline");
     match nearest {
-        NearestDeadline::At(deadline) => show::number(deadline as u64),
-        NearestDeadline::None => show::words(b" none"),
+        Some(deadline) => show::number(deadline as u64),
+        None => show::words(b" none"),
     }
 }

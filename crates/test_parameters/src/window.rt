@@ -1,6 +1,5 @@
 // The spare of a window.
 use model::Parameters;
-use spare::SpareAnswer;
 use test_support::show;
 use test_support::text::MAX_NUMBERS;
 
@@ -12,10 +11,10 @@ pub(crate) fn spare(levels: &[u8], jobs: &[u8], values: [u32; MAX_NUMBERS]) {
         margin: values[2],
     };
     match spare::spare(levels, jobs, parameters, values[3], values[4]) {
-        SpareAnswer::Spare(spare) => {
+        Ok(spare) => {
             show::words(b" spare");
             show::signed(spare);
         }
-        SpareAnswer::Refused { number, place } => show::refusal(number, place),
+        Err(own) => show::refusal(own),
     }
 }

@@ -4,7 +4,8 @@ ghost use Rattle.std.specs.Prelude.{◌≤◌, length};
 use crate::buffers::{Lengths, PRICE_ROOM, SHARE_ROOM, within_bytes};
 use crate::{print, written};
 use parameters::as_given;
-use planning::PlanAnswer;
+use planning::WrittenPlan;
+use spare::NoAnswer;
 use test_support::buffers::{PLAN_ROOM, UNWRITTEN, UNWRITTEN_NUMBER, within_numbers};
 use test_support::encode::{ROOM, encode_site};
 use test_support::show;
@@ -95,25 +96,15 @@ fn print_answer(
     prices: &[u8],
     shares: &[u32],
     word: u8,
-    answer: PlanAnswer,
+    answer: Result<WrittenPlan, NoAnswer>,
 ) {
     match answer {
-        PlanAnswer::Plan {
-            intervals,
-            steps,
-            energy,
-        } => {
-            print::plan(intervals, energy);
-            written::print(
-                levels, jobs, marks, plan, prices, shares, intervals, steps, word,
-            );
+        Ok(made) => {
+            print::plan(made);
+            written::print(levels, jobs, marks, plan, prices, shares, made, word);
         }
-        PlanAnswer::Overfull { start, end, spare } => {
-            print::overfull(start, end, spare);
-            print::rest(plan, prices, shares, nothing());
-        }
-        PlanAnswer::Refused { number, place } => {
-            show::refusal(number, place);
+        Err(why) => {
+            print::no_answer(why);
             print::rest(plan, prices, shares, nothing());
         }
     }

@@ -1,27 +1,35 @@
 // Printing what planning and the check answer.
 use crate::buffers::Lengths;
-use audit::CheckAnswer;
+use model::Refusal;
+use planning::WrittenPlan;
+use spare::NoAnswer;
 use test_support::buffers::{kept, numbers_kept};
 use test_support::show;
 
-pub(crate) fn plan(intervals: u32, energy: u64) {
+pub(crate) fn plan(made: WrittenPlan) {
     show::words(b" plan");
-    show::number(intervals as u64);
-    show::number(energy);
+    show::number(made.intervals as u64);
+    show::number(made.energy);
 }
 
-pub(crate) fn overfull(start: u32, end: u32, spare: i64) {
-    show::words(b" overfull");
-    show::number(start as u64);
-    show::number(end as u64);
-    show::signed(spare);
+// Why there is no plan.
+pub(crate) fn no_answer(why: NoAnswer) {
+    match why {
+        NoAnswer::Overfull { start, end, spare } => {
+            show::words(b" overfull");
+            show::number(start as u64);
+            show::number(end as u64);
+            show::signed(spare);
+        }
+        NoAnswer::Refused(own) => show::refusal(own),
+    }
 }
 
-pub(crate) fn checked(answer: CheckAnswer) {
+pub(crate) fn checked(answer: Result<u64, Refusal>) {
     show::words(b" check");
     match answer {
-        CheckAnswer::Accepted { energy } => show::accepted(energy),
-        CheckAnswer::Refused { number, place } => show::refusal(number, place),
+        Ok(energy) => show::accepted(energy),
+        Err(own) => show::refusal(own),
     }
 }
 
@@ -45,12 +53,10 @@ pub(crate) fn shares(agree: bool) {
 pub(crate) fn steps(shares: &[u32], jobs: usize, count: u32) {
     show::words(b" steps");
     show::number(count as u64);
-    let mut place = 0;
-    while place < shares.len() {
-        if shares[place] > 0 {
-            step(place, jobs, shares[place]);
+    for (place, &cycles) in shares.iter().enumerate() {
+        if cycles > 0 {
+            step(place, jobs, cycles);
         }
-        place += 1;
     }
 }
 

@@ -1,10 +1,11 @@
 // What planning has written: the check of it, the rest of the buffers, and the shares beside the plan's steps.
 use crate::buffers::{Lengths, within_bytes};
 use crate::print;
-use model::{MAX_INTERVALS, MAX_JOBS};
+use model::{MAX_INTERVALS, MAX_JOBS, Refusal};
 use parameters::as_given;
+use planning::WrittenPlan;
 use test_support::buffers::within_numbers;
-use walking::{Step, StepAnswer, step_at};
+use walking::{Step, step_at};
 
 pub(crate) fn print(
     levels: &[u8],
@@ -13,15 +14,16 @@ pub(crate) fn print(
     plan: &[u8],
     prices: &[u8],
     shares: &[u32],
-    intervals: u32,
-    steps: u32,
+    made: WrittenPlan,
     word: u8,
 ) {
+    let intervals = made.intervals as usize;
+    let steps = made.steps as usize;
     // a job table has 2 + 12n bytes
     let count = jobs.len() / 12;
-    let size = product(count, intervals as usize);
-    let plan_length = within_bytes(4 + 6 * steps as usize, plan);
-    let price_length = within_bytes(2 + 5 * intervals as usize, prices);
+    let size = product(count, intervals);
+    let plan_length = within_bytes(4 + 6 * steps, plan);
+    let price_length = within_bytes(2 + 5 * intervals, prices);
     let share_length = within_numbers(size, shares);
     let written = Lengths {
         plan: plan_length,
@@ -36,17 +38,12 @@ pub(crate) fn print(
         &prices[..price_length],
     );
     print::rest(plan, prices, shares, written);
-    print::shares(agree(
-        &plan[..plan_length],
-        &shares[..share_length],
-        count,
-        steps as usize,
-    ));
+    print::shares(agree(&plan[..plan_length], &shares[..share_length], count, steps));
     if word == b's' {
-        print::steps(&shares[..share_length], count, steps);
+        print::steps(&shares[..share_length], count, made.steps);
     }
     if word != b'f' {
-        test_support::written::prices(&prices[..price_length], 2 + 4 * intervals as usize);
+        test_support::written::prices(&prices[..price_length], 2 + 4 * intervals);
     }
 }
 
@@ -60,18 +57,11 @@ fn agree(plan: &[u8], shares: &[u32], jobs: usize, steps: usize) -> bool {
     if count_shares(shares) != steps {
         return false;
     }
-    let mut position = 0;
-    while position < steps {
-        if !agrees(step_at(plan, position), shares, jobs) {
-            return false;
-        }
-        position += 1;
-    }
-    true
+    (0..steps).all(|position| agrees(step_at(plan, position), shares, jobs))
 }
 
-fn agrees(answer: StepAnswer, shares: &[u32], jobs: usize) -> bool {
-    if let StepAnswer::Step(step) = answer {
+fn agrees(answer: Result<Option<Step>, Refusal>, shares: &[u32], jobs: usize) -> bool {
+    if let Ok(Some(step)) = answer {
         has_share(step, shares, jobs)
     } else {
         false
@@ -95,15 +85,7 @@ fn wide(share: u32) -> u64 {
 }
 
 fn count_shares(shares: &[u32]) -> usize {
-    let mut count = 0;
-    let mut i = 0;
-    while i < shares.len() {
-        if shares[i] > 0 {
-            count += 1;
-        }
-        i += 1;
-    }
-    count
+    shares.iter().filter(|share| **share > 0).count()
 }
 
 // The product of two numbers that a site can have, 0 for larger ones.

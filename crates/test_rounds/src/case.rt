@@ -1,6 +1,5 @@
 // A case: the task table of its line in bytes, and what laying out its rounds answers and writes.
 use crate::print;
-use rounds::RoundsAnswer;
 use test_support::buffers::{UNWRITTEN, kept};
 use test_support::encode::{ROOM, encode};
 use test_support::show;
@@ -22,14 +21,14 @@ fn case_in(task_bytes: &mut [u8], job_bytes: &mut [u8], line: &[u8]) {
     let job_length = io::count(number(line, room) as isize, job_bytes);
     let answer = rounds::rounds(&task_bytes[..task_length], &mut job_bytes[..job_length]);
     match answer {
-        RoundsAnswer::LaidOut { length, multiple } => {
-            print::laid_out(length, multiple);
-            let written = io::count(length as isize, job_bytes);
+        Ok(round) => {
+            print::laid_out(round);
+            let written = io::count(round.length as isize, job_bytes);
             show::rest(kept(job_bytes, written));
             print::jobs(&job_bytes[..written]);
         }
-        RoundsAnswer::Refused { number, place } => {
-            show::refusal(number, place);
+        Err(own) => {
+            show::refusal(own);
             show::rest(kept(job_bytes, 0));
         }
     }

@@ -1,41 +1,28 @@
 // Printing what laying out rounds answers and writes.
+use job_tables::JobTable;
 use model::MAX_JOBS;
-use reading::Reading;
+use rounds::LaidOut;
 use test_support::show;
 
-pub(crate) fn laid_out(length: u32, multiple: u32) {
+pub(crate) fn laid_out(round: LaidOut) {
     show::words(b" laid out");
-    show::number(length as u64);
-    show::number(multiple as u64);
+    show::number(round.length as u64);
+    show::number(round.multiple as u64);
 }
 
 // The jobs of a job table, or why it is none.
 pub(crate) fn jobs(bytes: &[u8]) {
     show::words(b" jobs");
-    let table = job_tables::read_jobs(bytes);
-    let reading = table.reading;
-    let releases = table.releases;
-    let deadlines = table.deadlines;
-    let cycles = table.cycles;
-    match reading {
-        Reading::Entries(count) => entries(count, &releases, &deadlines, &cycles),
-        Reading::Refused { number, place } => show::refusal(number, place),
+    match job_tables::read_jobs(bytes) {
+        Ok(table) => entries(&table),
+        Err(own) => show::refusal(own),
     }
 }
 
-fn entries(
-    count: usize,
-    releases: &[u64; MAX_JOBS],
-    deadlines: &[u64; MAX_JOBS],
-    cycles: &[u64; MAX_JOBS],
-) {
-    show::number(count as u64);
-    let mut j = 0;
-    while j < MAX_JOBS {
-        if j < count {
-            job(releases[j], deadlines[j], cycles[j]);
-        }
-        j += 1;
+fn entries(table: &JobTable) {
+    show::number(table.count as u64);
+    for j in 0..table.count.min(MAX_JOBS) {
+        job(table.releases[j], table.deadlines[j], table.cycles[j]);
     }
 }
 

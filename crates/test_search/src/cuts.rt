@@ -35,15 +35,13 @@ pub(crate) fn first_cuts(jobs: JobColumns, intervals: Intervals) -> Cuts {
     let mut firsts = [0u8; MOST_JOBS];
     let mut others = [0u8; MOST_JOBS];
     let used = jobs.count as usize;
-    let mut j = 0;
-    while j < MOST_JOBS {
+    for j in 0..MOST_JOBS {
         let release = jobs.windows[2 * j];
         let deadline = jobs.windows[2 * j + 1];
         let first = interval_from(intervals, release);
         shares[j] = in_interval(cycles_of(jobs.cycles[j], j, used), first);
         firsts[j] = first;
         others[j] = intervals_inside(intervals, release, deadline);
-        j += 1;
     }
     Cuts {
         shares,
@@ -59,14 +57,12 @@ fn cycles_of(cycles: u32, job: usize, count: usize) -> u64 {
 
 // The interval that starts at a time.
 fn interval_from(intervals: Intervals, time: u32) -> u8 {
-    let mut i = 0;
-    while i < COLUMN {
+    for i in 0..COLUMN {
         if intervals.lengths[i] > 0 {
             if intervals.starts[i] as u32 == time {
                 return i as u8;
             }
         }
-        i += 1;
     }
     0
 }
@@ -74,8 +70,7 @@ fn interval_from(intervals: Intervals, time: u32) -> u8 {
 // The set of the intervals that start after a release and before a deadline.
 fn intervals_inside(intervals: Intervals, release: u32, deadline: u32) -> u8 {
     let mut set = 0u8;
-    let mut i = 0;
-    while i < COLUMN {
+    for i in 0..COLUMN {
         if is_inside(
             intervals.lengths[i],
             intervals.starts[i] as u32,
@@ -84,7 +79,6 @@ fn intervals_inside(intervals: Intervals, release: u32, deadline: u32) -> u8 {
         ) {
             set |= 1u8 << i;
         }
-        i += 1;
     }
     set
 }
@@ -103,8 +97,7 @@ fn is_inside(length: u8, start: u32, release: u32, deadline: u32) -> bool {
 // cuts.
 pub(crate) fn next_cuts(cuts: Cuts) -> NextCuts {
     let mut next = cuts;
-    let mut j = 0;
-    while j < MOST_JOBS {
+    for j in 0..MOST_JOBS {
         let step = next_cut(next.shares[j], next.firsts[j], next.others[j]);
         next.shares[j] = step.shares;
         if step.found {
@@ -113,7 +106,6 @@ pub(crate) fn next_cuts(cuts: Cuts) -> NextCuts {
                 cuts: next,
             };
         }
-        j += 1;
     }
     NextCuts {
         found: false,
@@ -125,8 +117,7 @@ pub(crate) fn next_cuts(cuts: Cuts) -> NextCuts {
 // other one gives all its cycles back, and the one after it is tried.
 fn next_cut(shares: u64, first: u8, others: u8) -> NextCut {
     let mut next = shares;
-    let mut i = 0u8;
-    while i < 8 {
+    for i in 0u8..8 {
         if (others >> i) % 2 == 1 {
             if cycles_in(next, first) > 0 {
                 return NextCut {
@@ -136,7 +127,6 @@ fn next_cut(shares: u64, first: u8, others: u8) -> NextCut {
             }
             next = moved(next, cycles_in(next, i), i, first);
         }
-        i += 1;
     }
     NextCut {
         found: false,

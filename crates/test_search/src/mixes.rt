@@ -31,13 +31,11 @@ pub fn least_mix(levels: LevelColumns, length: u8, load: u32) -> Fraction
     let voltages = levels.voltages;
     let count = at_most(levels.count, 8) as usize;
     let mut least = none();
-    let mut low = 0;
-    while low <= count {
+    for low in 0..=count {
         least = smaller(
             least,
             least_from(&frequencies, &voltages, count, low, length, load),
         );
-        low += 1;
     }
     least
 }
@@ -56,11 +54,9 @@ fn least_from(
 {
     let below = point_at(frequencies, voltages, low);
     let mut least = none();
-    let mut high = 0;
-    while high <= count {
+    for high in 0..=count {
         let above = point_at(frequencies, voltages, high);
         least = smaller(least, mix(below, above, length, load));
-        high += 1;
     }
     least
 }

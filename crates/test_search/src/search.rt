@@ -1,5 +1,4 @@
 // The least energy of a small site, by trying every cut of the jobs' cycles.
-ghost use Rattle.std.specs.Prelude.{◌≤◌};
 ghost use Rattle.test_search.specs.Sizes.{SmallEnergy};
 
 use crate::cuts::{Cuts, cycles_in, first_cuts, next_cuts};
@@ -26,11 +25,9 @@ pub const ENERGIES: usize = 2_048;
 
 pub fn energies_of(levels: LevelColumns, intervals: Intervals) -> [u32; ENERGIES] {
     let mut energies = [0u32; ENERGIES];
-    let mut n = 0;
-    while n < ENERGIES {
+    for n in 0..ENERGIES {
         let i = n / 256;
         energies[n] = scaled(least_mix(levels, intervals.lengths[i], (n % 256) as u32));
-        n += 1;
     }
     energies
 }
@@ -57,41 +54,29 @@ fn scaled(energy: Fraction) -> u32
 // The energy of the loads of all intervals, or OVERLOADED.
 pub fn energy_of(energies: &[u32; ENERGIES], loads: u64) -> u64 {
     let mut sum = 0u64;
-    let mut i = 0u8;
-    while i < 8 {
+    for i in 0u8..8 {
         let place = i as usize * 256 + cycles_in(loads, i) as usize;
-        let energy = wide(energies[place]);
+        let energy = u64::from(energies[place]);
         if energy == OVERLOADED {
             return OVERLOADED;
         }
         sum += energy;
-        i += 1;
     }
     sum
-}
-
-fn wide(energy: u32) -> u64
-    ensures { result ≤ 4294967295 }
-{
-    energy as u64
 }
 
 // The least energy of all cuts, or OVERLOADED where each of them loads an interval past what the top level serves.
 pub fn least_energy(jobs: JobColumns, intervals: Intervals, energies: &[u32; ENERGIES]) -> u64 {
     let mut least = OVERLOADED;
     let mut cuts = first_cuts(jobs, intervals);
-    let mut n = 0;
-    while n < MOST_CUTS {
+    for _ in 0..MOST_CUTS {
         let energy = energy_of(energies, loads_of(cuts));
-        if energy < least {
-            least = energy;
-        }
+        least = least.min(energy);
         let next = next_cuts(cuts);
         if !next.found {
             return least;
         }
         cuts = next.cuts;
-        n += 1;
     }
     UNFINISHED
 }

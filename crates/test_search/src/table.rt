@@ -113,10 +113,8 @@ fn put_column(
 {
     let used = at_most(count, 8) as usize;
     let mut at = place;
-    let mut i = 0;
-    while i < used {
-        at = put(bytes, at, width, column[i]);
-        i += 1;
+    for &number in &column[..used] {
+        at = put(bytes, at, width, number);
     }
     at
 }

@@ -1,6 +1,5 @@
 // A line for each case: what was asked, and what was answered.
 use parameters::as_given;
-use settings::SettingAnswer;
 
 // The descriptor of the standard output.
 const STDOUT: i32 = 1;
@@ -12,19 +11,16 @@ pub(crate) fn setting(name: &[u8], table: &[u8], length: u32, load: u64) {
     number(load);
     let given = as_given(table);
     match settings::setting(table, given.highest, length, load) {
-        SettingAnswer::Set { band, extra, gap } => {
+        Ok(set) => {
             io::write_all(STDOUT, b" set");
-            number(band as u64);
-            number(extra);
-            number(gap);
+            number(set.band as u64);
+            number(set.extra);
+            number(set.gap);
         }
-        SettingAnswer::Refused {
-            number: refusal,
-            place,
-        } => {
+        Err(own) => {
             io::write_all(STDOUT, b" refused");
-            number(refusal as u64);
-            number(place as u64);
+            number(own.fault.number() as u64);
+            number(own.place as u64);
         }
     }
     end();
@@ -35,11 +31,8 @@ pub(crate) fn working(name: &[u8], table: &[u8]) {
     start(b"working ", name);
     let given = as_given(table);
     let points = levels::read_working_levels(table, given.highest);
-    let count = points.count;
-    let mut k = 1;
-    while k < count {
-        number(points.frequencies[k]);
-        k += 1;
+    for &frequency in points.frequencies.iter().take(points.count).skip(1) {
+        number(frequency);
     }
     end();
 }

@@ -3,7 +3,6 @@ ghost use Rattle.std.specs.Prelude.{◌≤◌, length};
 
 use crate::printed;
 use parameters::as_given;
-use planning::PlanAnswer;
 use test_support::buffers::{PLAN_ROOM, UNWRITTEN, UNWRITTEN_NUMBER};
 use test_support::encode::{ROOM, encode_site};
 use test_support::show;
@@ -67,19 +66,9 @@ fn site(
         prices,
         shares,
     ) {
-        PlanAnswer::Plan {
-            intervals,
-            steps,
-            energy,
-        } => {
-            printed::plan(plan, prices, intervals, steps, energy);
-        }
-        PlanAnswer::Overfull { start, end, spare } => {
-            printed::overfull(start, end, spare);
-            printed::nothing(plan, prices, shares);
-        }
-        PlanAnswer::Refused { number, place } => {
-            show::refusal(number, place);
+        Ok(made) => printed::plan(plan, prices, made),
+        Err(why) => {
+            printed::no_answer(why);
             printed::nothing(plan, prices, shares);
         }
     }

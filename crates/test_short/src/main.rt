@@ -10,7 +10,7 @@ mod case;
 mod printed;
 
 use case::case;
-use test_support::text::{STDIN, find};
+use test_support::text::STDIN;
 
 fn main() {
     let mut text = io::large_buffer();
@@ -19,10 +19,7 @@ fn main() {
 }
 
 fn cases(text: &[u8]) {
-    let mut start = 0;
-    while start < text.len() {
-        let end = find(text, start, b'\n');
-        case(&text[start..end]);
-        start = end + 1;
+    for line in text.split_inclusive(|&byte| byte == b'\n') {
+        case(line.strip_suffix(b"\n").unwrap_or(line));
     }
 }

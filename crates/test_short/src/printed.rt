@@ -1,28 +1,38 @@
 // Printing what planning answers and writes.
+use planning::WrittenPlan;
+use spare::NoAnswer;
 use test_support::buffers::{kept, numbers_kept};
 use test_support::show;
-use walking::{Step, StepAnswer, step_at};
+use walking::{Step, step_at};
 
 // What is written of the shares is no matter here.
-pub(crate) fn plan(plan: &[u8], prices: &[u8], intervals: u32, steps: u32, energy: u64) {
+pub(crate) fn plan(plan: &[u8], prices: &[u8], made: WrittenPlan) {
+    let intervals = made.intervals as usize;
+    let steps = made.steps as usize;
     show::words(b" plan");
     show::number(intervals as u64);
     show::number(steps as u64);
-    show::number(energy);
-    let plan_end = 4 + 6 * steps as usize;
-    let prices_end = 2 + 5 * intervals as usize;
+    show::number(made.energy);
+    let plan_end = 4 + 6 * steps;
+    let prices_end = 2 + 5 * intervals;
     let plan_length = io::count(plan_end as isize, plan);
     let price_length = io::count(prices_end as isize, prices);
-    all_steps(&plan[..plan_length], steps as usize);
-    test_support::written::prices(&prices[..price_length], 2 + 4 * intervals as usize);
+    all_steps(&plan[..plan_length], steps);
+    test_support::written::prices(&prices[..price_length], 2 + 4 * intervals);
     show::rest(kept(plan, plan_length) & kept(prices, price_length));
 }
 
-pub(crate) fn overfull(start: u32, end: u32, spare: i64) {
-    show::words(b" overfull");
-    show::number(start as u64);
-    show::number(end as u64);
-    show::signed(spare);
+// Why there is no plan.
+pub(crate) fn no_answer(why: NoAnswer) {
+    match why {
+        NoAnswer::Overfull { start, end, spare } => {
+            show::words(b" overfull");
+            show::number(start as u64);
+            show::number(end as u64);
+            show::signed(spare);
+        }
+        NoAnswer::Refused(own) => show::refusal(own),
+    }
 }
 
 // Where no plan comes out nothing is written.
@@ -32,12 +42,10 @@ pub(crate) fn nothing(plan: &[u8], prices: &[u8], shares: &[u32]) {
 }
 
 fn all_steps(plan: &[u8], count: usize) {
-    let mut position = 0;
-    while position < count {
-        if let StepAnswer::Step(step) = step_at(plan, position) {
+    for position in 0..count {
+        if let Ok(Some(step)) = step_at(plan, position) {
             one_step(step);
         }
-        position += 1;
     }
 }
 

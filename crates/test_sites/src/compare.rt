@@ -1,14 +1,14 @@
 // Planning and the check against the search.
-use audit::CheckAnswer;
+use model::Refusal;
 use parameters::as_given;
-use planning::PlanAnswer;
+use spare::NoAnswer;
 use std::num::wrapping_add_u64;
 use test_search::cuts::in_interval;
 use test_search::intervals::intervals_of;
 use test_search::search::{ENERGIES, OVERLOADED, SCALE, energies_of, energy_of, least_energy};
 use test_search::table::{JobColumns, LevelColumns, MarkColumn, put_jobs, put_levels, put_marks};
 use test_support::encode::ROOM;
-use walking::StepAnswer;
+use walking::Step;
 
 // Whether a plan came out, whether everything agrees with the search, and the plan's exact energy, multiplied out.
 #[derive(Clone, Copy)]
@@ -74,13 +74,9 @@ fn compare_plan(
     let given = as_given(levels);
     let answer = planning::plan(levels, jobs, marks, given, plan, prices, shares);
     match answer {
-        PlanAnswer::Plan {
-            intervals,
-            steps,
-            energy,
-        } => {
-            let plan_length = io::count((4 + 6 * steps as usize) as isize, plan);
-            let price_length = io::count((2 + 5 * intervals as usize) as isize, prices);
+        Ok(made) => {
+            let plan_length = io::count((4 + 6 * made.steps as usize) as isize, plan);
+            let price_length = io::count((2 + 5 * made.intervals as usize) as isize, prices);
             let written = &plan[..plan_length];
             let exact = energy_of(energies, loads_of(written));
             let accepted = accepts(
@@ -89,27 +85,26 @@ fn compare_plan(
                 marks,
                 written,
                 &prices[..price_length],
-                energy,
+                made.energy,
             );
             Outcome {
                 planned: true,
-                agrees: agrees(exact, least, energy, accepted),
+                agrees: agrees(exact, least, made.energy, accepted),
                 energy: exact,
             }
         }
-        PlanAnswer::Overfull {
-            start: _,
-            end: _,
-            spare: _,
-        } => Outcome {
+        Err(
+            NoAnswer::Overfull {
+                start: _,
+                end: _,
+                spare: _,
+            },
+        ) => Outcome {
             planned: false,
             agrees: least == OVERLOADED,
             energy: 0,
         },
-        PlanAnswer::Refused {
-            number: _,
-            place: _,
-        } => Outcome {
+        Err(NoAnswer::Refused(_)) => Outcome {
             planned: false,
             agrees: false,
             energy: 0,
@@ -145,29 +140,21 @@ fn accepts(
     figure: u64,
 ) -> bool {
     let given = as_given(levels);
-    match audit::check(levels, jobs, marks, given, plan, prices) {
-        CheckAnswer::Accepted { energy } => energy == figure,
-        CheckAnswer::Refused {
-            number: _,
-            place: _,
-        } => false,
-    }
+    audit::check(levels, jobs, marks, given, plan, prices) == Ok(figure)
 }
 
 // The loads of a written plan. Its steps are those of four jobs in eight intervals at most.
 fn loads_of(plan: &[u8]) -> u64 {
     let mut loads = 0;
-    let mut position = 0;
-    while position < 32 {
+    for position in 0..32 {
         loads = wrapping_add_u64(loads, step_load(walking::step_at(plan, position)));
-        position += 1;
     }
     loads
 }
 
-fn step_load(answer: StepAnswer) -> u64 {
+fn step_load(answer: Result<Option<Step>, Refusal>) -> u64 {
     match answer {
-        StepAnswer::Step(step) => in_interval(step.cycles, (step.interval % 8) as u8),
+        Ok(Some(step)) => in_interval(step.cycles, (step.interval % 8) as u8),
         _ => 0,
     }
 }

@@ -34,15 +34,13 @@ pub(crate) fn print(name: &[u8], form: Form, marking: Marking, state: &mut u32) 
 fn effects_of(form: Form, marking: Marking, state: &mut u32) -> Effects {
     let mut cut = 0;
     let mut same = 0;
-    let mut n = 0;
-    while n < SITES {
+    for _ in 0..SITES {
         let levels = levels_of(form, state);
         let jobs = jobs_of(form, levels, state);
         let marks = marks_of(marking, jobs, state);
         let effect = effect_of(levels, jobs, marks);
         cut += one_if(effect.cut);
         same += one_if(effect.same);
-        n += 1;
     }
     Effects { cut, same }
 }

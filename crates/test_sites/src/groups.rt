@@ -119,8 +119,7 @@ fn tally_of(form: Form, marking: Marking, state: &mut u32) -> Tally {
     let mut planned = 0;
     let mut agreeing = 0;
     let mut energy = 0;
-    let mut n = 0;
-    while n < SITES {
+    for _ in 0..SITES {
         let levels = levels_of(form, state);
         let jobs = jobs_of(form, levels, state);
         let marks = marks_of(marking, jobs, state);
@@ -128,7 +127,6 @@ fn tally_of(form: Form, marking: Marking, state: &mut u32) -> Tally {
         planned += one_if(outcome.planned);
         agreeing += one_if(outcome.agrees);
         energy = wrapping_add_u64(energy, outcome.energy);
-        n += 1;
     }
     Tally {
         planned,

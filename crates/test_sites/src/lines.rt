@@ -1,7 +1,8 @@
 // Sites whose answers document 01 gives, and sites where idling draws power.
 use model::Level;
 use parameters::as_given;
-use planning::PlanAnswer;
+use planning::WrittenPlan;
+use spare::NoAnswer;
 use test_search::mixes::{Fraction, least_mix};
 use test_search::table::{COLUMN, JobColumns, LevelColumns, put_jobs, put_levels, with_idle_entry};
 use test_support::encode::ROOM;
@@ -84,12 +85,9 @@ fn first_drawing(idle_draw: u32) -> LevelColumns {
 fn built_in_columns(levels: [Level; 5]) -> LevelColumns {
     let mut frequencies = [0u32; COLUMN];
     let mut voltages = [0u32; COLUMN];
-    let mut i = 0;
-    while i < 5 {
-        let level = levels[i];
+    for (i, level) in levels.iter().enumerate() {
         frequencies[i] = (level.frequency % 65_536) as u32;
         voltages[i] = (level.voltage % 65_536) as u32;
-        i += 1;
     }
     LevelColumns {
         count: 5,
@@ -184,23 +182,19 @@ fn plan_in(level_bytes: &mut [u8], job_bytes: &mut [u8], levels: LevelColumns, j
     ));
 }
 
-fn print(answer: PlanAnswer) {
+fn print(answer: Result<WrittenPlan, NoAnswer>) {
     match answer {
-        PlanAnswer::Plan {
-            intervals: _,
-            steps: _,
-            energy,
-        } => {
+        Ok(made) => {
             show::words(b" figure");
-            show::number(energy);
+            show::number(made.energy);
         }
-        PlanAnswer::Overfull { start, end, spare } => {
+        Err(NoAnswer::Overfull { start, end, spare }) => {
             show::words(b" overfull");
             show::number(start as u64);
             show::number(end as u64);
             show::signed(spare);
         }
-        PlanAnswer::Refused { number, place } => show::refusal(number, place),
+        Err(NoAnswer::Refused(own)) => show::refusal(own),
     }
 }
 

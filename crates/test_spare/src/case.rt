@@ -1,6 +1,6 @@
 // A case: the tables of its line in bytes, and what the spare of its window is with them.
+use model::Refusal;
 use parameters::as_given;
-use spare::SpareAnswer;
 use test_support::encode::{ROOM, encode};
 use test_support::show;
 use test_support::text::{next, number};
@@ -27,14 +27,14 @@ fn case_in(level_bytes: &mut [u8], job_bytes: &mut [u8], line: &[u8]) {
     print(line, answer);
 }
 
-fn print(line: &[u8], answer: SpareAnswer) {
+fn print(line: &[u8], answer: Result<i64, Refusal>) {
     show::words_to(line, 0);
     match answer {
-        SpareAnswer::Spare(spare) => {
+        Ok(spare) => {
             show::words(b" spare");
             show::signed(spare);
         }
-        SpareAnswer::Refused { number, place } => show::refusal(number, place),
+        Err(own) => show::refusal(own),
     }
     show::end();
 }

@@ -7,19 +7,10 @@
 mod case;
 
 use case::case;
-use test_support::text::{STDIN, find};
+use test_support::text::{STDIN, each_line};
 
 fn main() {
     let mut text = io::large_buffer();
     let length = io::read_full(STDIN, &mut text);
-    cases(&text[..length]);
-}
-
-fn cases(text: &[u8]) {
-    let mut start = 0;
-    while start < text.len() {
-        let end = find(text, start, b'\n');
-        case(&text[start..end]);
-        start = end + 1;
-    }
+    each_line(&text[..length], case);
 }

@@ -11,26 +11,15 @@ pub const UNWRITTEN_NUMBER: u32 = 2_779_096_485;
 
 // Whether no byte from a place on was written.
 pub fn kept(bytes: &[u8], start: usize) -> bool {
-    let mut i = start;
-    while i < bytes.len() {
-        if bytes[i] != UNWRITTEN {
-            return false;
-        }
-        i += 1;
-    }
-    true
+    bytes.iter().skip(start).all(|&byte| byte == UNWRITTEN)
 }
 
 // Whether no number from a place on was written.
 pub fn numbers_kept(numbers: &[u32], start: usize) -> bool {
-    let mut i = start;
-    while i < numbers.len() {
-        if numbers[i] != UNWRITTEN_NUMBER {
-            return false;
-        }
-        i += 1;
-    }
-    true
+    numbers
+        .iter()
+        .skip(start)
+        .all(|&number| number == UNWRITTEN_NUMBER)
 }
 
 // A length, or that of the buffer where it is longer.

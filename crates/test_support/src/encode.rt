@@ -144,14 +144,12 @@ pub fn put(bytes: &mut [u8], place: usize, width: usize, number: u32) -> usize
 {
     let mut at = place;
     let mut rest = number;
-    let mut left = width;
-    while left > 0 {
+    for _ in 0..width {
         if at < bytes.len() {
             bytes[at] = (rest % 256) as u8;
             at += 1;
         }
         rest /= 256;
-        left -= 1;
     }
     at
 }

@@ -3,6 +3,7 @@ ghost use Rattle.std.specs.Prelude.{◌≤◌, length};
 
 use crate::text::find;
 use integers::magnitude;
+use model::Refusal;
 
 // The descriptor of the standard output.
 pub const STDOUT: i32 = 1;
@@ -33,16 +34,24 @@ pub fn signed(value: i64) {
     io::print_decimal(STDOUT, magnitude(value));
 }
 
-pub fn refusal(refused: u32, place: u32) {
+pub fn refusal(own: Refusal) {
     words(b" refused");
-    number(refused as u64);
-    number(place as u64);
+    number(own.fault.number() as u64);
+    number(own.place as u64);
 }
 
 // The energy figure of a plan that the check accepts.
 pub fn accepted(energy: u64) {
     words(b" accepted");
     number(energy);
+}
+
+// What the check answers: the energy figure, or the refusal.
+pub fn checked(answer: Result<u64, Refusal>) {
+    match answer {
+        Ok(energy) => accepted(energy),
+        Err(own) => refusal(own),
+    }
 }
 
 // Whether the lent buffers, past what was written, are as they were.

@@ -8,19 +8,24 @@ pub const STDIN: i32 = 0;
 // Room for the text of a program whose cases are longer than the kit's large buffer.
 pub const TEXT_ROOM: usize = 131_072;
 
+// Takes each line of a text, without the byte that ends it.
+pub fn each_line<F: Fn(&[u8])>(text: &[u8], case: F)
+    requires { F.IsAlwaysCallable case }
+{
+    for line in text.split_inclusive(|&byte| byte == b'\n') {
+        case(line.strip_suffix(b"\n").unwrap_or(line));
+    }
+}
+
 // The first place from a start on that has the byte, or the end of the text.
 pub fn find(text: &[u8], start: usize, byte: u8) -> usize
     requires { start ≤ length text.now }
     ensures { (start ≤ result) × IsPrefixLen result text.now }
 {
-    let mut i = start;
-    while i < text.len() {
-        if text[i] == byte {
-            return i;
-        }
-        i += 1;
+    match text[start..].iter().position(|&b| b == byte) {
+        Some(i) => start + i,
+        None => text.len(),
     }
-    i
 }
 
 // The place after the word or number at a place and after the space behind it.
@@ -35,14 +40,12 @@ pub fn next(line: &[u8], place: usize) -> usize
 // The number at a place, which is below 2 to the power 32.
 pub fn number(line: &[u8], place: usize) -> u32 {
     let mut value = 0u64;
-    let mut i = place;
-    while i < line.len() {
+    for i in place..line.len() {
         let digit = digit(line[i]);
         if digit > 9 {
             return value as u32;
         }
         value = (value * 10 + digit) % 4_294_967_296;
-        i += 1;
     }
     value as u32
 }

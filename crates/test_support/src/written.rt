@@ -5,10 +5,8 @@ use crate::show::{number, words};
 // The numbers of a plan, as those of a plan in a case's line.
 pub fn plan(bytes: &[u8]) {
     words(b" plan");
-    let mut i = 0;
-    while i < bytes.len() / 2 {
-        half(bytes[2 * i], bytes[2 * i + 1]);
-        i += 1;
+    for bits in bytes.chunks_exact(2) {
+        half(bits[0], bits[1]);
     }
 }
 
@@ -19,10 +17,8 @@ fn half(low: u8, high: u8) {
 // The prices stand at the end of a price list.
 pub fn prices(list: &[u8], start: usize) {
     words(b" prices");
-    let mut i = start;
-    while i < list.len() {
-        price(list[i]);
-        i += 1;
+    for &band in list.iter().skip(start) {
+        price(band);
     }
 }
 
@@ -39,10 +35,8 @@ pub fn list(word: &[u8], numbers: &[u32], length: u32) {
 }
 
 fn members(numbers: &[u32]) {
-    let mut i = 0;
-    while i < numbers.len() {
-        member(numbers[i]);
-        i += 1;
+    for &value in numbers {
+        member(value);
     }
 }
 
@@ -58,11 +52,7 @@ pub fn working(frequencies: &[u64], count: usize) {
         return;
     }
     words(b" working");
-    let mut k = 1;
-    while k < frequencies.len() {
-        if k < count {
-            number(frequencies[k]);
-        }
-        k += 1;
+    for &frequency in frequencies.iter().take(count).skip(1) {
+        number(frequency);
     }
 }

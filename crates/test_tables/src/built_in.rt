@@ -14,12 +14,9 @@ pub(crate) fn second() {
 fn print(words: &[u8], levels: [Level; 5]) {
     show::words(words);
     entries(5);
-    let mut i = 0;
-    while i < 5 {
-        let level = levels[i];
+    for level in &levels {
         show::number(level.frequency);
         show::number(level.voltage);
-        i += 1;
     }
     show::end();
 }

@@ -1,38 +1,28 @@
 // Reads bytes as a table, and prints what the reading answers.
-use model::{MAX_JOBS, MAX_LEVELS, MAX_MARKS};
-use reading::Reading;
+use job_tables::JobTable;
+use level_tables::LevelTable;
+use mark_tables::MarkTable;
+use model::MAX_JOBS;
 use test_support::show;
 
 pub(crate) fn levels(bytes: &[u8]) {
-    let table = level_tables::read_levels(bytes);
-    let reading = table.reading;
-    let frequencies = table.frequencies;
-    let voltages = table.voltages;
-    match reading {
-        Reading::Entries(count) => level_entries(count, &frequencies, &voltages),
-        Reading::Refused { number, place } => show::refusal(number, place),
+    match level_tables::read_levels(bytes) {
+        Ok(table) => level_entries(&table),
+        Err(own) => show::refusal(own),
     }
 }
 
 pub(crate) fn jobs(bytes: &[u8]) {
-    let table = job_tables::read_jobs(bytes);
-    let reading = table.reading;
-    let releases = table.releases;
-    let deadlines = table.deadlines;
-    let cycles = table.cycles;
-    match reading {
-        Reading::Entries(count) => job_entries(count, &releases, &deadlines, &cycles),
-        Reading::Refused { number, place } => show::refusal(number, place),
+    match job_tables::read_jobs(bytes) {
+        Ok(table) => job_entries(&table),
+        Err(own) => show::refusal(own),
     }
 }
 
 pub(crate) fn marks(bytes: &[u8]) {
-    let table = mark_tables::read_marks(bytes);
-    let reading = table.reading;
-    let marks = table.marks;
-    match reading {
-        Reading::Entries(count) => mark_entries(count, &marks),
-        Reading::Refused { number, place } => show::refusal(number, place),
+    match mark_tables::read_marks(bytes) {
+        Ok(table) => mark_entries(&table),
+        Err(own) => show::refusal(own),
     }
 }
 
@@ -41,43 +31,31 @@ pub(crate) fn entries(count: u64) {
     show::number(count);
 }
 
-fn level_entries(count: usize, frequencies: &[u64; MAX_LEVELS], voltages: &[u64; MAX_LEVELS]) {
-    entries(count as u64);
-    let mut i = 0;
-    while i < MAX_LEVELS {
-        if i < count {
-            show::number(frequencies[i]);
-            show::number(voltages[i]);
-        }
-        i += 1;
+fn level_entries(table: &LevelTable) {
+    entries(table.count as u64);
+    for (&frequency, &voltage) in table
+        .frequencies
+        .iter()
+        .zip(&table.voltages)
+        .take(table.count)
+    {
+        show::number(frequency);
+        show::number(voltage);
     }
 }
 
-fn mark_entries(count: usize, marks: &[u64; MAX_MARKS]) {
-    entries(count as u64);
-    let mut i = 0;
-    while i < MAX_MARKS {
-        if i < count {
-            show::number(marks[i]);
-        }
-        i += 1;
+fn mark_entries(table: &MarkTable) {
+    entries(table.count as u64);
+    for &mark in table.marks.iter().take(table.count) {
+        show::number(mark);
     }
 }
 
-fn job_entries(
-    count: usize,
-    releases: &[u64; MAX_JOBS],
-    deadlines: &[u64; MAX_JOBS],
-    cycles: &[u64; MAX_JOBS],
-) {
-    entries(count as u64);
-    let mut j = 0;
-    while j < MAX_JOBS {
-        if j < count {
-            show::number(releases[j]);
-            show::number(deadlines[j]);
-            show::number(cycles[j]);
-        }
-        j += 1;
+fn job_entries(table: &JobTable) {
+    entries(table.count as u64);
+    for j in 0..table.count.min(MAX_JOBS) {
+        show::number(table.releases[j]);
+        show::number(table.deadlines[j]);
+        show::number(table.cycles[j]);
     }
 }

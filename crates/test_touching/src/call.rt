@@ -6,7 +6,7 @@ use crate::print::Lengths;
 use test_support::buffers::{UNWRITTEN_NUMBER, within_numbers};
 use test_support::text::{next, number};
 use test_support::{show, written};
-use touching::{TouchingAnswer, touching};
+use touching::touching;
 
 // Room for the longest lists, and for numbers after them.
 const JOB_ROOM: usize = 80;
@@ -77,29 +77,24 @@ fn call_with(
         &mut step_list[..step_room],
     );
     match answer {
-        TouchingAnswer::Touching {
-            open_jobs,
-            inside_jobs,
-            steps,
-            deadline,
-        } => {
-            written::list(b" open", open_list, open_jobs);
-            written::list(b" inside", inside_list, inside_jobs);
-            written::list(b" steps", step_list, steps);
-            print::deadline(deadline);
+        Ok(listed) => {
+            written::list(b" open", open_list, listed.open_jobs);
+            written::list(b" inside", inside_list, listed.inside_jobs);
+            written::list(b" steps", step_list, listed.steps);
+            print::deadline(listed.deadline);
             print::rest(
                 open_list,
                 inside_list,
                 step_list,
                 Lengths {
-                    open_jobs: open_jobs as usize,
-                    inside_jobs: inside_jobs as usize,
-                    steps: steps as usize,
+                    open_jobs: listed.open_jobs as usize,
+                    inside_jobs: listed.inside_jobs as usize,
+                    steps: listed.steps as usize,
                 },
             );
         }
-        TouchingAnswer::Refused { number, place } => {
-            show::refusal(number, place);
+        Err(own) => {
+            show::refusal(own);
             print::rest(open_list, inside_list, step_list, nothing());
         }
     }

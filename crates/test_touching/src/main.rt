@@ -13,19 +13,10 @@ mod print;
 mod site;
 
 use site::site;
-use test_support::text::{STDIN, TEXT_ROOM, find};
+use test_support::text::{STDIN, TEXT_ROOM, each_line};
 
 fn main() {
     let mut text = [0; TEXT_ROOM];
     let length = io::read_full(STDIN, &mut text);
-    sites(&text[..length]);
-}
-
-fn sites(text: &[u8]) {
-    let mut start = 0;
-    while start < text.len() {
-        let end = find(text, start, b'\n');
-        site(&text[start..end]);
-        start = end + 1;
-    }
+    each_line(&text[..length], site);
 }

@@ -3,7 +3,6 @@ ghost use Rattle.std.specs.Prelude.{◌≤◌, length};
 
 use test_support::buffers::numbers_kept;
 use test_support::show;
-use touching::NearestDeadline;
 
 // How long a part of each list is.
 #[derive(Clone, Copy)]
@@ -22,11 +21,11 @@ pub(crate) fn names(line: &[u8], place: usize)
     show::words_to(&line[place..], 0);
 }
 
-pub(crate) fn deadline(nearest: NearestDeadline) {
+pub(crate) fn deadline(nearest: Option<u32>) {
     show::words(b" deadline");
     match nearest {
-        NearestDeadline::At(deadline) => show::number(deadline as u64),
-        NearestDeadline::None => show::words(b" none"),
+        Some(deadline) => show::number(deadline as u64),
+        None => show::words(b" none"),
     }
 }
 

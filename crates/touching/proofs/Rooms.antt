@@ -1,29 +1,52 @@
 -- Laws of the room in the lent lists: the lengths that the three lists want, and one law for each way out, the first list that is
 -- too short or all three written.
 -- Assumes nothing.
-use mathlib.Core.Path.{◌≡◌, ◌∙◌}
-use mathlib.Core.Bool.{Bool}
+use mathlib.Core.Path.{◌≡◌, sym, ◌∙◌}
+use mathlib.Core.Bool.{Bool, true, false}
+use mathlib.Core.Logic.{◌⊎◌, inl, inr}
 use mathlib.Core.List.{List}
 use Prim.Native.Nat.{ℕ, ◌<◌, ◌≤◌}
 use native.Mathlib.Omega.{arith}
 use lib.ListN.{length}
 use lib.Seq.{sets}
+use lib.Dec.{ltb}
+use borrow.Author.Tests.{ltb-true, ltb-false}
+use Rattle.std.specs.Prelude.{Option, Result, Ok, Err, cond}
+use Rattle.model.specs.declared.refusal.Refusal.{Refusal}
 use Rattle.model.specs.Limits.{max_jobs}
 use Rattle.model.specs.Outcome.{refused}
+use Rattle.model.specs.Refusals.{refusal}
 use Rattle.model.specs.Search.{passing_below}
+use Rattle.model.proofs.Numbers.{true_or_false}
+use Rattle.model.proofs.Refusals.{err≢ok}
 use Rattle.job_sets.specs.declared.JobSet.{JobSet}
 use Rattle.job_sets.specs.JobSets.{set_below, member_count}
-use Rattle.spans.specs.declared.jobs.NearestDeadline.{NearestDeadline}
 use Rattle.spans.specs.Spans.{Touched}
 use Rattle.spans.specs.SpanAnswers.{nearest_answer, listed}
 use Rattle.spans.specs.TouchedIn.{opens_at, inside_at, members_from, cells_within, touched_in}
 use Rattle.spans.proofs.MemberLists.{passing_counted}
 use Rattle.spans.proofs.MemberStores.{passing_listed}
-use Rattle.touching.specs.declared.operation.TouchingAnswer.{TouchingAnswer}
-use Rattle.touching.specs.declared.operation.TouchingAnswer.TheVariants.{Touching, Refused}
 use Rattle.touching.specs.Touching.{Lists, where_room}
-use Rattle.touching.specs.TouchingAnswers.{Answers}
+use Rattle.touching.specs.TouchingAnswers.{TouchingAnswer, Touching, Answers}
 use Rattle.touching.proofs.TouchingOutcomes.{open_short, inside_short, steps_short, room_enough, refused_answers}
+
+-- What the test of one list's length says.
+module _ {wanted room : ℕ} (own : Refusal) (tested : Result (Unit {0}) Refusal) (by : tested ≡ cond (ltb room wanted) (Err own) (Ok tt)) where
+  -- refused, the list is too short
+  pub short_room : (told : Refusal) → tested ≡ Err told → (room < wanted) × (told ≡ own)
+  short_room told e = go (true_or_false (ltb room wanted))
+    where
+      go : (ltb room wanted ≡ true) ⊎ (ltb room wanted ≡ false) → (room < wanted) × (told ≡ own)
+      go (inl short) = (ltb-true room wanted short, cc (sym e ∙ (rw short at by)))
+      go (inr enough) = absurd (err≢ok (sym e ∙ (rw enough at by)))
+
+  -- passed, it is long enough
+  pub enough_room : (told : Unit {0}) → tested ≡ Ok told → wanted ≤ room
+  enough_room told e = go (true_or_false (ltb room wanted))
+    where
+      go : (ltb room wanted ≡ true) ⊎ (ltb room wanted ≡ false) → wanted ≤ room
+      go (inl short) = absurd (err≢ok (sym (rw short at by) ∙ e))
+      go (inr enough) = ltb-false room wanted enough
 
 -- The lengths that the three lists want.
 pub record LengthsWanted (t : Touched) (open_jobs inside_jobs steps : ℕ) : Type 0 where
@@ -35,10 +58,10 @@ pub record LengthsWanted (t : Touched) (open_jobs inside_jobs steps : ℕ) : Typ
 module _ (before : Lists) (t : Touched) (open_jobs inside_jobs steps : ℕ) (wanted : LengthsWanted t open_jobs inside_jobs steps) where
   -- a list is refused with the length wanted
   refuses : (place length : ℕ) → place ≡ length → where_room before t ≡ refused 14 length → (answered : TouchingAnswer)
-      → answered ≡ Refused 14 place → Answers (where_room before t) before before answered
+      → answered ≡ Err (refusal 14 place) → Answers (where_room before t) before before answered
   refuses place length same found answered is = rw (is, same) (refused_answers 14 length found)
 
-  pub open_too_short : length before.open_jobs < open_jobs → (answered : TouchingAnswer) → answered ≡ Refused 14 open_jobs
+  pub open_too_short : length before.open_jobs < open_jobs → (answered : TouchingAnswer) → answered ≡ Err (refusal 14 open_jobs)
       → Answers (where_room before t) before before answered
   open_too_short short = refuses open_jobs _ wanted.open_is (open_short before t (omega (arith, wanted.open_is)))
 
@@ -46,7 +69,7 @@ module _ (before : Lists) (t : Touched) (open_jobs inside_jobs steps : ℕ) (wan
     open_fits : length t.open_jobs ≤ length before.open_jobs
     open_fits = omega (arith, wanted.open_is)
 
-    pub inside_too_short : length before.inside_jobs < inside_jobs → (answered : TouchingAnswer) → answered ≡ Refused 14 inside_jobs
+    pub inside_too_short : length before.inside_jobs < inside_jobs → (answered : TouchingAnswer) → answered ≡ Err (refusal 14 inside_jobs)
         → Answers (where_room before t) before before answered
     inside_too_short short = refuses inside_jobs _ wanted.inside_is (inside_short before t open_fits (omega (arith, wanted.inside_is)))
 
@@ -54,12 +77,12 @@ module _ (before : Lists) (t : Touched) (open_jobs inside_jobs steps : ℕ) (wan
       inside_fits : length t.inside_jobs ≤ length before.inside_jobs
       inside_fits = omega (arith, wanted.inside_is)
 
-      pub steps_too_short : length before.steps < steps → (answered : TouchingAnswer) → answered ≡ Refused 14 steps
+      pub steps_too_short : length before.steps < steps → (answered : TouchingAnswer) → answered ≡ Err (refusal 14 steps)
           → Answers (where_room before t) before before answered
       steps_too_short short =
           refuses steps _ wanted.steps_is (steps_short before t open_fits inside_fits (omega (arith, wanted.steps_is)))
 
-      pub all_listed : steps ≤ length before.steps → (after : Lists) (nearest : NearestDeadline) → nearest ≡ nearest_answer t.deadline
+      pub all_listed : steps ≤ length before.steps → (after : Lists) (nearest : Option ℕ) → nearest ≡ nearest_answer t.deadline
           → after.open_jobs ≡ listed t.open_jobs before.open_jobs → after.inside_jobs ≡ listed t.inside_jobs before.inside_jobs
           → after.steps ≡ listed t.steps before.steps
           → Answers (where_room before t) before after (Touching open_jobs inside_jobs steps nearest)

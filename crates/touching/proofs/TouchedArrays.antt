@@ -7,15 +7,17 @@ use mathlib.Core.List.{List}
 use Prim.Native.Nat.{ℕ, zero, suc, ◌-◌, ◌<◌, ◌≤◌}
 use native.Mathlib.Omega.{arith}
 use lib.ListN.{length, get_or}
+use Rattle.std.specs.Prelude.{Result, Ok, Err}
 use Rattle.model.specs.declared.Job.{Job}
+use Rattle.model.specs.declared.refusal.Refusal.{Refusal}
 use Rattle.model.specs.Limits.{max_jobs, max_bounds, max_intervals, max_deadline}
-use Rattle.model.specs.Outcome.{refused}
 use Rattle.model.specs.Search.{passing_below, least_below}
 use Rattle.model.specs.Jobs.{job_of, ValidJobs}
 use Rattle.model.specs.Intervals.{Bounds}
 use Rattle.model.specs.Windows.{is_inside}
 use Rattle.model.specs.Checking.{stepping}
 use Rattle.model.specs.Marks.{ValidMarks, bounds_with}
+use Rattle.model.proofs.Refusals.{RefusedBy}
 use Rattle.model.proofs.MarkedBounds.{bounds-with, length_bounds_with}
 use Rattle.model.proofs.Passing.{passing_cong}
 use Rattle.reading.specs.Column.{column_of}
@@ -24,8 +26,6 @@ use Rattle.job_tables.proofs.Read.{length_jobs_in, job-in, sound_in}
 use Rattle.intervals.specs.Times.{HoldsTimes, RisingTimes, number_of}
 use Rattle.intervals.specs.OpenSets.{open_sets, HoldsOpen}
 use Rattle.intervals.proofs.OpenRanges as ranges
-use Rattle.fitting.specs.declared.Verdict.{Verdict}
-use Rattle.fitting.specs.declared.Verdict.TheVariants.{Passed, Refused}
 use Rattle.fitting.specs.Verdicts.{verdict_of, passed}
 use Rattle.fitting.specs.SeenCells.{CellsSeen}
 use Rattle.job_records.specs.TestedJobs.{HoldsCycles}
@@ -135,24 +135,23 @@ module _ (count : ℕ) (releases deadlines cycles : List ℕ) where
           cycles_held = record { at = λ j below. rw (own_job j (omega (arith, counted))) }
 
           -- the verdict on the steps
-          module _ (plan : List ℕ) (verdict : Verdict) (went : verdict ≡ verdict_of (stepping_in sets cycles count n plan passed))
+          module _ (plan : List ℕ) (verdict : Result (Unit {0}) Refusal) (went : verdict ≡ verdict_of (stepping_in sets cycles count n plan passed))
               (start end : ℕ) (before : Lists) where
             judged : verdict_of (stepping jobs bounds plan passed) ≡ verdict
             judged =
                 ap verdict_of (stepping_same jobs bounds sets cycles opened.members cycles_held plan passed)
                 ∙ rw (counted, ← holds.counted) (sym went)
 
-            pub steps_refused : (number place : ℕ) → verdict ≡ Refused number place
-                → touching_for jobs bounds plan start end before ≡ refused number place
+            pub steps_refused : (own : Refusal) → verdict ≡ Err own → RefusedBy (touching_for jobs bounds plan start end before) own
             unfolding touching_for
-            steps_refused number place e =
-                both_refused (stepping jobs bounds plan passed) _ (both_stepping jobs bounds plan (both_alone tt)) number place (judged ∙ e)
+            steps_refused own e =
+                both_refused (stepping jobs bounds plan passed) _ (both_stepping jobs bounds plan (both_alone tt)) own (judged ∙ e)
 
-            pub steps_passed : (cells : List ℕ) → verdict ≡ Passed → (verdict ≡ Passed → CellsSeen plan cells)
+            pub steps_passed : (cells : List ℕ) → verdict ≡ Ok tt → CellsSeen plan cells
                 → (intervals : ℕ) → intervals ≡ n - 1
                 → touching_for jobs bounds plan start end before
                 ≡ where_room before (touched_in releases deadlines count times cells intervals start end)
             unfolding touching_for
             steps_passed cells e seen intervals are =
                 both_passed (stepping jobs bounds plan passed) _ (both_stepping jobs bounds plan (both_alone tt)) (judged ∙ e)
-                ∙ ap (where_room before) (sym (touched_same plan cells (seen e) intervals are start end))
+                ∙ ap (where_room before) (sym (touched_same plan cells seen intervals are start end))

@@ -9,21 +9,23 @@ use Prim.Native.Nat.{ℕ, ◌<◌, ◌≤◌}
 use lib.ListN.{length}
 use lib.Dec.{ltb, leb}
 use borrow.Author.Tests.{leb-false, ltb-false, le-leb, lt-leb, lt-ltb, le-ltb}
+use Rattle.std.specs.Prelude.{Err}
 use Rattle.model.specs.declared.Job.{Job}
+use Rattle.model.specs.declared.refusal.Refusal.{Refusal}
 use Rattle.model.specs.Limits.{max_deadline}
 use Rattle.model.specs.Outcome.{Outcome, refused, answer, and_then}
+use Rattle.model.specs.Refusals.{refusal}
 use Rattle.model.specs.Jobs.{read_jobs}
 use Rattle.model.specs.SiteParameters.{alter_jobs}
 use Rattle.model.specs.Marks.{read_marks, bounds_with}
 use Rattle.model.specs.Windows.{wrong_span}
 use Rattle.model.proofs.Outcome.{answer_injective, answered_past, answered_within, and_then_answered}
+use Rattle.model.proofs.Refusals.{RefusedBy}
 use Rattle.model.proofs.FittingHalf.{stepping_answered}
 use Rattle.model.proofs.Tests.{neither}
 use Rattle.spans.specs.Spans.{Touched, touched}
-use Rattle.touching.specs.declared.operation.TouchingAnswer.{TouchingAnswer}
-use Rattle.touching.specs.declared.operation.TouchingAnswer.TheVariants.{Refused}
 use Rattle.touching.specs.Touching.{Lists, where_room, touching_for, touching}
-use Rattle.touching.specs.TouchingAnswers.{Answers}
+use Rattle.touching.specs.TouchingAnswers.{TouchingAnswer, Answers}
 
 -- the test of a span is whether one of the two is wrong
 span_wrong : (start end : ℕ) → (end ≤ start) ⊎ (max_deadline < end) → wrong_span start end ≡ true
@@ -107,8 +109,13 @@ answered_touched jobs bounds plan start end before t e =
 
 -- a refused call changes nothing
 pub refused_answers : {outcome : Outcome Touched} {before : Lists} (number place : ℕ) → outcome ≡ refused number place
-    → Answers outcome before before (Refused number place)
+    → Answers outcome before before (Err (refusal number place))
 refused_answers number place e = rw e (record { answer_is = refl; lists_are = refl })
+
+-- a call that is refused as something before it was
+pub refused_as : {A : Type 0} {first : Outcome A} {outcome : Outcome Touched} {before : Lists} {own : Refusal} (by : RefusedBy first own)
+    → outcome ≡ refused by.number by.place → Answers outcome before before (Err own)
+refused_as by e = rw by.own_is (refused_answers by.number by.place e)
 
 -- an outcome that is another is answered as that one
 pub same-answers : {outcome other : Outcome Touched} {before after : Lists} {answered : TouchingAnswer} → outcome ≡ other

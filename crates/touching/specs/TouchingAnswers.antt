@@ -1,18 +1,31 @@
 -- The contract of the operation: what one call answers and what it leaves in the lent lists, for bytes, numbers and lists of any
 -- kind.
-use Rattle.std.specs.Prelude.{ℕ, ◌≡◌, List, length}
-use Rattle.model.specs.Outcome.{Outcome, refused, answer}
+use Rattle.std.specs.Prelude.{ℕ, ◌≡◌, List, length, Option, Result, Ok}
+use Rattle.model.specs.declared.refusal.Refusal.{Refusal}
+use Rattle.model.specs.Outcome.{Outcome}
+use Rattle.model.specs.Refusals.{returned_by}
 use Rattle.spans.specs.Spans.{Touched}
 use Rattle.spans.specs.SpanAnswers.{nearest_answer}
 use Rattle.touching.specs.Touching.{Lists, touching, lists_after}
-use Rattle.touching.specs.declared.operation.TouchingAnswer.{TouchingAnswer}
-use Rattle.touching.specs.declared.operation.TouchingAnswer.TheVariants.{Touching, Refused}
+use Rattle.touching.specs.declared.operation.ListLengths.{ListLengths}
 
--- "answered are their three lengths and that deadline", or the refusal's number and place.
+abbrev pub TouchingAnswer : Type 0
+TouchingAnswer = Result ListLengths Refusal
+
+-- Three lengths and the nearest deadline are answered.
+abbrev pub Touching : (open_jobs inside_jobs steps : ℕ) → (deadline : Option ℕ) → TouchingAnswer
+Touching open_jobs inside_jobs steps deadline =
+    Ok (record { open_jobs = open_jobs; inside_jobs = inside_jobs; steps = steps; deadline = deadline })
+
+-- "answered are their three lengths and that deadline", or the refusal.
 abbrev pub touching_answer : Outcome Touched → TouchingAnswer
-touching_answer (refused number place) = Refused number place
-touching_answer (answer t) =
-    Touching (length t.open_jobs) (length t.inside_jobs) (length t.steps) (nearest_answer t.deadline)
+touching_answer outcome =
+    returned_by (λ t. record {
+      open_jobs = length t.open_jobs;
+      inside_jobs = length t.inside_jobs;
+      steps = length t.steps;
+      deadline = nearest_answer t.deadline;
+    }) outcome
 
 -- An outcome is what a call answered, and what it left in the lists: two equations.
 pub record Answers (outcome : Outcome Touched) (before after : Lists) (answered : TouchingAnswer) : Type 0 where

@@ -3,5 +3,4 @@
 
 mod operation;
 
-pub use operation::{TouchingAnswer, touching};
-pub use spans::NearestDeadline;
+pub use operation::{ListLengths, touching};

@@ -4,13 +4,12 @@ use mathlib.Core.Path.{◌≡◌, refl, ◌∙◌}
 use mathlib.Core.List.{List}
 use Prim.Native.Nat.{ℕ, zero, suc}
 use denote.Ref.{Bor}
+use Rattle.std.specs.Prelude.{Some, None, Ok, Err}
 use Rattle.model.specs.Outcome.{Outcome}
 use Rattle.model.specs.Steps.{Step, walk}
-use Rattle.walking.specs.declared.steps.StepAnswer.{StepAnswer}
-use Rattle.walking.specs.declared.steps.StepAnswer.TheVariants.{Step as Found, End, Refused}
 use Rattle.walking.specs.declared.walk.StepReading.{StepReading}
 use Rattle.walking.specs.declared.walk.Taken.{Taken}
-use Rattle.walking.specs.Walking.{step_answer, taken_from, before, number_after}
+use Rattle.walking.specs.Walking.{StepAnswer, step_answer, taken_from, before, number_after}
 use Rattle.walking.specs.Readings.{taken, all_taken, ReadingTakesAll}
 use Rattle.walking.proofs.Walking.{walk_takes_all}
 
@@ -18,9 +17,9 @@ use Rattle.walking.proofs.Walking.{walk_takes_all}
 -- number is the next position
 before_number : (answer : StepAnswer) (position : ℕ) (from : ℕ → Outcome (List Step))
     → before answer (from (number_after answer position)) ≡ before answer (from (suc position))
-before_number (Found step) position from = refl
-before_number End position from = refl
-before_number (Refused number place) position from = refl
+before_number (Ok (Some step)) position from = refl
+before_number (Ok None) position from = refl
+before_number (Err own) position from = refl
 
 -- taking from a reading is taking its plan's positions from its step number on
 taken-from : (take : StepReading → Taken) → ((reading : StepReading) → take reading ≡ taken reading) → (plan : Bor (List ℕ)) (turns number : ℕ)

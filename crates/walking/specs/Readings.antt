@@ -4,10 +4,9 @@ use Rattle.std.specs.Prelude.{ℕ, zero, suc, ◌<◌, ◌≡◌, List, []}
 use Rattle.std.specs.Borrow.{Bor}
 use Rattle.model.specs.Outcome.{Outcome, answer}
 use Rattle.model.specs.Steps.{Step, step_count, walk}
-use Rattle.walking.specs.declared.steps.StepAnswer.{StepAnswer}
 use Rattle.walking.specs.declared.walk.StepReading.{StepReading}
 use Rattle.walking.specs.declared.walk.Taken.{Taken}
-use Rattle.walking.specs.Walking.{step_answer, number_after, before}
+use Rattle.walking.specs.Walking.{StepAnswer, step_answer, number_after, before}
 
 -- A reading begins at step 0. It holds the plan's slice as it was lent.
 abbrev pub started : Bor (List ℕ) → StepReading

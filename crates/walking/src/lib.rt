@@ -4,5 +4,5 @@
 mod steps;
 mod walk;
 
-pub use steps::{Step, StepAnswer, decode_step, step_count, wrong_length};
+pub use steps::{Step, decode_step, step_count, wrong_length};
 pub use walk::{StepReading, Taken, next, start, step_at};

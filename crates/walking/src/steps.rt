@@ -4,40 +4,28 @@ ghost use Rattle.model.specs.Limits.{max_jobs};
 ghost use Rattle.model.specs.Steps.{wrong_plan_length, step_count, step_at, walk};
 ghost use Rattle.walking.specs.Walking.{step_answer, number_after, code_step};
 
-use model::MAX_JOBS;
+use model::{Fault, MAX_JOBS, Refusal};
 use reading::{number16, number32};
 
 // A step gives a job some cycles in an interval.
-#[derive(Clone, Copy)]
+#[derive(Clone, Copy, Debug, PartialEq, Eq)]
 pub struct Step {
     pub interval: usize,
     pub job: usize,
     pub cycles: u64,
 }
 
-// What stands at a position of a plan: a step, the end, or that the bytes are no plan.
-#[derive(Clone, Copy)]
-pub enum StepAnswer {
-    Step(Step),
-    End,
-    Refused { number: u32, place: u32 },
-}
-
-// What stands at a position of a plan, counted from 0. Any bytes and any position are answered.
-pub(crate) fn answer_at(plan: &[u8], position: usize) -> StepAnswer
+// What stands at a position of a plan, counted from 0: a step, or none past the last one. Any bytes and any position are answered.
+pub(crate) fn answer_at(plan: &[u8], position: usize) -> Result<Option<Step>, Refusal>
     ensures { result ≡ step_answer (walk plan.now) position }
 {
     if wrong_length(plan) {
-        return StepAnswer::Refused {
-            number: 15,
-            place: 0,
-        };
+        return Err(Fault::PlanLength.at(0));
     }
     if position < step_count(plan) {
-        StepAnswer::Step(decode_step(plan, position))
-    } else {
-        StepAnswer::End
+        return Ok(Some(decode_step(plan, position)));
     }
+    Ok(None)
 }
 
 // The step number after a position: one higher after a step. At the end, and in bytes that are no plan, it stays.

@@ -4,7 +4,8 @@ ghost use Rattle.model.specs.Steps.{walk};
 ghost use Rattle.walking.specs.Walking.{step_answer};
 ghost use Rattle.walking.specs.Readings.{started, taken};
 
-use crate::steps::{StepAnswer, answer_at, number_after};
+use crate::steps::{Step, answer_at, number_after};
+use model::Refusal;
 
 // A plan's bytes, and the number of the step that is taken next.
 #[derive(Clone, Copy)]
@@ -13,10 +14,10 @@ pub struct StepReading<'a> {
     pub next: usize,
 }
 
-// What was taken from a reading, and the reading after it.
+// What was taken from a reading, a step or none at the end, and the reading after it.
 #[derive(Clone, Copy)]
 pub struct Taken<'a> {
-    pub answer: StepAnswer,
+    pub answer: Result<Option<Step>, Refusal>,
     pub rest: StepReading<'a>,
 }
 
@@ -43,7 +44,7 @@ pub fn next<'a>(reading: StepReading<'a>) -> Taken<'a>
 }
 
 // Step number `position` of a plan, counted from 0, for callers that keep the number themselves.
-pub fn step_at(plan: &[u8], position: usize) -> StepAnswer
+pub fn step_at(plan: &[u8], position: usize) -> Result<Option<Step>, Refusal>
     ensures { result ≡ step_answer (walk plan.now) position }
 {
     next(StepReading {

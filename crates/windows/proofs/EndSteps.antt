@@ -12,7 +12,7 @@ use lib.ListN.{length, get_or}
 use lib.Dec.{leb}
 use borrow.Author.Tests.{ltb-false, le-ltb, lt-ltb}
 use Rattle.model.specs.declared.Job.{Job}
-use Rattle.model.specs.Limits.{max_jobs, max_cycles, max_deadline, max_bounds}
+use Rattle.model.specs.Limits.{max_jobs, max_cycles, max_deadline}
 use Rattle.model.specs.Jobs.{job_of, ValidJobs}
 use Rattle.model.specs.Intervals.{bound_at}
 use Rattle.model.specs.Windows.{is_inside, cycles_inside, is_overfull}
@@ -24,7 +24,7 @@ use Rattle.job_sets.specs.declared.JobSet.{JobSet}
 use Rattle.job_sets.specs.JobSets.{is_empty, member_count}
 use Rattle.windows.specs.Additions.{released_from}
 use Rattle.windows.specs.RunningSums.{RunningSum, jobs_inside, total_over}
-use Rattle.windows.specs.WindowTests.{TestArrays, HasReleasedFrom, EndTested}
+use Rattle.windows.specs.WindowTests.{TestArrays, HasReleasedFrom, FirstOverfull, NoneOverfull}
 use Rattle.windows.proofs.InsideSums.{total_none, total_whole}
 use Rattle.windows.proofs.SetTotals.{total_empty, count_empty}
 use Rattle.windows.proofs.SumSteps.{ended_with, sum_next, comes_in, rises}
@@ -85,17 +85,12 @@ module _ {jobs : List Job} {bounds times cycles sets : List ℕ} {intervals : �
 
   -- all windows are tested
   pub moving_done : {last total added : ℕ} → last ≡ intervals → Moving top jobs bounds start last total added
-      → EndTested top jobs bounds start max_bounds added
+      → NoneOverfull top jobs bounds start added
   unfolding jobs_inside released_from
   moving_done {last} {total} {added} whole moving =
       record {
-        overfull = λ h. absurd (omega (arith, h));
-        inside = λ h. absurd (omega (arith, h));
-        deadline = λ h. absurd (omega (arith, h));
-        fits_before = λ i low below high. moving.fits i low (omega (arith, arrays.counted));
-        added_most = added_few top moving.running;
-        added_inside = λ h. absurd (omega (arith, h));
-        added_all = λ h. moving.running.added_once ∙ total_whole jobs (λ j. 1) (bound_at bounds start) (bound_at bounds last) ends;
+        fits = λ i low high. moving.fits i low (omega (arith, arrays.counted));
+        added_all = moving.running.added_once ∙ total_whole jobs (λ j. 1) (bound_at bounds start) (bound_at bounds last) ends;
       }
     where
       ends : (j : ℕ) → j < length jobs → (job_of jobs j).deadline ≤ bound_at bounds last
@@ -160,15 +155,14 @@ module _ {jobs : List Job} {bounds times cycles sets : List ℕ} {intervals : �
 
       -- or it is
       pub moving_hit : start ≤ last → is_empty (ended_with sets intervals from last) ≡ false
-          → (bound_at bounds (suc last) - bound_at bounds start) * top < total' → EndTested top jobs bounds start (last + 1) added'
+          → (bound_at bounds (suc last) - bound_at bounds start) * top < total' → FirstOverfull top jobs bounds start (last + 1) added'
       moving_hit begun some large =
           rw (add-one last)
           (record {
-            overfull = λ h. sum_overfull top added_there large;
-            inside = λ h. (omega arith, omega (arith, arrays.counted));
-            deadline = λ h. comes_in arrays from start last released inside some;
-            fits_before = λ i low below high. moving.fits i low (omega arith);
+            overfull = sum_overfull top added_there large;
+            inside = (omega arith, omega (arith, arrays.counted));
+            deadline = comes_in arrays from start last released inside some;
+            fits_before = λ i low below. moving.fits i low (omega arith);
             added_most = added_few top added_there;
-            added_inside = λ h. added_there.added_once;
-            added_all = λ h. absurd (omega (arith, h, arrays.counted, arrays.few));
+            added_inside = added_there.added_once;
           })

@@ -6,6 +6,7 @@ use mathlib.Core.Bool.{Bool, true, false}
 use mathlib.Core.Logic.{◌⊎◌, inl, inr}
 use mathlib.Core.List.{List}
 use mathlib.Core.Option.{none, some}
+use Rattle.std.specs.Prelude.{Option, Some, None}
 use Prim.Native.Nat.{ℕ, suc, ◌+◌, ◌*◌, ◌<◌, ◌≤◌}
 use native.Mathlib.Nat.{mul-le-mul}
 use native.Mathlib.Omega.{arith}
@@ -13,7 +14,7 @@ use lib.ListN.{length}
 use lib.Dec.{ltb, leb, eqb}
 use borrow.Author.Tests.{lt-ltb, le-ltb, le-leb, eqb-true, eq-eqb}
 use Rattle.model.specs.declared.Job.{Job}
-use Rattle.model.specs.Limits.{max_jobs, max_bounds}
+use Rattle.model.specs.Limits.{max_jobs}
 use Rattle.model.specs.Sum.{sum, only_if}
 use Rattle.model.specs.Search.{some_below}
 use Rattle.model.specs.Jobs.{job_of}
@@ -31,7 +32,7 @@ use Rattle.job_sets.specs.IntervalSets.{set_in}
 use Rattle.job_sets.proofs.JobSets.{all_has, both_has, less_has, least_has, empty_has}
 use Rattle.windows.specs.Additions.{released_from, is_new_release, additions_before, additions}
 use Rattle.windows.specs.RunningSums.{jobs_inside}
-use Rattle.windows.specs.WindowTests.{TestArrays, HasReleasedFrom, EndTested}
+use Rattle.windows.specs.WindowTests.{TestArrays, HasReleasedFrom, FirstOverfull, NoneOverfull, EndTested}
 use Rattle.windows.proofs.Ends.{released_on, starts_with}
 use Rattle.windows.proofs.DistinctReleases.{distinct_releases}
 use Rattle.windows.proofs.Earliest.{earliest_is, earliest_none}
@@ -207,38 +208,41 @@ module _ {jobs : List Job} {bounds times cycles sets : List ℕ} {intervals : �
     passed_over none_here =
         passed_next added (rw none_here (omega (arith, passed.added_are))) (λ k is. absurd (true≢false (sym is ∙ none_here)))
 
-    module _ (is : is_release jobs bounds start ≡ true) (end added' : ℕ) (tested : EndTested top jobs bounds start end added') where
+    module _ (is : is_release jobs bounds start ≡ true) where
       -- what was added is part of what can be
-      pub added_within : added + added' ≤ additions jobs
+      within_all : (added' : ℕ) → added' ≤ released_from jobs (bound_at bounds start) → added + added' ≤ additions jobs
       unfolding sum
-      added_within =
+      within_all added' few =
           let most = sum_longer {k = suc start} (λ i. only_if (is_release jobs bounds i) (released_from jobs (bound_at bounds i))) inside_all in
           let here : added_before jobs bounds (suc start) ≡ added_before jobs bounds start + released_from jobs (bound_at bounds start) = rw is in
-          omega (arith, here, most, additions_are, passed.added_are, tested.added_most)
+          omega (arith, here, most, additions_are, passed.added_are, few)
+
+      pub added_within : (end : Option ℕ) (added' : ℕ) → EndTested top jobs bounds start end added' → added + added' ≤ additions jobs
+      added_within None added' tested = within_all added' (omega (arith, tested.added_all))
+      added_within (Some end) added' tested = within_all added' tested.added_most
 
       -- where one of its windows is overfull: the jobs inside that one
-      pub added_until : end < max_bounds
+      pub added_until : (end added' : ℕ) → FirstOverfull top jobs bounds start end added'
           → added + added' ≡ additions_before jobs (bound_at bounds start) + jobs_inside jobs (bound_at bounds start) (bound_at bounds end)
-      added_until hit = omega (arith, passed.added_are, additions-before start (omega (arith, inside_all)), tested.added_inside hit)
+      added_until end added' tested = omega (arith, passed.added_are, additions-before start (omega (arith, inside_all)), tested.added_inside)
 
       -- none of its windows is overfull
-      pub passed_on : max_bounds ≤ end → Passed top jobs bounds (suc start) (in_first_only from (set_in sets start)) (added + added')
+      pub passed_on : (added' : ℕ) → NoneOverfull top jobs bounds start added' → Passed top jobs bounds (suc start) (in_first_only from (set_in sets start)) (added + added')
       unfolding sum
-      passed_on all =
-          passed_next (added + added') (rw is (omega (arith, passed.added_are, tested.added_all all)))
-          (λ k _ low high. tested.fits_before k low (omega (arith, arrays.few)) high)
+      passed_on added' tested =
+          passed_next (added + added') (rw is (omega (arith, passed.added_are, tested.added_all))) (λ k _ low high. tested.fits k low high)
 
       -- one is, and it is the earliest
-      pub found_here : end < max_bounds → earliest_overfull top jobs ≡ some (record { start = bound_at bounds start; end = bound_at bounds end })
-      found_here hit =
-          let (before, last) = tested.inside hit in
+      pub found_here : (end added' : ℕ) → FirstOverfull top jobs bounds start end added' → earliest_overfull top jobs ≡ some (record { start = bound_at bounds start; end = bound_at bounds end })
+      found_here end added' tested =
+          let (before, last) = tested.inside in
           let (j, below, starts) = some_below_found (length jobs) _ is in
           earliest_is arrays.valid _
           (record {
             release = (j, below, eqb-true _ _ starts);
-            deadline = tested.deadline hit;
+            deadline = tested.deadline;
             later = bounds_rise arrays.bounds-of start end before (omega (arith, inside_all));
-            overfull = tested.overfull hit;
+            overfull = tested.overfull;
             earliest-start = first_start;
             earliest-end = first_end;
           })
@@ -262,7 +266,7 @@ module _ {jobs : List Job} {bounds times cycles sets : List ℕ} {intervals : �
               go (inl early) (lo, hi, range) =
                   let sooner = number_rises arrays.bounds-of hi end (omega (arith, range.within, inside_all)) (omega (arith, range.ends)) in
                   let after = number_rises arrays.bounds-of start hi (omega (arith, inside_all)) (omega (arith, range.ends)) in
-                  let fits = tested.fits_before hi (omega arith) sooner range.within in
+                  let fits = tested.fits_before hi (omega arith) sooner in
                   absurd (true≢false (sym full ∙ rw (← range.ends) fits))
 
   -- all starts are passed

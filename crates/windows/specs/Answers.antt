@@ -1,10 +1,10 @@
--- The answers of this crate: the paper's values for each case of an enum.
-use Rattle.std.proofs.Math.Option.{Option, none, some}
+-- The answers of this crate: the paper's values.
+use Rattle.std.specs.Prelude.{Option, Some, None}
+use Rattle.std.proofs.Math.Option.{Option as Found, none, some}
 use Rattle.model.specs.Windows.{Window}
-use Rattle.windows.specs.declared.overfull.Overfull.{Overfull}
-use Rattle.windows.specs.declared.overfull.Overfull.TheVariants.{Window as WindowFound, Fits}
+use Rattle.windows.specs.declared.overfull.Window.{Window as CodeWindow}
 
 -- The earliest overfull window, or that the jobs fit.
-abbrev pub overfull_answer : Option Window → Overfull
-overfull_answer none = Fits
-overfull_answer (some window) = WindowFound window.start window.end
+abbrev pub overfull_answer : Found Window → Option CodeWindow
+overfull_answer none = None
+overfull_answer (some window) = Some (record { start = window.start; end = window.end })

@@ -1,5 +1,5 @@
 -- The window test: what it is lent, and what it answers.
-use Rattle.std.specs.Prelude.{ℕ, ◌+◌, ◌<◌, ◌≤◌, ◌≡◌, true, false, List, length, get_or, leb}
+use Rattle.std.specs.Prelude.{ℕ, ◌+◌, ◌<◌, ◌≤◌, ◌≡◌, true, false, List, length, get_or, leb, Option, Some, None}
 use Rattle.std.proofs.Math.Option.{none, some}
 use Rattle.model.specs.declared.Job.{Job}
 use Rattle.model.specs.Limits.{max_bounds}
@@ -28,16 +28,24 @@ pub record TestArrays (jobs : List Job) (bounds times cycles sets : List ℕ) (i
 abbrev pub HasReleasedFrom : (jobs : List Job) → (bounds : List ℕ) → (set : JobSet) → (start : ℕ) → Type 0
 HasReleasedFrom jobs bounds set start = (j : ℕ) → j < length jobs → is_member set j ≡ leb (bound_at bounds start) (job_of jobs j).release
 
--- Of the windows from a bound the test found the first that is overfull, by the number of its end. It has added the jobs inside that
--- window, each once; and where none is overfull each job released at or after the start.
-pub record EndTested (top : ℕ) (jobs : List Job) (bounds : List ℕ) (start end added : ℕ) : Type 0 where
-  pub overfull : end < max_bounds → is_overfull top jobs (bound_at bounds start) (bound_at bounds end) ≡ true
-  pub inside : end < max_bounds → (start < end) × (end ≤ interval_count bounds)
-  pub deadline : end < max_bounds → (k : ℕ) × (k < length jobs) × ((job_of jobs k).deadline ≡ bound_at bounds end)
-  pub fits_before : (i : ℕ) → start ≤ i → i < end → i ≤ interval_count bounds → is_overfull top jobs (bound_at bounds start) (bound_at bounds i) ≡ false
+-- The first overfull window from a bound, by the number of its end. The test has added the jobs inside that window, each once.
+pub record FirstOverfull (top : ℕ) (jobs : List Job) (bounds : List ℕ) (start end added : ℕ) : Type 0 where
+  pub overfull : is_overfull top jobs (bound_at bounds start) (bound_at bounds end) ≡ true
+  pub inside : (start < end) × (end ≤ interval_count bounds)
+  pub deadline : (k : ℕ) × (k < length jobs) × ((job_of jobs k).deadline ≡ bound_at bounds end)
+  pub fits_before : (i : ℕ) → start ≤ i → i < end → is_overfull top jobs (bound_at bounds start) (bound_at bounds i) ≡ false
   pub added_most : added ≤ released_from jobs (bound_at bounds start)
-  pub added_inside : end < max_bounds → added ≡ jobs_inside jobs (bound_at bounds start) (bound_at bounds end)
-  pub added_all : max_bounds ≤ end → added ≡ released_from jobs (bound_at bounds start)
+  pub added_inside : added ≡ jobs_inside jobs (bound_at bounds start) (bound_at bounds end)
+
+-- No window from a bound is overfull. The test has added each job released at or after the start.
+pub record NoneOverfull (top : ℕ) (jobs : List Job) (bounds : List ℕ) (start added : ℕ) : Type 0 where
+  pub fits : (i : ℕ) → start ≤ i → i ≤ interval_count bounds → is_overfull top jobs (bound_at bounds start) (bound_at bounds i) ≡ false
+  pub added_all : added ≡ released_from jobs (bound_at bounds start)
+
+-- Of the windows from a bound the test found the first that is overfull, by the number of its end, or that none is.
+abbrev pub EndTested : (top : ℕ) → (jobs : List Job) → (bounds : List ℕ) → (start : ℕ) → (end : Option ℕ) → (added : ℕ) → Type 0
+EndTested top jobs bounds start None added = NoneOverfull top jobs bounds start added
+EndTested top jobs bounds start (Some end) added = FirstOverfull top jobs bounds start end added
 
 -- What the window test answers: the earliest overfull window, or that the jobs fit; and how often it added a job's cycles to a sum,
 -- which for a fitting set is exactly one for each distinct release and each job released at or after it. Where a window is overfull the

@@ -4,4 +4,4 @@
 mod overfull;
 mod sums;
 
-pub use overfull::{Overfull, WindowTest, earliest_overfull};
+pub use overfull::{Window, WindowTest, earliest_overfull};

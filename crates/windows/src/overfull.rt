@@ -8,25 +8,25 @@ use crate::sums::{CycleSum, add_jobs};
 use job_sets::{JobSet, SET_WORDS};
 use model::{MAX_BOUNDS, MAX_JOBS};
 
-// The earliest overfull window, if there is one.
-#[derive(Clone, Copy)]
-pub enum Overfull {
-    Window { start: u64, end: u64 },
-    Fits,
+// A window of ticks, its end not with it.
+#[derive(Clone, Copy, Debug, PartialEq, Eq)]
+pub struct Window {
+    pub start: u64,
+    pub end: u64,
 }
 
-// What the window test found, and how often it added a job's cycles to a sum.
+// What the window test found, the earliest overfull window if there is one, and how often it added a job's cycles to a sum.
 #[derive(Clone, Copy)]
 pub struct WindowTest {
-    pub found: Overfull,
+    pub found: Option<Window>,
     pub additions: usize,
 }
 
-// What the windows from one start gave: the number of the bound at which the first overfull one ends, MAX_BOUNDS where there is
-// none, and how often a job's cycles were added.
+// What the windows from one start gave: the number of the bound at which the first overfull one ends, if there is one, and how
+// often a job's cycles were added.
 #[derive(Clone, Copy)]
 pub struct EndTest {
-    pub end: usize,
+    pub end: Option<usize>,
     pub additions: usize,
 }
 
@@ -44,28 +44,25 @@ pub fn earliest_overfull(
     ensures { (jobs : List Job) (bounds : List ℕ) → TestArrays jobs bounds times.now cycles.now sets.now intervals
         → Tested top jobs result }
 {
-    let mut from = job_sets::all();
+    let mut from = JobSet::all();
     let mut additions = 0;
-    let mut start = 0;
-    while start < intervals {
+    for start in 0..intervals {
         let here = job_sets::set_at(sets, start);
-        if !job_sets::is_empty(job_sets::both(here, from)) {
+        if !here.both(from).is_empty() {
             let test = overfull_end(times, cycles, sets, intervals, top, from, start);
             additions += test.additions;
-            let end = test.end;
-            if end < MAX_BOUNDS {
-                let found = Overfull::Window {
+            if let Some(end) = test.end {
+                let found = Some(Window {
                     start: times[start],
                     end: times[end],
-                };
+                });
                 return WindowTest { found, additions };
             }
         }
-        from = job_sets::less(from, here);
-        start += 1;
+        from = from.less(here);
     }
     WindowTest {
-        found: Overfull::Fits,
+        found: None,
         additions,
     }
 }
@@ -91,22 +88,20 @@ fn overfull_end(
         cycles: 0,
         additions: 0,
     };
-    let mut last = start;
-    while last < intervals {
-        let ended = job_sets::both(job_sets::leaving(sets, intervals, last), from);
-        if !job_sets::is_empty(ended) {
+    for last in start..intervals {
+        let ended = job_sets::leaving(sets, intervals, last).both(from);
+        if !ended.is_empty() {
             sum = add_jobs(cycles, ended, sum);
             if (times[last + 1] - times[start]) * top < sum.cycles {
                 return EndTest {
-                    end: last + 1,
+                    end: Some(last + 1),
                     additions: sum.additions,
                 };
             }
         }
-        last += 1;
     }
     EndTest {
-        end: MAX_BOUNDS,
+        end: None,
         additions: sum.additions,
     }
 }

@@ -21,11 +21,11 @@ pub(crate) fn add_jobs(cycles: &[u64; MAX_JOBS], set: JobSet, before: CycleSum) 
     let mut sum = before.cycles;
     let mut additions = before.additions;
     let mut rest = set;
-    while !job_sets::is_empty(rest) {
-        let job = job_sets::least(rest);
+    while !rest.is_empty() {
+        let job = rest.least();
         sum += cycles[job];
         additions += 1;
-        rest = job_sets::without(rest, job);
+        rest = rest.without(job);
     }
     CycleSum {
         cycles: sum,

@@ -4,5 +4,5 @@
 mod numbers;
 mod plan;
 
-pub use numbers::{put16, put32};
+pub use numbers::{put_column, put16, put32};
 pub use plan::write_plan;

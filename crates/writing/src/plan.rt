@@ -48,11 +48,9 @@ fn write_steps(
     ensures { plan.new ≡ with_steps count 0 (steps_of jobs intervals (shares_in jobs shares.now)) plan.old }
 {
     let mut next = 0;
-    let mut interval = 0;
-    while interval < intervals {
+    for interval in 0..intervals {
         let set = job_sets::set_at(sets, interval);
         next = write_interval(shares, set, jobs, interval, count, next, plan);
-        interval += 1;
     }
 }
 
@@ -75,11 +73,11 @@ fn write_interval(
 {
     let mut next = first;
     let mut rest = set;
-    while !job_sets::is_empty(rest) {
-        let job = job_sets::least(rest);
+    while !rest.is_empty() {
+        let job = rest.least();
         write_share(shares, jobs, interval, job, count, next, plan);
         next += 1;
-        rest = job_sets::without(rest, job);
+        rest = rest.without(job);
     }
     next
 }

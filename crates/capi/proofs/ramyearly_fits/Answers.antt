@@ -1,10 +1,10 @@
--- `ramyearly_fits` meets its contract: each case of the answer becomes its struct. Assumes nothing.
-use Rattle.capi.proofs.Cases.{plan_fits, plan_refused}
+-- `ramyearly_fits` meets its contract: the answer becomes its struct, and so does a refusal. Assumes nothing.
 use mathlib.Core.Path.{◌∙◌, sym}
+use Rattle.capi.proofs.Cases.{plan_fits, plan_refused}
 use Rattle.capi.proofs.ramyearly_fits.Goals as goal
 
-pub returns-in-Fits : goal.returns-in-Fits
-returns-in-Fits c = plan_fits _ _ _ _ _ _ (sym c.in-Fits.is ∙ c.fits-answer.ensures)
+pub returns-in-Ok : goal.returns-in-Ok
+returns-in-Ok c = plan_fits _ _ _ _ _ _ (sym c.in-Ok.is ∙ c.fits.ensures)
 
-pub returns-in-Refused : goal.returns-in-Refused
-returns-in-Refused c = plan_refused _ _ _ _ _ _ _ (sym c.in-Refused.is ∙ c.fits-answer.ensures)
+pub returns-in-Err : goal.returns-in-Err
+returns-in-Err c = rw c.number.ensures (plan_refused _ _ _ _ _ _ (sym c.in-Err.is ∙ c.fits.ensures))

@@ -2,95 +2,92 @@ use mathlib.Core.Path.{◌≡◌, refl, sym, ◌∙◌}
 use mathlib.Core.List.{List}
 use Prim.Native.Nat.{ℕ, ◌+◌, ◌<◌, ◌^◌}
 use native.Mathlib.Omega.{arith}
-use lib.ListN.{length, length-replicate, length-set}
-use Rattle.model.specs.Limits.{max_jobs, max_bounds}
+use lib.ListN.{length, take, length-append, length-replicate, length-set, length-take}
+use Rattle.model.specs.Limits.{max_bounds}
 use Rattle.model.proofs.Sum.{sum_longer}
 use Rattle.workloads.specs.Arrays.{numbers_in}
 use Rattle.workloads.proofs.StoredNumbers.{zeros}
 use Rattle.due_cycles.specs.Due.{due_at}
 use Rattle.due_cycles.proofs.DueSums.{due_none, due_take, due_most, due_store}
+use Rattle.std.proofs.Common.{rules}
+use Rattle.std.proofs.lemmas.List.{get_or-take}
+use Rattle.std.proofs.lemmas.Slice.Zip.{zip_turn, zip_end}
 use Rattle.due_cycles.proofs.add_due.Goals as goal
-use Rattle.due_cycles.proofs.add_due.Goals.{After-way_told-1}
+use Rattle.due_cycles.proofs.add_due.Goals.{In-Some}
 
-pub loop-job-init : goal.loop-job-init
-loop-job-init c =
+pub loop-bound-init : goal.loop-bound-init
+loop-bound-init c =
     let a = c.args in
     let start = c.requires.due_value in (
-      omega arith,
+      (tt, tt),
+      tt,
       rw start (length-replicate {A = ℕ} max_bounds 0),
       λ b. rw start (zeros max_bounds b) ∙ sym (due_none (numbers_in a.last.now) (numbers_in a.cycles.now) b),
     )
 
--- what this turn knows: there is a place for the job and for its bound, and what is due there with its cycles fits 32 bits
-record Turn (job : ℕ) (last cycles : ℕ → ℕ) (due : List ℕ) : Type 0 where
-  pub job_small : job < max_jobs
-  pub bound-small : last job < max_bounds
-  pub next : numbers_in due (last job) + cycles job ≡ due_at (job + 1) last cycles (last job)
-  pub next_small : numbers_in due (last job) + cycles job < 2 ^ 32
+-- what this turn knows: its pair is the next job's, there is a place for its bound, and what is due there with its cycles fits 32 bits
+record Turn (job bound amount : ℕ) (last cycles : ℕ → ℕ) (due : List ℕ) : Type 0 where
+  pub bound-is : bound ≡ last job
+  pub bound-small : bound < max_bounds
+  pub next : numbers_in due bound + amount ≡ due_at (job + 1) last cycles bound
+  pub next_small : numbers_in due bound + amount < 2 ^ 32
 
-turn-knows : (c : After-way_told-1) → let a = c.args in
-    Turn c.loop-job.job (numbers_in a.last.now) (numbers_in a.cycles.now) c.loop-job.due
+turn-knows : (c : In-Some) → let a = c.args in
+    Turn (length c.loop-bound.yielded) c.in-Some.field-0-0.now c.in-Some.field-0-1.now (numbers_in a.last.now) (numbers_in a.cycles.now) c.loop-bound.due
 turn-knows c =
+    let a = c.args in
     let known = c.requires.jobs_le_max_jobs in
-    let last = numbers_in c.args.last.now in
-    let cycles = numbers_in c.args.cycles.now in
-    let job = c.loop-job.job in
-    let below : job < c.args.jobs = c.loop-job-test.true in
-    let more = sum_longer {k = job + 1} {n = c.args.jobs} cycles (omega (arith, below)) in
-    let is-next : numbers_in c.loop-job.due (last job) + cycles job ≡ due_at (job + 1) last cycles (last job) =
-    omega (arith, c.loop-job.invariant.2 (last job), due_take last cycles (last job) job refl) in
-    record {
-      job_small = omega (arith, known.0);
+    let last = numbers_in a.last.now in
+    let cycles = numbers_in a.cycles.now in
+    let job = length c.loop-bound.yielded in
+    let (inside, inside-cycles, is-last, is-cycles) =
+    zip_turn (take a.jobs a.last.now) (take a.jobs a.cycles.now) c.loop-bound.yielded c.into_iter-bound-iterator.result c.loop-bound.bound-iterator c.next.new.self c.next.result
+    (search rules) (search rules) c.loop-bound.yielded_by (c.in-Some.field-0-0, c.in-Some.field-0-1) c.in-Some.is c.next.ensures.steps in
+    let below : job < a.jobs = omega (arith, inside, length-take a.jobs a.last.now) in
+    let bound-is : c.in-Some.field-0-0.now ≡ last job = is-last 0 ∙ get_or-take a.jobs a.last.now job 0 below in
+    let amount-is : c.in-Some.field-0-1.now ≡ cycles job = is-cycles 0 ∙ get_or-take a.jobs a.cycles.now job 0 below in
+    let more = sum_longer {k = job + 1} {n = a.jobs} cycles (omega (arith, below)) in
+    let is-next : numbers_in c.loop-bound.due (last job) + cycles job ≡ due_at (job + 1) last cycles (last job) =
+    omega (arith, c.loop-bound.invariant.3 (last job), due_take last cycles (last job) job refl) in
+    rw (bound-is, amount-is) record {
+      bound-is = refl;
       bound-small = omega (arith, known.2 job below);
       next = is-next;
       next_small = omega (arith, known.1, due_most (job + 1) last cycles (last job), more);
     }
 
-pub bounds-last-job : goal.bounds-last-job
-bounds-last-job c = (turn-knows (goal.at.bounds-last-job c).After-way_told-1).job_small
-
-pub overflow_cast-bound : goal.overflow_cast-bound
-overflow_cast-bound c = omega (arith, (turn-knows (goal.at.overflow_cast-bound c).After-way_told-1).bound-small)
-
-pub offset_bounds-cycles-job : goal.offset_bounds-cycles-job
-offset_bounds-cycles-job c = omega (arith, (turn-knows (goal.at.offset_bounds-cycles-job c).After-way_told-1).job_small)
-
-pub bounds-cycles-job : goal.bounds-cycles-job
-bounds-cycles-job c = (turn-knows (goal.at.bounds-cycles-job c).After-way_told-1).job_small
-
 pub overflow_cast-due : goal.overflow_cast-due
-overflow_cast-due c = omega (arith, (turn-knows (goal.at.overflow_cast-due c).After-way_told-1).next_small)
-
-pub offset_bounds-due-bound : goal.offset_bounds-due-bound
-offset_bounds-due-bound c = omega (arith, (turn-knows (goal.at.offset_bounds-due-bound c).After-way_told-1).bound-small)
+overflow_cast-due c = omega (arith, (turn-knows (goal.at.overflow_cast-due c).In-Some).next_small)
 
 pub bounds-due-bound : goal.bounds-due-bound
-bounds-due-bound c = (turn-knows (goal.at.bounds-due-bound c).After-way_told-1).bound-small
+bounds-due-bound c = (turn-knows (goal.at.bounds-due-bound c).In-Some).bound-small
 
 pub overflow_add-due : goal.overflow_add-due
-overflow_add-due c = omega (arith, (turn-knows (goal.at.overflow_add-due c).After-way_told-1).next_small)
+overflow_add-due c = omega (arith, (turn-knows (goal.at.overflow_add-due c).In-Some).next_small)
 
-pub bounds-due-bound-in-loop-job : goal.bounds-due-bound-in-loop-job
-bounds-due-bound-in-loop-job c = (turn-knows (goal.at.bounds-due-bound-in-loop-job c).After-way_told-1).bound-small
+pub bounds-due-bound-in-loop-bound : goal.bounds-due-bound-in-loop-bound
+bounds-due-bound-in-loop-bound c = (turn-knows (goal.at.bounds-due-bound-in-loop-bound c).In-Some).bound-small
 
-pub overflow_add-job : goal.overflow_add-job
-overflow_add-job c = omega (arith, (turn-knows (goal.at.overflow_add-job c).After-way_told-1).job_small)
-
-pub loop-job-smaller : goal.loop-job-smaller
-loop-job-smaller c = omega (arith, c.loop-job-test.true)
-
-pub loop-job-preserved : goal.loop-job-preserved
-loop-job-preserved c =
-    let turn = turn-knows (goal.at.loop-job-preserved c).After-way_told-1 in
-    let last = numbers_in c.args.last.now in
-    let cycles = numbers_in c.args.cycles.now in
-    let inside : last c.loop-job.job < length c.loop-job.due = omega (arith, turn.bound-small, c.loop-job.invariant.1) in (
-      omega (arith, c.loop-job-test.true),
-      length-set c.loop-job.due _ _ ∙ c.loop-job.invariant.1,
-      due_store last cycles c.loop-job.job c.loop-job.due _ inside c.loop-job.invariant.2 turn.next,
+pub loop-bound-preserved : goal.loop-bound-preserved
+loop-bound-preserved c =
+    let turn = turn-knows (goal.at.loop-bound-preserved c).In-Some in
+    let a = c.args in
+    let inv = c.loop-bound.invariant in
+    let last = numbers_in a.last.now in
+    let cycles = numbers_in a.cycles.now in
+    let job = length c.loop-bound.yielded in
+    let inside : last job < length c.loop-bound.due = omega (arith, turn.bound-small, turn.bound-is, inv.2) in (
+      (tt, tt),
+      tt,
+      length-set c.loop-bound.due _ _ ∙ inv.2,
+      rw (turn.bound-is, length-append c.loop-bound.yielded _) (due_store last cycles job c.loop-bound.due _ inside inv.3 (rw turn.bound-is at turn.next)),
     )
 
 pub returns : goal.returns
 returns c =
-    let all : c.loop-job.job ≡ c.args.jobs = omega (arith, c.loop-job.invariant.0, c.loop-job-test.false) in
-    (c.loop-job.invariant.1, rw all at c.loop-job.invariant.2)
+    let a = c.args in
+    let all =
+    zip_end (take a.jobs a.last.now) (take a.jobs a.cycles.now) c.loop-bound.yielded c.into_iter-bound-iterator.result c.loop-bound.bound-iterator c.next.new.self c.next.result
+    (search rules) (search rules) c.loop-bound.yielded_by c.in-None.is c.next.ensures.steps in
+    let done : length c.loop-bound.yielded ≡ a.jobs = omega (arith, all, length-take a.jobs a.last.now, length-take a.jobs a.cycles.now, c.requires.jobs_le_max_jobs) in
+    (c.loop-bound.invariant.2, rw done at c.loop-bound.invariant.3)

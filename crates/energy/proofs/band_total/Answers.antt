@@ -12,33 +12,9 @@ pub loop-i-init : goal.loop-i-init
 unfolding sum
 loop-i-init c = (omega arith, refl)
 
-pub overflow_add-i : goal.overflow_add-i
-overflow_add-i c = omega arith
-
-pub overflow_add-i-in-loop-i : goal.overflow_add-i-in-loop-i
-overflow_add-i-in-loop-i c = omega arith
-
-pub offset_bounds-times-i : goal.offset_bounds-times-i
-offset_bounds-times-i c = omega arith
-
-pub bounds-times-i : goal.bounds-times-i
-bounds-times-i c = omega arith
-
-pub offset_bounds-times-i-in-loop-i : goal.offset_bounds-times-i-in-loop-i
-offset_bounds-times-i-in-loop-i c = omega arith
-
-pub bounds-times-i-in-loop-i : goal.bounds-times-i-in-loop-i
-bounds-times-i-in-loop-i c = omega arith
-
 pub overflow_sub-times : goal.overflow_sub-times
 overflow_sub-times c =
     omega (arith, bound_rises _ _ c.requires.small_bounds c.loop-i.i (omega arith))
-
-pub offset_bounds-loads-i : goal.offset_bounds-loads-i
-offset_bounds-loads-i c = omega arith
-
-pub bounds-loads-i : goal.bounds-loads-i
-bounds-loads-i c = omega arith
 
 pub band_cycles-total-requires : goal.band_cycles-total-requires
 band_cycles-total-requires c =
@@ -62,12 +38,6 @@ overflow_add-total c =
       more (goal.at.overflow_add-total c).After-band_cycles-total,
       cycles_few _ _ c.requires.small_bounds args.loads.now args.lower args.gap (c.loop-i.i + 1) (omega arith),
     )
-
-pub overflow_add-i-in-loop-i-2 : goal.overflow_add-i-in-loop-i-2
-overflow_add-i-in-loop-i-2 c = omega arith
-
-pub loop-i-smaller : goal.loop-i-smaller
-loop-i-smaller c = omega arith
 
 pub loop-i-preserved : goal.loop-i-preserved
 loop-i-preserved c = (omega arith, more (goal.at.loop-i-preserved c).After-band_cycles-total)

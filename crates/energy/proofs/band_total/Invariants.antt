@@ -10,6 +10,3 @@ use Rattle.energy.proofs.band_total.Given as goal
 abbrev pub invariant-loop-i : goal.invariant-loop-i
 invariant-loop-i l =
     (l.i ≤ l.bounds - 1) × (l.total ≡ sum l.i (cycles_in (take l.bounds l.times) l.loads l.lower l.gap))
-
-abbrev pub decreases-loop-i : goal.decreases-loop-i
-decreases-loop-i l = l.bounds - l.i

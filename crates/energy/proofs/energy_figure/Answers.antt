@@ -5,34 +5,16 @@ use Rattle.energy.proofs.BandTables.{power_high, frequency_steps, power_steps, e
 use Rattle.energy.proofs.energy_figure.Goals as goal
 use Rattle.energy.proofs.energy_figure.Goals.{In-loop-k}
 
-pub overflow_sub-last : goal.overflow_sub-last
-overflow_sub-last c = omega (arith, table_some _ c.requires.small_points)
-
-pub bounds-working-0 : goal.bounds-working-0
-bounds-working-0 c = omega arith
-
 pub idle_energy-figure-requires : goal.idle_energy-figure-requires
 idle_energy-figure-requires c =
     record { small_bounds = c.requires.small_bounds; idle_power_le_max_power = power_high _ c.requires.small_points 0 (omega (arith, table_some _ c.requires.small_points)) }
 
+pub overflow_sub-k-end : goal.overflow_sub-k-end
+overflow_sub-k-end c = omega (arith, table_some _ c.requires.small_points)
+
 pub loop-k-init : goal.loop-k-init
 loop-k-init c =
     (omega arith, figure_none _ c.requires.small_points _ _ _ _ c.requires.small_bounds c.idle_energy-figure.ensures)
-
-pub offset_bounds-working-k : goal.offset_bounds-working-k
-offset_bounds-working-k c = omega arith
-
-pub bounds-working-k : goal.bounds-working-k
-bounds-working-k c = omega arith
-
-pub overflow_add-upper : goal.overflow_add-upper
-overflow_add-upper c = omega arith
-
-pub offset_bounds-working-k-in-loop-k : goal.offset_bounds-working-k-in-loop-k
-offset_bounds-working-k-in-loop-k c = omega arith
-
-pub bounds-working-k-in-loop-k : goal.bounds-working-k-in-loop-k
-bounds-working-k-in-loop-k c = omega arith
 
 -- the band's upper end stands in the table
 inside : (c : In-loop-k) → c.loop-k.k + 1 < c.args.working.count
@@ -41,21 +23,6 @@ inside c = omega arith
 pub overflow_sub-gap : goal.overflow_sub-gap
 overflow_sub-gap c =
     omega (arith, frequency_steps _ c.requires.small_points _ (inside (goal.at.overflow_sub-gap c).In-loop-k))
-
-pub overflow_add-power : goal.overflow_add-power
-overflow_add-power c = omega arith
-
-pub offset_bounds-working-k-in-loop-k-2 : goal.offset_bounds-working-k-in-loop-k-2
-offset_bounds-working-k-in-loop-k-2 c = omega arith
-
-pub bounds-working-k-in-loop-k-2 : goal.bounds-working-k-in-loop-k-2
-bounds-working-k-in-loop-k-2 c = omega arith
-
-pub offset_bounds-working-k-in-loop-k-3 : goal.offset_bounds-working-k-in-loop-k-3
-offset_bounds-working-k-in-loop-k-3 c = omega arith
-
-pub bounds-working-k-in-loop-k-3 : goal.bounds-working-k-in-loop-k-3
-bounds-working-k-in-loop-k-3 c = omega arith
 
 pub overflow_sub-rise : goal.overflow_sub-rise
 overflow_sub-rise c =
@@ -77,12 +44,6 @@ pub overflow_add-figure : goal.overflow_add-figure
 overflow_add-figure c =
     let next = figure_more _ c.requires.small_points _ (inside (goal.at.overflow_add-figure c).In-loop-k) _ _ _ _ c.band_total.ensures c.requires.small_bounds _ c.loop-k.invariant.1 in
     omega (arith, next.small)
-
-pub overflow_add-k : goal.overflow_add-k
-overflow_add-k c = omega arith
-
-pub loop-k-smaller : goal.loop-k-smaller
-loop-k-smaller c = omega arith
 
 pub loop-k-preserved : goal.loop-k-preserved
 loop-k-preserved c =

@@ -8,7 +8,4 @@ use Rattle.energy.proofs.energy_figure.Given as goal
 
 abbrev pub invariant-loop-k : goal.invariant-loop-k
 invariant-loop-k l =
-    (l.k ≤ l.last) × FigureUpTo (points_of l.working) (take l.bounds l.times) l.loads l.k l.figure
-
-abbrev pub decreases-loop-k : goal.decreases-loop-k
-decreases-loop-k l = l.last - l.k
+    (l.k ≤ l.working.count - 1) × FigureUpTo (points_of l.working) (take l.bounds l.times) l.loads l.k l.figure

@@ -1,10 +1,13 @@
 -- `checking::check_site` meets its contract: what the first half refuses is refused, and otherwise the second goes on with what it left.
 -- Assumes nothing.
-use mathlib.Core.Path.{refl, sym, ◌∙◌}
+use mathlib.Core.Path.{refl, sym, ◌∙◌, ap}
 use lib.ListN.{replicate}
+use Rattle.std.specs.Prelude.{is_ok}
+use Rattle.std.proofs.lemmas.Result.{err_from_is_err_and}
 use Rattle.model.specs.Limits.{max_intervals}
 use Rattle.job_records.proofs.SetsHave.{no-jobs}
-use Rattle.audit.proofs.SecondHalf.{refused_accepted, check_refused, check_continued}
+use Rattle.fitting.proofs.Verdicts.{refused_passes}
+use Rattle.audit.proofs.SecondHalf.{check_refused, check_continued}
 use Rattle.audit.proofs.checking.check_site.Goals as goal
 
 pub fit_site-first-requires : goal.fit_site-first-requires
@@ -14,20 +17,23 @@ fit_site-first-requires c =
 pub check_prices-requires : goal.check_prices-requires
 check_prices-requires c =
     let (site, valid, holds) = c.requires.0 in
-    (site, c.fit_site-first.ensures.left _ c.in-Fits.is site valid holds)
+    (site, c.fit_site-first.ensures.left (ap is_ok c.in_ok-first.was) site valid holds)
 
-pub returns-in-Refused : goal.returns-in-Refused
-returns-in-Refused c = record {
-  value = λ site valid holds.
-      check_refused site _ _ _ _ (sym c.in-Refused.is ∙ c.fit_site-first.ensures.judged site valid holds);
-  by_index = λ energy. refused_accepted;
-}
-
-pub returns-in-Fits : goal.returns-in-Fits
-returns-in-Fits c =
-    let answered = c.fit_site-first.ensures in
-    let fits = c.in-Fits.is in record {
+pub returns-in_err-first : goal.returns-in_err-first
+returns-in_err-first c =
+    let told = err_from_is_err_and c.from_residual.result c.from_residual.ensures.1 in
+    record {
       value = λ site valid holds.
-          rw (check_continued site _ _ _ (sym fits ∙ answered.judged site valid holds)) (c.check_prices.ensures site (answered.left _ fits site valid holds));
-      by_index = λ energy accepted. answered.seen _ fits;
+          rw (told.1, told.2) (check_refused site _ _ _ (sym c.in_err-first.was ∙ c.fit_site-first.ensures.judged site valid holds));
+      cells_seen = rw told.1 refused_passes;
+    }
+
+pub returns : goal.returns
+returns c =
+    let answered = c.fit_site-first.ensures in
+    let fits = c.in_ok-first.was in record {
+      value = λ site valid holds.
+          rw (check_continued site _ _ _ (sym fits ∙ answered.judged site valid holds))
+          (c.check_prices.ensures site (answered.left (ap is_ok fits) site valid holds));
+      cells_seen = λ accepted. answered.seen (ap is_ok fits);
     }

@@ -9,7 +9,7 @@ use Rattle.workloads.proofs.SharesTable.{kept_refl}
 use Rattle.filling.specs.OwnWindows.{CanFillRange}
 use Rattle.filling.proofs.OwnIntervals.{own_small, own_job, own_place, own_room, own_share, own_kept, own_filled}
 use Rattle.filling.proofs.window.fill_interval.Goals as goal
-use Rattle.filling.proofs.window.fill_interval.Goals.{After-row_known-1, After-slice_known-1, then-free-turn, else-free-turn}
+use Rattle.filling.proofs.window.fill_interval.Goals.{After-min-amount, After-slice_known-1}
 
 -- the job is being placed
 abbrev Places : (c : After-slice_known-1) → (work : Workload) → (band : ℕ) → (prices lefts : ℕ → ℕ) → Type 0
@@ -34,33 +34,25 @@ pub returns-then-free-eq0 : goal.returns-then-free-eq0
 returns-then-free-eq0 c = λ work band prices lefts can. (kept_refl _ _, can.tables)
 
 -- the amount is at most what is left, and at most the room
-within : (c : After-row_known-1) → c.if-free-turn.amount ≤ c.args.turn.left
-within c =
-    elim c.if-free-turn.branch [
-      | then-free-turn w ↦ omega (arith, w.if-free-turn.true, w.amount-is)
-      | else-free-turn w ↦ omega (arith, w.amount-is)
-    ]
+within : (c : After-min-amount) → c.min-amount.result ≤ c.args.turn.left
+within c = omega (arith, c.min-amount.ensures)
 
-most : (c : After-row_known-1)
+most : (c : After-min-amount)
     → let a = c.args in
-    c.if-free-turn.amount ≤ numbers_in a.room.now a.interval
-most c =
-    elim c.if-free-turn.branch [
-      | then-free-turn w ↦ omega (arith, w.amount-is)
-      | else-free-turn w ↦ omega (arith, w.if-free-turn.false, w.amount-is)
-    ]
+    c.min-amount.result ≤ numbers_in a.room.now a.interval
+most c = omega (arith, c.min-amount.ensures)
 
 pub overflow_cast-amount : goal.overflow_cast-amount
 overflow_cast-amount c =
-    omega (arith, most (goal.at.overflow_cast-amount c).After-row_known-1, own_room c.requires.range_fill.4.tables (is_open_true (goal.at.overflow_cast-amount c).After-slice_known-1 c.requires.range_fill.0 c.requires.range_fill.4))
+    omega (arith, most (goal.at.overflow_cast-amount c).After-min-amount, own_room c.requires.range_fill.4.tables (is_open_true (goal.at.overflow_cast-amount c).After-slice_known-1 c.requires.range_fill.0 c.requires.range_fill.4))
 
 pub put-requires : goal.put-requires
 put-requires c =
     let tables = c.requires.range_fill.4.tables in
-    let here = is_open_true (goal.at.put-requires c).After-slice_known-1 c.requires.range_fill.0 c.requires.range_fill.4 in record { job_in_bounds = (own_place tables here, omega (arith, own_share tables here, most (goal.at.put-requires c).After-row_known-1, own_room tables here)); interval_lt_max_intervals = (own_small tables here, own_job tables here, tables.stored.holding.holders_length) }
+    let here = is_open_true (goal.at.put-requires c).After-slice_known-1 c.requires.range_fill.0 c.requires.range_fill.4 in record { job_in_bounds = (own_place tables here, omega (arith, own_share tables here, most (goal.at.put-requires c).After-min-amount, own_room tables here)); interval_lt_max_intervals = (own_small tables here, own_job tables here, tables.stored.holding.holders_length) }
 
 pub overflow_sub-room : goal.overflow_sub-room
-overflow_sub-room c = most (goal.at.overflow_sub-room c).After-row_known-1
+overflow_sub-room c = most (goal.at.overflow_sub-room c).After-min-amount
 
 pub offset_bounds-room-interval-2 : goal.offset_bounds-room-interval-2
 offset_bounds-room-interval-2 c = omega (arith, small (goal.at.offset_bounds-room-interval-2 c).After-slice_known-1)
@@ -69,17 +61,13 @@ pub bounds-room-interval-2 : goal.bounds-room-interval-2
 bounds-room-interval-2 c = small (goal.at.bounds-room-interval-2 c).After-slice_known-1
 
 pub overflow_sub-result : goal.overflow_sub-result
-overflow_sub-result c = within (goal.at.overflow_sub-result c).After-row_known-1
+overflow_sub-result c = within (goal.at.overflow_sub-result c).After-min-amount
 
 pub returns : goal.returns
 returns c = λ work band prices lefts can.
     let here = is_open_true (goal.at.returns c).After-slice_known-1 work can in
     let put = c.put.ensures in
-    let some : 0 < c.if-free-turn.amount =
-    elim c.if-free-turn.branch [
-      | then-free-turn w ↦ omega (arith, w.amount-is, c.if-free-eq0.false)
-      | else-free-turn w ↦ omega (arith, w.amount-is, c.requires.left_nonzero)
-    ] in (
-      own_kept can.tables here some (within (goal.at.returns c).After-row_known-1) (most (goal.at.returns c).After-row_known-1) put.0 put.1,
-      own_filled can.tables here some (within (goal.at.returns c).After-row_known-1) (most (goal.at.returns c).After-row_known-1) put.0 put.1,
+    let some : 0 < c.min-amount.result = omega (arith, c.min-amount.ensures, c.if-free-eq0.false, c.requires.left_nonzero) in (
+      own_kept can.tables here some (within (goal.at.returns c).After-min-amount) (most (goal.at.returns c).After-min-amount) put.0 put.1,
+      own_filled can.tables here some (within (goal.at.returns c).After-min-amount) (most (goal.at.returns c).After-min-amount) put.0 put.1,
     )

@@ -1,7 +1,6 @@
 use mathlib.Core.Path.{◌≡◌}
 use mathlib.Core.Bool.{true}
 use Prim.Native.Nat.{ℕ, ◌*◌, ◌<◌}
-use native.Mathlib.Omega.{arith}
 use Rattle.job_sets.specs.JobSets.{is_member}
 use Rattle.workloads.specs.Arrays.{lent_windows, KeptPast}
 use Rattle.workloads.proofs.SharesTable.{kept_refl, kept_trans}
@@ -33,13 +32,6 @@ pub fill_set-requires : goal.fill_set-requires
 fill_set-requires c =
     let known = c.requires.windows_pass in
     record { windows_pass = (known.0, known.1, known.2, (own (goal.at.fill_set-requires c).At-loop-interval).1); by_index = all-jobs (goal.at.fill_set-requires c).After-fill_set-arg-in-loop-interval-3-1 }
-
-pub overflow_add-interval : goal.overflow_add-interval
-overflow_add-interval c =
-    omega (arith, c.loop-interval-test.true, c.requires.intervals_le_max_intervals)
-
-pub loop-interval-smaller : goal.loop-interval-smaller
-loop-interval-smaller c = omega (arith, c.loop-interval-test.true)
 
 pub loop-interval-preserved : goal.loop-interval-preserved
 loop-interval-preserved c = λ work band prices tables.

@@ -44,13 +44,6 @@ pub fill_interval-left-requires : goal.fill_interval-left-requires
 fill_interval-left-requires c =
     let known = c.requires in record { range_fill = (known.0, known.1, known.2, known.3, can_fill (goal.at.fill_interval-left-requires c).In-loop-interval known.0 known.1 known.2 known.3 known.4); left_nonzero = omega (arith, c.if-left-eq0.false) }
 
-pub overflow_add-interval : goal.overflow_add-interval
-overflow_add-interval c =
-    omega (arith, c.loop-interval-test.true, c.ranges.end)
-
-pub loop-interval-smaller : goal.loop-interval-smaller
-loop-interval-smaller c = omega (arith, c.loop-interval-test.true)
-
 pub loop-interval-preserved : goal.loop-interval-preserved
 loop-interval-preserved c = (
   omega (arith, c.loop-interval.invariant.0),

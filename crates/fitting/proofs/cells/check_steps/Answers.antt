@@ -15,7 +15,7 @@ use Rattle.fitting.proofs.cells.check_steps.Goals.{Else-wrong_length}
 
 pub returns-then-wrong_length : goal.returns-then-wrong_length
 unfolding stepping_in
-returns-then-wrong_length c = record { value = rw (sym c.wrong_length.ensures ∙ c.if-wrong_length.true); cells_seen = refused_passes }
+returns-then-wrong_length c = record { value = rw (c.at.ensures, sym c.wrong_length.ensures ∙ c.if-wrong_length.true); cells_seen = refused_passes }
 
 -- past the refusal 15 the plan has the right length
 right : (c : Else-wrong_length) → wrong_plan_length c.args.plan.now ≡ false
@@ -33,7 +33,7 @@ returns-then-number16-interval_count c =
     let a = c.args in
     let other : plan_intervals a.plan.now ≡ a.bounds - 1 → ⊥ =
     λ e. c.if-number16-interval_count.true (c.number16.ensures.0 ∙ e ∙ sym c.interval_count.ensures) in
-    record { value = rw (right (goal.at.returns-then-number16-interval_count c).Else-wrong_length, ne_eqb (plan_intervals a.plan.now) (a.bounds - 1) other); cells_seen = refused_passes }
+    record { value = rw (c.at-then-number16-interval_count.ensures, right (goal.at.returns-then-number16-interval_count c).Else-wrong_length, ne_eqb (plan_intervals a.plan.now) (a.bounds - 1) other); cells_seen = refused_passes }
 
 pub mark_steps-requires : goal.mark_steps-requires
 mark_steps-requires c =

@@ -5,13 +5,16 @@ use native.Mathlib.Omega.{arith}
 use lib.ListN.{get_or}
 use borrow.Author.Count.{below_none, below_more}
 use borrow.Author.Tests.{le-leb, lt-leb}
+use Rattle.std.specs.Prelude.{Some}
+use Rattle.model.specs.declared.refusal.Fault.TheVariants.{IntervalLoad}
+use Rattle.model.specs.Refusals.{fault_of}
 use Rattle.fitting.specs.FirstHalf.{bounds_in, load_fault_in}
 use Rattle.fitting.proofs.BoundsIn.{length_in, bounds_rise, capacity_small}
 use Rattle.fitting.proofs.Verdicts.{verdict_stops, verdict_passes}
 use Rattle.fitting.proofs.fitting.check_loads.Goals as goal
 
 module _ (top : ℕ) (times : List ℕ) (bounds : ℕ) (loads : List ℕ) (i : ℕ) (below : i + 1 < bounds) where
-  loaded-past : (get_or times (i + 1) 0 - get_or times i 0) * top < get_or loads i 0 → 20 ≡ load_fault_in top (bounds_in bounds times) loads i
+  loaded-past : (get_or times (i + 1) 0 - get_or times i 0) * top < get_or loads i 0 → fault_of (load_fault_in top (bounds_in bounds times) loads i) ≡ Some IntervalLoad
   loaded-past past = rw (length_in bounds times i below, lt-leb (get_or loads i 0) _ past)
 
   loaded-within : get_or loads i 0 ≤ (get_or times (i + 1) 0 - get_or times i 0) * top → load_fault_in top (bounds_in bounds times) loads i ≡ 0
@@ -23,14 +26,8 @@ loop-i-init c = (omega arith, below_none _)
 pub overflow_add-i : goal.overflow_add-i
 overflow_add-i c = omega (arith, c.requires.1.rising.few)
 
-pub offset_bounds-loads-i : goal.offset_bounds-loads-i
-offset_bounds-loads-i c = omega arith
-
 pub bounds-loads-i : goal.bounds-loads-i
 bounds-loads-i c = omega (arith, c.requires.1.rising.few)
-
-pub overflow_add-i-in-loop-i : goal.overflow_add-i-in-loop-i
-overflow_add-i-in-loop-i c = omega arith
 
 pub offset_bounds-times-i : goal.offset_bounds-times-i
 offset_bounds-times-i c = omega (arith, c.requires.1.rising.few)
@@ -46,34 +43,25 @@ bounds-times-i-in-loop-i c = omega (arith, c.requires.1.rising.few)
 
 pub overflow_sub-times : goal.overflow_sub-times
 overflow_sub-times c =
-    omega (arith, bounds_rise _ _ c.requires.1 _ c.loop-i-test.true)
+    omega (arith, bounds_rise _ _ c.requires.1 c.loop-i.i (omega arith))
 
 pub overflow_mul-times : goal.overflow_mul-times
 overflow_mul-times c =
-    omega (arith, capacity_small _ _ c.requires.1 _ c.loop-i-test.true _ c.requires.0)
-
-pub overflow_cast-result : goal.overflow_cast-result
-overflow_cast-result c = omega (arith, c.requires.1.rising.few)
+    omega (arith, capacity_small _ _ c.requires.1 c.loop-i.i (omega arith) _ c.requires.0)
 
 pub returns-then-loads-i : goal.returns-then-loads-i
 returns-then-loads-i c =
     let a = c.args in
-    verdict_stops _ _ _ _ c.loop-i.invariant.1 (omega arith)
-    (loaded-past a.top a.times.now a.bounds a.loads.now _ c.loop-i-test.true c.if-loads-i.true)
-    (λ e. omega arith)
-
-pub overflow_add-i-in-loop-i-2 : goal.overflow_add-i-in-loop-i-2
-overflow_add-i-in-loop-i-2 c = omega arith
-
-pub loop-i-smaller : goal.loop-i-smaller
-loop-i-smaller c = omega arith
+    rw c.at.ensures
+    (verdict_stops _ _ _ _ c.loop-i.invariant.1 (omega arith)
+    (loaded-past a.top a.times.now a.bounds a.loads.now c.loop-i.i (omega arith) c.if-loads-i.true))
 
 pub loop-i-preserved : goal.loop-i-preserved
 loop-i-preserved c =
     let a = c.args in (
       omega arith,
       below_more _ _ c.loop-i.invariant.1
-          (loaded-within a.top a.times.now a.bounds a.loads.now _ c.loop-i-test.true c.if-loads-i.false),
+          (loaded-within a.top a.times.now a.bounds a.loads.now c.loop-i.i (omega arith) c.if-loads-i.false),
     )
 
 pub returns : goal.returns

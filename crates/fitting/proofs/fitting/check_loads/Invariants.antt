@@ -7,6 +7,3 @@ use Rattle.fitting.proofs.fitting.check_loads.Given as goal
 abbrev pub invariant-loop-i : goal.invariant-loop-i
 invariant-loop-i l =
     (l.i ≤ l.bounds - 1) × ((k : ℕ) → k < l.i → load_fault_in l.top (bounds_in l.bounds l.times) l.loads k ≡ 0)
-
-abbrev pub decreases-loop-i : goal.decreases-loop-i
-decreases-loop-i l = l.bounds - l.i

@@ -7,20 +7,14 @@ use Rattle.fitting.proofs.Tallies.{tally_none, tally_more, tally_past, tally_who
 use Rattle.fitting.proofs.sums.add_steps.Goals as goal
 use Rattle.fitting.proofs.sums.add_steps.Goals.{then-interval-lt-MAX_INTERVALS, else-interval-lt-MAX_INTERVALS}
 
-pub step_count-count-requires : goal.step_count-count-requires
-step_count-count-requires c = c.requires.plan_len
+pub step_count-s-end-requires : goal.step_count-s-end-requires
+step_count-s-end-requires c = c.requires.plan_len
 
 pub loop-s-init : goal.loop-s-init
 loop-s-init c = let zeros = c.requires.sums_value in (omega arith, zeros.0 ∙ tally_none max_jobs _ _, zeros.1 ∙ tally_none max_intervals _ _)
 
 pub decode_step-step-requires : goal.decode_step-step-requires
 decode_step-step-requires c = (c.requires.plan_len, omega arith)
-
-pub offset_bounds-sums-job : goal.offset_bounds-sums-job
-offset_bounds-sums-job c = omega arith
-
-pub bounds-sums-job : goal.bounds-sums-job
-bounds-sums-job c = omega arith
 
 pub overflow_add-sums : goal.overflow_add-sums
 overflow_add-sums c =
@@ -30,15 +24,6 @@ overflow_add-sums c =
           _ _ _ _ _ c.loop-s.invariant.1 (omega arith) (omega arith) c.decode_step-step.ensures.3;
     }
 
-pub bounds-sums-job-in-loop-s : goal.bounds-sums-job-in-loop-s
-bounds-sums-job-in-loop-s c = omega arith
-
-pub offset_bounds-loads-interval : goal.offset_bounds-loads-interval
-offset_bounds-loads-interval c = omega arith
-
-pub bounds-loads-interval : goal.bounds-loads-interval
-bounds-loads-interval c = omega arith
-
 pub overflow_add-loads : goal.overflow_add-loads
 overflow_add-loads c =
     record {
@@ -46,15 +31,6 @@ overflow_add-loads c =
           cycles_room _ (λ place. search rules) max_intervals
           _ _ _ _ _ c.loop-s.invariant.2 (omega arith) (omega arith) c.decode_step-step.ensures.3;
     }
-
-pub bounds-loads-interval-then-interval-lt-MAX_INTERVALS : goal.bounds-loads-interval-then-interval-lt-MAX_INTERVALS
-bounds-loads-interval-then-interval-lt-MAX_INTERVALS c = omega arith
-
-pub overflow_add-s : goal.overflow_add-s
-overflow_add-s c = omega arith
-
-pub loop-s-smaller : goal.loop-s-smaller
-loop-s-smaller c = omega arith
 
 pub loop-s-preserved : goal.loop-s-preserved
 loop-s-preserved c =

@@ -18,14 +18,8 @@ few : (c : After-way_told-1)
     (get_or a.first.now j 0 ≤ max_intervals) × (get_or a.last.now j 0 ≤ max_intervals)
 few c = c.requires.by_index _ c.loop-j-test.true
 
-pub bounds-first-j : goal.bounds-first-j
-bounds-first-j c = omega arith
-
 pub overflow_cast-first : goal.overflow_cast-first
 overflow_cast-first c = omega (arith, (few (goal.at.overflow_cast-first c).After-way_told-1).0)
-
-pub bounds-last-j : goal.bounds-last-j
-bounds-last-j c = omega arith
 
 pub overflow_cast-last : goal.overflow_cast-last
 overflow_cast-last c = omega (arith, (few (goal.at.overflow_cast-last c).After-way_told-1).1)
@@ -33,12 +27,6 @@ overflow_cast-last c = omega (arith, (few (goal.at.overflow_cast-last c).After-w
 pub add_range-requires : goal.add_range-requires
 add_range-requires c =
     ((few (goal.at.add_range-requires c).After-way_told-1).1, omega arith, ap length c.loop-j.invariant.1 ∙ sets_size _)
-
-pub overflow_add-j : goal.overflow_add-j
-overflow_add-j c = omega arith
-
-pub loop-j-smaller : goal.loop-j-smaller
-loop-j-smaller c = omega arith
 
 pub loop-j-preserved : goal.loop-j-preserved
 loop-j-preserved c =

@@ -1,7 +1,7 @@
 -- `records::job_records` meets its contract. The loop's invariant: the records passed are those of the arrays. Assumes nothing.
 use mathlib.Core.Path.{◌≡◌}
 use mathlib.Core.List.{List}
-use Prim.Native.Nat.{ℕ, ◌-◌, ◌<◌, ◌≤◌}
+use Prim.Native.Nat.{ℕ, ◌<◌, ◌≤◌}
 use lib.ListN.{length, get_or}
 use Rattle.model.specs.declared.Job.{Job}
 use Rattle.model.specs.Limits.{max_jobs}
@@ -19,6 +19,3 @@ module _ (releases deadlines cycles : List ℕ) where
 
 abbrev pub invariant-loop-j : goal.invariant-loop-j
 invariant-loop-j l = (l.j ≤ l.count) × (length l.jobs ≡ max_jobs) × Filled l.releases l.deadlines l.cycles l.j l.jobs
-
-abbrev pub decreases-loop-j : goal.decreases-loop-j
-decreases-loop-j l = l.count - l.j

@@ -64,14 +64,6 @@ settle_rooms-requires c =
     let taken = c.loop-start.invariant.1 jobs bounds arrays fits in
     record { can_settle = rw (here-are (goal.at.settle_rooms-requires c).After-both-released) (can-settle arrays _ slow fits _ c.loop-start-test.true _ _ _ _ taken); due_len = (taken.due_size, taken.rooms_size) }
 
-pub overflow_add-start : goal.overflow_add-start
-overflow_add-start c =
-    let (jobs, bounds, arrays, fits) = c.requires.by_index in
-    omega (arith, c.loop-start-test.true, few-intervals arrays)
-
-pub loop-start-smaller : goal.loop-start-smaller
-loop-start-smaller c = omega (arith, c.loop-start-test.true)
-
 pub loop-start-preserved : goal.loop-start-preserved
 loop-start-preserved c =
     let slow = c.requires.top_le_max_frequency.0 in

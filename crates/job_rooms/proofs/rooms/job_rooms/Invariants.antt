@@ -2,7 +2,7 @@
 use mathlib.Core.Path.{◌≡◌}
 use mathlib.Core.List.{List}
 use mathlib.Core.Option.{none}
-use Prim.Native.Nat.{ℕ, ◌-◌, ◌≤◌}
+use Prim.Native.Nat.{ℕ, ◌≤◌}
 use Rattle.model.specs.declared.Job.{Job}
 use Rattle.model.specs.Windows.{earliest_overfull}
 use Rattle.job_rooms.specs.RoomArrays.{RoomArrays}
@@ -14,7 +14,3 @@ invariant-loop-start l =
     (l.start ≤ l.intervals)
     × ((jobs : List Job) (bounds : List ℕ) → RoomArrays jobs bounds l.times l.cycles l.sets l.last l.count l.intervals → earliest_overfull l.top jobs ≡ none
     → Taken l.top jobs bounds l.last l.cycles l.start l.from l.due l.spares l.rooms)
-
-abbrev pub decreases-loop-start : goal.decreases-loop-start
-decreases-loop-start l =
-    l.intervals - l.start

@@ -48,9 +48,6 @@ overflow_cast-end c = omega (arith, (turn-knows (goal.at.overflow_cast-end c).In
 pub least_among-requires : goal.least_among-requires
 least_among-requires c = ((turn-knows (goal.at.least_among-requires c).In-loop-rest _ c.least-job.ensures).end_in, (turn-knows (goal.at.least_among-requires c).In-loop-rest _ c.least-job.ensures).few)
 
-pub overflow_cast-rooms : goal.overflow_cast-rooms
-overflow_cast-rooms c = omega arith
-
 pub offset_bounds-rooms-job : goal.offset_bounds-rooms-job
 offset_bounds-rooms-job c = omega (arith, (turn-knows (goal.at.offset_bounds-rooms-job c).In-loop-rest _ c.least-job.ensures).job-few)
 

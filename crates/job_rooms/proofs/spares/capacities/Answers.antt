@@ -36,12 +36,6 @@ offset_bounds-capacity-i c = omega (arith, few (goal.at.offset_bounds-capacity-i
 pub bounds-capacity-i : goal.bounds-capacity-i
 bounds-capacity-i c = few (goal.at.bounds-capacity-i c).In-loop-i
 
-pub overflow_add-i : goal.overflow_add-i
-overflow_add-i c = omega arith
-
-pub loop-i-smaller : goal.loop-i-smaller
-loop-i-smaller c = omega arith
-
 pub loop-i-preserved : goal.loop-i-preserved
 loop-i-preserved c =
     let inv = c.loop-i.invariant in (

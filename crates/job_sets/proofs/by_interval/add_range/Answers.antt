@@ -8,9 +8,6 @@ loop-i-init c = (omega arith, omega arith, range_none c.requires.2)
 pub add-requires : goal.add-requires
 add-requires c = (omega arith, omega arith, c.loop-i.invariant.2.size)
 
-pub overflow_add-i : goal.overflow_add-i
-overflow_add-i c = omega arith
-
 pub loop-i-smaller : goal.loop-i-smaller
 loop-i-smaller c = omega arith
 

@@ -14,9 +14,6 @@ set_at-requires c = omega arith
 pub overflow_add-members : goal.overflow_add-members
 overflow_add-members c = omega (arith, count_most c.set_at.result, c.count-members.ensures)
 
-pub overflow_add-i : goal.overflow_add-i
-overflow_add-i c = omega arith
-
 pub loop-i-smaller : goal.loop-i-smaller
 loop-i-smaller c = omega arith
 

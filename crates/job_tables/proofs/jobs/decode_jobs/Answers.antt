@@ -5,13 +5,13 @@ use Rattle.job_tables.proofs.DecodedJobs.{decoded_refused, jobs_short, jobs_many
 use Rattle.job_tables.proofs.jobs.decode_jobs.Goals as goal
 
 pub returns-then-bytes-lt2 : goal.returns-then-bytes-lt2
-returns-then-bytes-lt2 c = decoded_refused 6 0 (jobs_short _ (omega arith))
+returns-then-bytes-lt2 c = rw c.at.ensures (decoded_refused 6 0 (jobs_short _ (omega arith)))
 
 pub returns-then-count-gt-MAX_JOBS : goal.returns-then-count-gt-MAX_JOBS
-returns-then-count-gt-MAX_JOBS c = decoded_refused 7 0 (jobs_many _ (omega arith) (omega arith))
+returns-then-count-gt-MAX_JOBS c = rw c.at-then-count-gt-MAX_JOBS.ensures (decoded_refused 7 0 (jobs_many _ (omega arith) (omega arith)))
 
 pub returns-then-bytes-count : goal.returns-then-bytes-count
-returns-then-bytes-count c = decoded_refused 8 0 (jobs_cut _ (omega arith) (omega arith) (λ e. omega arith))
+returns-then-bytes-count c = rw c.at-then-bytes-count.ensures (decoded_refused 8 0 (jobs_cut _ (omega arith) (omega arith) (λ e. omega arith)))
 
 pub returns : goal.returns
 returns c =

@@ -12,42 +12,12 @@ long c = windows_long c.args.releases.now c.args.deadlines.now _ _ _ c.loop-j.in
 pub loop-j-init : goal.loop-j-init
 loop-j-init c = (omega arith, windows_none c.args.releases.now c.args.deadlines.now _)
 
-pub overflow_mul-j : goal.overflow_mul-j
-overflow_mul-j c = omega arith
-
-pub overflow_add-j : goal.overflow_add-j
-overflow_add-j c = omega arith
-
-pub offset_bounds-releases-j : goal.offset_bounds-releases-j
-offset_bounds-releases-j c = omega arith
-
-pub bounds-releases-j : goal.bounds-releases-j
-bounds-releases-j c = omega arith
-
 pub put32-requires : goal.put32-requires
 put32-requires c = omega (arith, long (goal.at.put32-requires c).At-loop-j)
-
-pub overflow_mul-j-in-loop-j : goal.overflow_mul-j-in-loop-j
-overflow_mul-j-in-loop-j c = omega arith
-
-pub overflow_add-j-in-loop-j : goal.overflow_add-j-in-loop-j
-overflow_add-j-in-loop-j c = omega arith
-
-pub offset_bounds-deadlines-j : goal.offset_bounds-deadlines-j
-offset_bounds-deadlines-j c = omega arith
-
-pub bounds-deadlines-j : goal.bounds-deadlines-j
-bounds-deadlines-j c = omega arith
 
 pub put32-requires-in-loop-j : goal.put32-requires-in-loop-j
 put32-requires-in-loop-j c =
     omega (arith, long (goal.at.put32-requires-in-loop-j c).At-loop-j)
-
-pub overflow_add-j-in-loop-j-2 : goal.overflow_add-j-in-loop-j-2
-overflow_add-j-in-loop-j-2 c = omega arith
-
-pub loop-j-smaller : goal.loop-j-smaller
-loop-j-smaller c = omega arith
 
 pub loop-j-preserved : goal.loop-j-preserved
 loop-j-preserved c =

@@ -10,18 +10,6 @@ use Rattle.laying.proofs.laying.first_releases.Goals as goal
 pub loop-i-init : goal.loop-i-init
 loop-i-init c = (omega arith, first_none _)
 
-pub offset_bounds-next-i : goal.offset_bounds-next-i
-offset_bounds-next-i c = omega arith
-
-pub bounds-next-i : goal.bounds-next-i
-bounds-next-i c = omega arith
-
-pub overflow_add-i : goal.overflow_add-i
-overflow_add-i c = omega arith
-
-pub loop-i-smaller : goal.loop-i-smaller
-loop-i-smaller c = omega arith
-
 pub loop-i-preserved : goal.loop-i-preserved
 loop-i-preserved c = (
   omega arith,

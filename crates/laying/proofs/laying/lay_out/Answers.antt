@@ -26,11 +26,12 @@ loop-tick-init c =
     laying_start _ _ _ _ _ _ _ c.first_releases-next.ensures c.requires.job_arrays (of-all _ c.requires.round_read.tasks_read.table c.earliest-tick.ensures)
 
 pub returns-then-listed-gt-MAX_JOBS : goal.returns-then-listed-gt-MAX_JOBS
-returns-then-listed-gt-MAX_JOBS c = laying_stops _ _ _ _ _ _ _ _ c.loop-tick.invariant c.if-listed-gt-MAX_JOBS.true
+returns-then-listed-gt-MAX_JOBS c =
+    laying_stops _ _ _ _ _ _ _ _ c.loop-tick.invariant c.loop-tick-test.true _ _ _ _ c.release_at-listed.ensures.listed_jobs c.if-listed-gt-MAX_JOBS.true
 
 pub release_at-listed-requires : goal.release_at-listed-requires
 release_at-listed-requires c =
-    record { round_read = c.requires.round_read; tick_lt_multiple = (c.loop-tick-test.true, omega arith); next_releases = c.loop-tick.invariant.next-releases; job_arrays = c.loop-tick.invariant.arrays }
+    record { round_read = c.requires.round_read; tick_lt_multiple = (c.loop-tick-test.true, c.loop-tick.invariant.few); next_releases = c.loop-tick.invariant.next-releases; job_arrays = c.loop-tick.invariant.arrays }
 
 pub earliest-tick-requires-in-loop-tick : goal.earliest-tick-requires-in-loop-tick
 earliest-tick-requires-in-loop-tick c = c.requires.round_read.tasks_read.table.few
@@ -43,8 +44,8 @@ turn : (c : After-earliest-tick-in-loop-tick)
     × (c.loop-tick.tick < c.earliest-tick-in-loop-tick.result)
 turn c =
     let done = c.release_at-listed in
-    laying_next _ _ _ _ _ _ _ _ c.loop-tick.invariant c.loop-tick-test.true
-    _ _ _ _ _ _ done.ensures.next_releases_2 done.ensures.job_arrays_2 done.ensures.listed_jobs (of-all _ c.requires.round_read.tasks_read.table c.earliest-tick-in-loop-tick.ensures)
+    laying_next _ _ _ _ _ _ _ _ c.loop-tick.invariant c.loop-tick-test.true _ _ _ _ done.ensures.listed_jobs c.if-listed-gt-MAX_JOBS.false
+    _ _ done.ensures.next_releases_2 done.ensures.job_arrays_2 (of-all _ c.requires.round_read.tasks_read.table c.earliest-tick-in-loop-tick.ensures)
 
 pub loop-tick-smaller : goal.loop-tick-smaller
 loop-tick-smaller c = omega (arith, (turn (goal.at.loop-tick-smaller c).After-earliest-tick-in-loop-tick).1)

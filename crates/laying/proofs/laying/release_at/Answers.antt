@@ -11,12 +11,6 @@ use Rattle.laying.proofs.laying.release_at.Goals.{In-loop-i, then-next-i, else-n
 pub loop-i-init : goal.loop-i-init
 loop-i-init c = (omega arith, releasing_none _ _ _ _ _ _ _ c.requires.next_releases c.requires.job_arrays)
 
-pub offset_bounds-next-i : goal.offset_bounds-next-i
-offset_bounds-next-i c = omega arith
-
-pub bounds-next-i : goal.bounds-next-i
-bounds-next-i c = omega arith
-
 pub task_at-task-requires : goal.task_at-task-requires
 task_at-task-requires c = record { task_bytes = c.requires.round_read.tasks_read.table; i_lt_count = c.loop-i-test.true }
 
@@ -33,21 +27,9 @@ pub overflow_add-next : goal.overflow_add-next
 overflow_add-next c =
     omega (arith, c.requires.round_read.small, c.requires.tick_lt_multiple.0, (here (goal.at.overflow_add-next c).In-loop-i _ c.task_at-task.ensures).period_small)
 
-pub offset_bounds-next-i-then-next-i : goal.offset_bounds-next-i-then-next-i
-offset_bounds-next-i-then-next-i c = omega arith
-
-pub bounds-next-i-then-next-i : goal.bounds-next-i-then-next-i
-bounds-next-i-then-next-i c = omega arith
-
 pub overflow_add-jobs : goal.overflow_add-jobs
 overflow_add-jobs c =
     omega (arith, c.loop-i.invariant.1.few)
-
-pub overflow_add-i : goal.overflow_add-i
-overflow_add-i c = omega arith
-
-pub loop-i-smaller : goal.loop-i-smaller
-loop-i-smaller c = omega arith
 
 pub loop-i-preserved : goal.loop-i-preserved
 loop-i-preserved c =

@@ -14,6 +14,3 @@ invariant-loop-i l =
     × (l.i ≤ l.count)
     × (l.before ≡ entry_in l.count l.frequencies l.voltages (l.i - 1))
     × ((k : ℕ) → k < l.i → table_fault (levels_in l.count l.frequencies l.voltages) k ≡ 0)
-
-abbrev pub decreases-loop-i : goal.decreases-loop-i
-decreases-loop-i l = l.count - l.i

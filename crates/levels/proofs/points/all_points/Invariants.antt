@@ -16,6 +16,3 @@ invariant-loop-i l =
     × (l.count ≤ 8)
     × (l.table.count ≡ l.i - idle_entries (levels_in l.count l.frequencies l.voltages) + 1)
     × (l.table ≡ point_table (take (suc (l.i - idle_entries (levels_in l.count l.frequencies l.voltages))) (all_points (processor_of (levels_in l.count l.frequencies l.voltages)))))
-
-abbrev pub decreases-loop-i : goal.decreases-loop-i
-decreases-loop-i l = l.count - l.i

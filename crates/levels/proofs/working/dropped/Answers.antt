@@ -15,12 +15,6 @@ pub returns-then-dropped_from : goal.returns-then-dropped_from
 unfolding dropped
 returns-then-dropped_from c = sym (some_below_holds _ _ _ (omega arith) (sym c.dropped_from.ensures ∙ c.if-dropped_from.true))
 
-pub overflow_add-a : goal.overflow_add-a
-overflow_add-a c = omega arith
-
-pub loop-a-smaller : goal.loop-a-smaller
-loop-a-smaller c = omega arith
-
 pub loop-a-preserved : goal.loop-a-preserved
 loop-a-preserved c = (
   omega arith,

@@ -10,20 +10,8 @@ use Rattle.levels.proofs.Dropping.{in_order, drop_test}
 use Rattle.levels.proofs.working.dropped_from.Goals as goal
 use Rattle.levels.proofs.working.dropped_from.Goals.{After-drops, Start}
 
-pub point_at-lower-requires : goal.point_at-lower-requires
-point_at-lower-requires c = omega arith
-
-pub point_at-point-requires : goal.point_at-point-requires
-point_at-point-requires c = omega arith
-
-pub overflow_add-c : goal.overflow_add-c
-overflow_add-c c = omega arith
-
 pub loop-c-init : goal.loop-c-init
 loop-c-init c = (omega arith, omega arith, λ k below. rw (le-ltb c.args.b k (omega arith)))
-
-pub point_at-requires : goal.point_at-requires
-point_at-requires c = omega arith
 
 pub drops-requires : goal.drops-requires
 drops-requires c =
@@ -38,20 +26,14 @@ all c = table_of c.args.count c.args.frequencies.now c.args.powers.now
 
 -- what this turn's test answers
 here : (c : After-drops)
-    → c.drops.result ≡ dropped_by (points_of (all c.before.before.before.before.before.before)) c.args.a c.args.b c.loop-c.c
+    → c.drops.result ≡ dropped_by (points_of (table_of c.args.count c.args.frequencies.now c.args.powers.now)) c.args.a c.args.b c.loop-c.c
 here c =
-    drop_test (all c.before.before.before.before.before.before) c.args.a c.args.b c.loop-c.c (omega arith) (omega arith) (omega arith) _ _ _
+    drop_test (table_of c.args.count c.args.frequencies.now c.args.powers.now) c.args.a c.args.b c.loop-c.c (omega arith) (omega arith) (omega arith) _ _ _
     c.point_at-lower.ensures c.point_at-point.ensures c.point_at.ensures _ c.drops.ensures
 
 pub returns-then-drops : goal.returns-then-drops
 returns-then-drops c =
     sym (some_below_holds _ _ _ (omega (arith, length_points_of (all (goal.at.returns-then-drops c).Start))) (sym (here (goal.at.returns-then-drops c).After-drops) ∙ c.if-drops.true))
-
-pub overflow_add-c-in-loop-c : goal.overflow_add-c-in-loop-c
-overflow_add-c-in-loop-c c = omega arith
-
-pub loop-c-smaller : goal.loop-c-smaller
-loop-c-smaller c = omega arith
 
 pub loop-c-preserved : goal.loop-c-preserved
 loop-c-preserved c = (

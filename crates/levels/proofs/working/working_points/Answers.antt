@@ -21,39 +21,6 @@ loop-i-init c =
 pub dropped-requires : goal.dropped-requires
 dropped-requires c = record { small_points = c.requires; b_lt_count = omega arith }
 
-pub offset_bounds-frequencies-i : goal.offset_bounds-frequencies-i
-offset_bounds-frequencies-i c = omega arith
-
-pub bounds-frequencies-i : goal.bounds-frequencies-i
-bounds-frequencies-i c = omega arith
-
-pub offset_bounds-table-at : goal.offset_bounds-table-at
-offset_bounds-table-at c = omega arith
-
-pub bounds-table-at : goal.bounds-table-at
-bounds-table-at c = omega arith
-
-pub offset_bounds-powers-i : goal.offset_bounds-powers-i
-offset_bounds-powers-i c = omega arith
-
-pub bounds-powers-i : goal.bounds-powers-i
-bounds-powers-i c = omega arith
-
-pub offset_bounds-table-at-then-not-dropped : goal.offset_bounds-table-at-then-not-dropped
-offset_bounds-table-at-then-not-dropped c = omega arith
-
-pub bounds-table-at-then-not-dropped : goal.bounds-table-at-then-not-dropped
-bounds-table-at-then-not-dropped c = omega arith
-
-pub overflow_add-table : goal.overflow_add-table
-overflow_add-table c = omega arith
-
-pub overflow_add-i : goal.overflow_add-i
-overflow_add-i c = omega arith
-
-pub loop-i-smaller : goal.loop-i-smaller
-loop-i-smaller c = omega arith
-
 -- what the table has after this turn
 filled : (c : Joined-not-dropped)
     → c.if-not-dropped.table ≡ point_table (kept (points_of (all c.before.before.before.before.before)) (c.loop-i.i + 1))

@@ -1,9 +1,11 @@
 -- `listing::list_site` meets its contract: each case of planning's answer has its text (proofs/ListingText.antt).
 -- Assumes nothing.
+use mathlib.Core.Path.{◌∙◌, ap}
 use mir.Syntax.{w64}
 use mir.Val.{SFits}
 use mir.Facts.{to_z-of_z}
 use borrow.Author.Rules.{rules}
+use Rattle.std.specs.Prelude.{Err}
 use Rattle.listing_text.proofs.ListingText.{lent_zeros, plan_listed, plan_put, overfull_put, refused_put}
 use Rattle.listing_text.proofs.listing.list_site.Goals as goal
 
@@ -12,23 +14,25 @@ pub put_plan-requires : goal.put_plan-requires
 put_plan-requires c =
     let planned =
     lent_zeros c.plan_buffer-bytes.ensures c.price_buffer-prices.ensures c.share_buffer-shares.ensures c.as_given-parameters.ensures c.plan-answer.ensures in
-    rw c.as_given-parameters.ensures (plan_listed planned _ _ _ c.in-Plan.is)
+    rw c.as_given-parameters.ensures (plan_listed planned _ _ _ c.in-Ok.is)
 
-pub returns-in-Plan : goal.returns-in-Plan
-returns-in-Plan c =
+pub returns-in-Ok : goal.returns-in-Ok
+returns-in-Ok c =
     let planned =
     lent_zeros c.plan_buffer-bytes.ensures c.price_buffer-prices.ensures c.share_buffer-shares.ensures c.as_given-parameters.ensures c.plan-answer.ensures in
-    plan_put planned _ _ _ _ _ _ c.in-Plan.is (rw c.as_given-parameters.ensures at c.put_plan.ensures)
+    plan_put planned _ _ _ _ _ _ c.in-Ok.is (rw c.as_given-parameters.ensures at c.put_plan.ensures)
 
-pub returns-in-Overfull : goal.returns-in-Overfull
-returns-in-Overfull c =
+pub returns-in-Err-Overfull : goal.returns-in-Err-Overfull
+returns-in-Err-Overfull c =
     let planned =
     lent_zeros c.plan_buffer-bytes.ensures c.price_buffer-prices.ensures c.share_buffer-shares.ensures c.as_given-parameters.ensures c.plan-answer.ensures in
-    let fits : SFits w64 c.in-Overfull.spare = search rules in
-    overfull_put planned _ _ _ _ _ _ c.in-Overfull.is (rw (to_z-of_z fits) at c.put_overfull.ensures)
+    let fits : SFits w64 c.in-Err-Overfull.spare = search rules in
+    let window = rw c.in-Err-Overfull.is at c.in-Err-Overfull.field-0-is in
+    overfull_put planned _ _ _ _ _ _ (c.in-Err-Overfull.is ∙ ap Err window) (rw (to_z-of_z fits) at c.put_overfull.ensures)
 
-pub returns-in-Refused : goal.returns-in-Refused
-returns-in-Refused c =
+pub returns-in-Err-Refused : goal.returns-in-Err-Refused
+returns-in-Err-Refused c =
     let planned =
     lent_zeros c.plan_buffer-bytes.ensures c.price_buffer-prices.ensures c.share_buffer-shares.ensures c.as_given-parameters.ensures c.plan-answer.ensures in
-    refused_put planned _ _ _ _ _ c.in-Refused.is c.put_refused.ensures
+    let refusal = rw c.in-Err-Refused.is at c.in-Err-Refused.field-0-is in
+    refused_put planned _ _ _ _ (c.in-Err-Refused.is ∙ ap Err refusal) (rw c.number.ensures at c.put_refused.ensures)

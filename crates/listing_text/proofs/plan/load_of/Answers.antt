@@ -14,29 +14,11 @@ pub loop-j-init : goal.loop-j-init
 unfolding sum
 loop-j-init c = omega arith
 
-pub overflow_mul-load : goal.overflow_mul-load
-overflow_mul-load c = omega arith
-
-pub overflow_add-load : goal.overflow_add-load
-overflow_add-load c = omega arith
-
-pub offset_bounds-shares-interval : goal.offset_bounds-shares-interval
-offset_bounds-shares-interval c = omega arith
-
-pub bounds-shares-interval : goal.bounds-shares-interval
-bounds-shares-interval c = omega arith
-
 pub overflow_cast-load : goal.overflow_cast-load
 overflow_cast-load c = let a = c.args in omega (arith, c.type_inv.shares (a.interval * a.jobs + c.loop-j.j))
 
 pub overflow_add-load-in-loop-j : goal.overflow_add-load-in-loop-j
 overflow_add-load-in-loop-j c = let a = c.args in omega (arith, c.type_inv.shares (a.interval * a.jobs + c.loop-j.j))
-
-pub overflow_add-j : goal.overflow_add-j
-overflow_add-j c = omega arith
-
-pub loop-j-smaller : goal.loop-j-smaller
-loop-j-smaller c = omega arith
 
 pub loop-j-preserved : goal.loop-j-preserved
 loop-j-preserved c =

@@ -8,26 +8,8 @@ use Rattle.listing_text.proofs.plan.put_interval.Goals as goal
 pub loop-j-init : goal.loop-j-init
 loop-j-init c = (omega arith, pieces_none _ _ _ step_room)
 
-pub overflow_mul-interval : goal.overflow_mul-interval
-overflow_mul-interval c = omega arith
-
-pub overflow_add-interval : goal.overflow_add-interval
-overflow_add-interval c = omega arith
-
-pub offset_bounds-shares-interval : goal.offset_bounds-shares-interval
-offset_bounds-shares-interval c = omega arith
-
-pub bounds-shares-interval : goal.bounds-shares-interval
-bounds-shares-interval c = omega arith
-
 pub put_step-next-requires : goal.put_step-next-requires
 put_step-next-requires c = omega (arith, next_most _ _ c.loop-j.invariant.1)
-
-pub overflow_add-j : goal.overflow_add-j
-overflow_add-j c = omega arith
-
-pub loop-j-smaller : goal.loop-j-smaller
-loop-j-smaller c = omega arith
 
 pub loop-j-preserved : goal.loop-j-preserved
 loop-j-preserved c = (omega arith, pieces_next _ _ _ _ _ c.loop-j.invariant.1 c.put_step-next.ensures)

@@ -17,44 +17,11 @@ load_of-load-requires c =
     let shown = c.requires.shown_plan in
     (shown.few_jobs, omega (arith, shown.share-room, mul-le-mul_right c.args.jobs c.loop-i-test.true))
 
-pub overflow_mul-price : goal.overflow_mul-price
-overflow_mul-price c = omega arith
-
-pub overflow_add-price : goal.overflow_add-price
-overflow_add-price c = omega arith
-
-pub overflow_add-price-in-loop-i : goal.overflow_add-price-in-loop-i
-overflow_add-price-in-loop-i c = omega arith
-
-pub bounds-prices-intervals : goal.bounds-prices-intervals
-bounds-prices-intervals c = omega arith
-
-pub offset_bounds-times-i : goal.offset_bounds-times-i
-offset_bounds-times-i c = omega arith
-
-pub bounds-times-i : goal.bounds-times-i
-bounds-times-i c = omega arith
-
-pub overflow_add-i : goal.overflow_add-i
-overflow_add-i c = omega arith
-
-pub offset_bounds-times-i-in-loop-i : goal.offset_bounds-times-i-in-loop-i
-offset_bounds-times-i-in-loop-i c = omega arith
-
-pub bounds-times-i-in-loop-i : goal.bounds-times-i-in-loop-i
-bounds-times-i-in-loop-i c = omega arith
-
 pub put_span-next-requires : goal.put_span-next-requires
 put_span-next-requires c =
     let shown = c.requires.shown_plan in
     let ready = span_ready shown _ c.loop-i-test.true _ c.load_of-load.ensures in
     record { from_lt_to = (ready.0, ready.1, omega (arith, next_most _ _ c.loop-i.invariant.1)); small_points = (shown.small, shown.curve, ready.2) }
-
-pub overflow_add-i-in-loop-i : goal.overflow_add-i-in-loop-i
-overflow_add-i-in-loop-i c = omega arith
-
-pub loop-i-smaller : goal.loop-i-smaller
-loop-i-smaller c = omega arith
 
 pub loop-i-preserved : goal.loop-i-preserved
 loop-i-preserved c =

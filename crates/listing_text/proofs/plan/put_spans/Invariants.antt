@@ -1,6 +1,6 @@
 -- `plan::put_spans` meets its contract. The loop's invariant: the lines of the first `i` intervals are put.
 -- Assumes nothing.
-use Prim.Native.Nat.{suc, ◌-◌, ◌*◌, ◌≤◌}
+use Prim.Native.Nat.{suc, ◌*◌, ◌≤◌}
 use Rattle.model.specs.Entries.{joined}
 use Rattle.model.specs.Sum.{sum}
 use Rattle.model.specs.Plans.{shares_in}
@@ -16,6 +16,3 @@ invariant-loop-i l =
     × Appended l.initial.text l.place
     (joined l.i (λ k. span_line (points_of l.working) (bounds_in l.times k) (bounds_in l.times (suc k)) (sum l.jobs (shares_in l.jobs l.shares k)) (prices_in l.intervals l.prices k)))
     (span_room * l.i) l.text l.next
-
-abbrev pub decreases-loop-i : goal.decreases-loop-i
-decreases-loop-i l = l.intervals - l.i

@@ -17,12 +17,6 @@ put_interval-next-requires c =
       omega (arith, next_most _ _ c.loop-i.invariant.1, mul-le-mul_left (step_room * jobs) c.loop-i-test.true),
     )
 
-pub overflow_add-i : goal.overflow_add-i
-overflow_add-i c = omega arith
-
-pub loop-i-smaller : goal.loop-i-smaller
-loop-i-smaller c = omega arith
-
 pub loop-i-preserved : goal.loop-i-preserved
 loop-i-preserved c = (omega arith, pieces_next _ _ _ _ _ c.loop-i.invariant.1 c.put_interval-next.ensures)
 

@@ -19,11 +19,12 @@ few-jobs arrays = omega (arith, arrays.counted, arrays.tests.valid.few)
 pub overflow_mul-wanted : goal.overflow_mul-wanted
 overflow_mul-wanted c = let (jobs, bounds, arrays, fits) = c.requires.by_index in omega (arith, few-jobs arrays)
 
-pub overflow_cast-result : goal.overflow_cast-result
-overflow_cast-result c = let (jobs, bounds, arrays, fits) = c.requires.by_index in omega (arith, few-jobs arrays)
+pub overflow_cast-wanted : goal.overflow_cast-wanted
+overflow_cast-wanted c = let (jobs, bounds, arrays, fits) = c.requires.by_index in omega (arith, few-jobs arrays)
 
 pub returns-then-list-wanted : goal.returns-then-list-wanted
-returns-then-list-wanted c = λ jobs bounds arrays fits. list_short _ _ _ _ (ap (λ (n : ℕ). 2 * n) arrays.counted) c.if-list-wanted.true
+returns-then-list-wanted c = λ jobs bounds arrays fits.
+    rw (c.into.ensures, c.at.ensures) (list_short _ _ _ _ (ap (λ (n : ℕ). 2 * n) arrays.counted) c.if-list-wanted.true)
 
 pub job_rooms-requires : goal.job_rooms-requires
 job_rooms-requires c = record { by_index = c.requires.by_index; top_le_max_frequency = (c.requires.top_le_max_frequency, length-replicate {A = ℕ} max_jobs 0) }

@@ -5,12 +5,14 @@ use lib.ListN.{get_or}
 use borrow.Author.Count.{below_none, below_more}
 use Rattle.model.specs.declared.Job.{Job}
 use Rattle.model.specs.Limits.{max_jobs}
+use Rattle.model.specs.Refusals.{fault_of}
 use Rattle.model.specs.SiteParameters.{margin_on, altered_job, altered_fault}
+use Rattle.model.proofs.Refusals.{fault_none}
 use Rattle.job_tables.proofs.Read.{jobs_count, sound_in}
 use Rattle.parameters.proofs.AlteredJobs.{none_altered, next_altered, later_number, altered_number, altered_padded}
 use Rattle.parameters.proofs.AlteredJobs.{altering_refused, altered_at, job_refused, jobs_held}
 use Rattle.parameters.proofs.altered_jobs.alter_each.Goals as goal
-use Rattle.parameters.proofs.altered_jobs.alter_each.Goals.{After-altered_fault-number, At-loop-j, In-loop-j, Start}
+use Rattle.parameters.proofs.altered_jobs.alter_each.Goals.{After-altered_fault, At-loop-j, In-loop-j, Start}
 
 few : (c : Start) → c.args.count ≤ max_jobs
 few c = jobs_count _ _ _ _ c.requires.valid_arrays.valid
@@ -43,7 +45,7 @@ pub bounds-cycles-j : goal.bounds-cycles-j
 bounds-cycles-j c = omega (arith, few (goal.at.bounds-cycles-j c).Start)
 
 -- its deadline and its cycles, as the arrays still have them, and as they are found
-new-deadline : (c : After-altered_fault-number) → c.earlier-deadline.result ≡ (altered c.before.before.before.before.before.before.before.before.before.before.before).deadline
+new-deadline : (c : After-altered_fault) → c.earlier-deadline.result ≡ (altered c.before.before.before.before.before.before.before.before.before.before.before).deadline
 unfolding altered_job
 new-deadline c =
     c.earlier-deadline.ensures
@@ -54,15 +56,15 @@ given-cycles : (c : In-loop-j) → get_or c.loop-j.cycles c.loop-j.j 0 ≡ get_o
 given-cycles c =
     later_number c.args.count (few c.before.before) _ _ _ c.loop-j.j c.loop-j-test.true c.loop-j.invariant.cycles_are
 
-new-cycles : (c : After-altered_fault-number) → c.with_margin-needed.result ≡ (altered c.before.before.before.before.before.before.before.before.before.before.before).cycles
+new-cycles : (c : After-altered_fault) → c.with_margin-needed.result ≡ (altered c.before.before.before.before.before.before.before.before.before.before.before).cycles
 unfolding altered_job
 new-cycles c =
     c.with_margin-needed.ensures ∙ ap (λ (n : ℕ). n + margin_on c.args.margin n) (given-cycles c.before.before.before.before.before.before.before.before.before.before)
 
--- the number found in this turn is its fault
-here : (c : After-altered_fault-number) → c.altered_fault-number.result ≡ altered_fault (altered c.before.before.before.before.before.before.before.before.before.before.before)
+-- what is found in this turn is its fault
+here : (c : After-altered_fault) → c.altered_fault.result ≡ fault_of (altered_fault (altered c.before.before.before.before.before.before.before.before.before.before.before))
 unfolding altered_job
-here c = c.altered_fault-number.ensures ∙ ap altered_fault (rw (new-deadline c, new-cycles c))
+here c = c.altered_fault.ensures ∙ ap (λ (job : Job). fault_of (altered_fault job)) (rw (new-deadline c, new-cycles c))
 
 pub with_margin-needed-requires : goal.with_margin-needed-requires
 with_margin-needed-requires c =
@@ -76,13 +78,14 @@ offset_bounds-releases-j c = omega (arith, few (goal.at.offset_bounds-releases-j
 pub bounds-releases-j : goal.bounds-releases-j
 bounds-releases-j c = omega (arith, few (goal.at.bounds-releases-j c).Start)
 
-pub overflow_cast-result : goal.overflow_cast-result
-overflow_cast-result c = omega (arith, few (goal.at.overflow_cast-result c).Start)
+pub overflow_cast-j : goal.overflow_cast-j
+overflow_cast-j c = omega (arith, few (goal.at.overflow_cast-j c).Start)
 
-pub returns-then-number-ne0 : goal.returns-then-number-ne0
-returns-then-number-ne0 c =
-    altering_refused _ _
-    (job_refused _ _ _ _ _ _ c.requires.free_le_max_free.0 c.requires.free_le_max_free.1 _ _ c.loop-j-test.true c.loop-j.invariant.sound (here (goal.at.returns-then-number-ne0 c).After-altered_fault-number) c.if-number-ne0.true)
+pub returns-in-Some : goal.returns-in-Some
+returns-in-Some c =
+    rw c.at.ensures
+    (altering_refused
+    (job_refused _ _ _ _ _ _ c.requires.free_le_max_free.0 c.requires.free_le_max_free.1 _ _ c.loop-j-test.true c.loop-j.invariant.sound (sym (here (goal.at.returns-in-Some c).After-altered_fault) ∙ c.in-Some.is)))
 
 pub offset_bounds-deadlines-j-in-loop-j : goal.offset_bounds-deadlines-j-in-loop-j
 offset_bounds-deadlines-j-in-loop-j c = omega (arith, few (goal.at.offset_bounds-deadlines-j-in-loop-j c).Start)
@@ -96,20 +99,14 @@ offset_bounds-cycles-j-in-loop-j c = omega (arith, few (goal.at.offset_bounds-cy
 pub bounds-cycles-j-in-loop-j : goal.bounds-cycles-j-in-loop-j
 bounds-cycles-j-in-loop-j c = omega (arith, few (goal.at.bounds-cycles-j-in-loop-j c).Start)
 
-pub overflow_add-j : goal.overflow_add-j
-overflow_add-j c = omega (arith, few (goal.at.overflow_add-j c).Start)
-
-pub loop-j-smaller : goal.loop-j-smaller
-loop-j-smaller c = omega arith
-
 pub loop-j-preserved : goal.loop-j-preserved
 loop-j-preserved c =
     let inv = c.loop-j.invariant in
     record {
       upto = omega arith;
-      sound = below_more _ _ inv.sound (sym (here (goal.at.loop-j-preserved c).After-altered_fault-number) ∙ c.if-number-ne0.false);
-      deadlines-are = next_altered _ (few (goal.at.loop-j-preserved c).Start) _ _ _ _ _ c.loop-j-test.true inv.deadlines-are (new-deadline (goal.at.loop-j-preserved c).After-altered_fault-number);
-      cycles_are = next_altered _ (few (goal.at.loop-j-preserved c).Start) _ _ _ _ _ c.loop-j-test.true inv.cycles_are (new-cycles (goal.at.loop-j-preserved c).After-altered_fault-number);
+      sound = below_more _ _ inv.sound (fault_none _ (sym (here (goal.at.loop-j-preserved c).After-altered_fault) ∙ c.in_default.is));
+      deadlines-are = next_altered _ (few (goal.at.loop-j-preserved c).Start) _ _ _ _ _ c.loop-j-test.true inv.deadlines-are (new-deadline (goal.at.loop-j-preserved c).After-altered_fault);
+      cycles_are = next_altered _ (few (goal.at.loop-j-preserved c).Start) _ _ _ _ _ c.loop-j-test.true inv.cycles_are (new-cycles (goal.at.loop-j-preserved c).After-altered_fault);
     }
 
 pub returns : goal.returns

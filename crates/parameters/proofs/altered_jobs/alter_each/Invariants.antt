@@ -2,7 +2,7 @@
 -- in proofs/AlteredJobs.antt. Assumes nothing.
 use mathlib.Core.Path.{◌≡◌}
 use mathlib.Core.List.{List}
-use Prim.Native.Nat.{ℕ, ◌-◌, ◌<◌, ◌≤◌}
+use Prim.Native.Nat.{ℕ, ◌<◌, ◌≤◌}
 use lib.ListN.{get_or}
 use Rattle.model.specs.Limits.{max_jobs}
 use Rattle.model.specs.SiteParameters.{altered_fault}
@@ -22,6 +22,3 @@ pub record Altering (releases deadlines₀ cycles₀ : List ℕ) (count free mar
 
 abbrev pub invariant-loop-j : goal.invariant-loop-j
 invariant-loop-j l = Altering l.releases l.initial.deadlines l.initial.cycles l.count l.free l.margin l.deadlines l.cycles l.j
-
-abbrev pub decreases-loop-j : goal.decreases-loop-j
-decreases-loop-j l = l.count - l.j

@@ -6,7 +6,7 @@ use Rattle.workloads.specs.Workloads.{Workload}
 use Rattle.workloads.specs.Arrays.{numbers_in, lent_windows}
 use Rattle.paths.proofs.FillSteps.{fill_room, fill_most, fill_walk, fill_move, filled}
 use Rattle.paths.proofs.path.fill.Goals as goal
-use Rattle.paths.proofs.path.fill.Goals.{After-route-2-1, After-slice_known-1, then-free-turn, else-free-turn}
+use Rattle.paths.proofs.path.fill.Goals.{After-route-2-1, After-slice_known-1}
 
 -- a workload with what is lent
 abbrev lent : (c : After-slice_known-1) → Workload → Workload
@@ -15,31 +15,17 @@ lent c work = let a = c.args in lent_windows work a.turn.jobs a.first.now a.last
 pub path_limit-amount-requires : goal.path_limit-amount-requires
 path_limit-amount-requires c =
     let can = c.requires.2 in
-    let some : 1 ≤ c.if-free-turn.most =
-    elim c.if-free-turn.branch [
-      | then-free-turn w ↦ omega (arith, w.most-is, fill_room can)
-      | else-free-turn w ↦ omega (arith, w.most-is, can.lacks)
-    ] in
+    let some : 1 ≤ c.min-most.result = omega (arith, c.min-most.ensures, fill_room can, can.lacks) in
     record { windows_walk = (lent (goal.at.path_limit-amount-requires c).After-slice_known-1 c.requires.0, fill_walk can); le_most = (some, refl) }
 
 -- the amount is at most what is left, and at most the room
 within : (c : After-route-2-1) → c.path_limit-amount.result ≤ c.args.turn.left
-within c =
-    let limit = c.path_limit-amount.ensures.1 in
-    elim c.if-free-turn.branch [
-      | then-free-turn w ↦ omega (arith, w.if-free-turn.true, w.most-is)
-      | else-free-turn w ↦ omega (arith, w.most-is)
-    ]
+within c = omega (arith, c.path_limit-amount.ensures.1, c.min-most.ensures)
 
 most : (c : After-route-2-1)
     → let a = c.args in
     c.path_limit-amount.result ≤ numbers_in a.room.now a.found.target
-most c =
-    let limit = c.path_limit-amount.ensures.1 in
-    elim c.if-free-turn.branch [
-      | then-free-turn w ↦ omega (arith, w.most-is)
-      | else-free-turn w ↦ omega (arith, w.if-free-turn.false, w.most-is)
-    ]
+most c = omega (arith, c.path_limit-amount.ensures.1, c.min-most.ensures)
 
 pub overflow_cast-amount : goal.overflow_cast-amount
 overflow_cast-amount c =

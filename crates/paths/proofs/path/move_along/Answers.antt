@@ -15,9 +15,6 @@ use Rattle.paths.proofs.MoveSteps.{MoveAt, move_start, move_listed, move_gap, mo
 use Rattle.paths.proofs.path.move_along.Goals as goal
 use Rattle.paths.proofs.path.move_along.Goals.{After-slice_known-2-1, At-loop-s}
 
-pub bounds-route-0 : goal.bounds-route-0
-bounds-route-0 c = omega arith
-
 pub overflow_cast-s : goal.overflow_cast-s
 overflow_cast-s c =
     let can = c.requires.3 in
@@ -142,9 +139,6 @@ loop-s-preserved c =
           let now-at = (c.loop-s.invariant.1 work first last found is-target can).1 in
           (on.0, move_next can now-at c.loop-s-test.true put.0 put.1 take.0 take.1 on.1),
     )
-
-pub bounds-reached-0 : goal.bounds-reached-0
-bounds-reached-0 c = omega arith
 
 pub overflow_cast-reached : goal.overflow_cast-reached
 overflow_cast-reached c =

@@ -1,5 +1,5 @@
 use mathlib.Core.Path.{◌≡◌, ◌∙◌}
-use Prim.Native.Nat.{ℕ, ◌+◌, ◌<◌, min}
+use Prim.Native.Nat.{ℕ, ◌+◌, ◌<◌}
 use native.Mathlib.Omega.{arith}
 use lib.ListN.{length-set}
 use Rattle.model.specs.Limits.{max_jobs, max_intervals}
@@ -12,7 +12,7 @@ use Rattle.paths.specs.Moves.{CanWalk}
 use Rattle.paths.proofs.WalkSteps.{reaching_fits, target_open, WalkAt, walk_start, path_falls, walk_listed, walk_room, source_open, walk_place, walk_next, walk_end}
 use Rattle.paths.proofs.path.path_limit.Invariants.{FirstAt}
 use Rattle.paths.proofs.path.path_limit.Goals as goal
-use Rattle.paths.proofs.path.path_limit.Goals.{At-loop-s, then-share-limit, else-share-limit}
+use Rattle.paths.proofs.path.path_limit.Goals.{At-loop-s}
 
 pub first_open-s-requires : goal.first_open-s-requires
 first_open-s-requires c =
@@ -141,11 +141,7 @@ loop-s-smaller c = falls (goal.at.loop-s-smaller c).At-loop-s _ c.loop-s-test.tr
 pub loop-s-preserved : goal.loop-s-preserved
 loop-s-preserved c =
     let route = c.loop-s.invariant.0 in
-    let limit : c.if-share-limit.limit ≡ min c.loop-s.limit c.share_of-share.result =
-    elim c.if-share-limit.branch [
-      | then-share-limit w ↦ omega (arith, w.if-share-limit.true, w.limit-is)
-      | else-share-limit w ↦ omega (arith, w.if-share-limit.false, w.limit-is)
-    ] in (
+    let limit = c.min-limit.ensures in (
       length-set c.loop-s.route _ _ ∙ route,
       λ work found can is_first.
           let walk = c.loop-s.invariant.1 work found can is_first in

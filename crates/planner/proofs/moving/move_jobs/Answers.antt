@@ -39,12 +39,6 @@ offset_bounds-left-job-in-loop-job c = omega (arith, job_small (goal.at.offset_b
 pub bounds-left-job-in-loop-job : goal.bounds-left-job-in-loop-job
 bounds-left-job-in-loop-job c = job_small (goal.at.bounds-left-job-in-loop-job c).In-loop-job
 
-pub overflow_add-job : goal.overflow_add-job
-overflow_add-job c = omega (arith, job_small (goal.at.overflow_add-job c).In-loop-job)
-
-pub loop-job-smaller : goal.loop-job-smaller
-loop-job-smaller c = omega (arith, c.loop-job-test.true)
-
 pub loop-job-preserved : goal.loop-job-preserved
 loop-job-preserved c = (
   omega (arith, c.loop-job-test.true),

@@ -93,12 +93,6 @@ move_jobs-requires c =
     let a = c.args in
     (workload_with a.cycles.now a.jobs a.intervals a.bands a.first.now a.last.now a.size.now a.frequency.now, can-move (goal.at.move_jobs-requires c).After-left-in-loop-band-2-1)
 
-pub overflow_add-band : goal.overflow_add-band
-overflow_add-band c = omega (arith, end-inside (goal.at.overflow_add-band c).In-loop-band)
-
-pub loop-band-smaller : goal.loop-band-smaller
-loop-band-smaller c = omega (arith, c.loop-band-test.true)
-
 pub loop-band-preserved : goal.loop-band-preserved
 loop-band-preserved c =
     let a = c.args in

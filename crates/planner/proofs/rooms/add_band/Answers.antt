@@ -45,12 +45,6 @@ overflow_add-room c = omega (arith, fits (goal.at.overflow_add-room c).In-loop-i
 pub bounds-room-i-in-loop-i : goal.bounds-room-i-in-loop-i
 bounds-room-i-in-loop-i c = inside (goal.at.bounds-room-i-in-loop-i c).In-loop-i
 
-pub overflow_add-i : goal.overflow_add-i
-overflow_add-i c = omega (arith, inside (goal.at.overflow_add-i c).In-loop-i)
-
-pub loop-i-smaller : goal.loop-i-smaller
-loop-i-smaller c = omega (arith, c.loop-i-test.true)
-
 pub loop-i-preserved : goal.loop-i-preserved
 loop-i-preserved c =
     let inv = c.loop-i.invariant in

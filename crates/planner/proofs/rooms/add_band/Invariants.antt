@@ -1,6 +1,6 @@
 -- `rooms::add_band` meets its contract. The loop's invariant: the room of the first `i` intervals has grown. Assumes nothing.
 use mathlib.Core.Path.{◌≡◌}
-use Prim.Native.Nat.{ℕ, ◌+◌, ◌-◌, ◌*◌, ◌<◌, ◌≤◌}
+use Prim.Native.Nat.{ℕ, ◌+◌, ◌*◌, ◌<◌, ◌≤◌}
 use lib.ListN.{length}
 use Rattle.model.specs.Limits.{max_intervals}
 use Rattle.workloads.specs.Arrays.{numbers_in}
@@ -12,6 +12,3 @@ invariant-loop-i l =
     × (length l.room ≡ max_intervals)
     × ((k : ℕ) → k < l.i → numbers_in l.room k ≡ numbers_in l.initial.room k + numbers_in l.size k * l.gap)
     × ((k : ℕ) → l.i ≤ k → numbers_in l.room k ≡ numbers_in l.initial.room k)
-
-abbrev pub decreases-loop-i : goal.decreases-loop-i
-decreases-loop-i l = l.intervals - l.i

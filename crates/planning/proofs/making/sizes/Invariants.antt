@@ -10,6 +10,3 @@ use Rattle.planning.proofs.making.sizes.Given as goal
 abbrev pub invariant-loop-i : goal.invariant-loop-i
 invariant-loop-i l =
     (l.i ≤ l.intervals) × (l.lengths ≡ column_of max_intervals l.i (λ k. get_or l.times (k + 1) 0 - get_or l.times k 0))
-
-abbrev pub decreases-loop-i : goal.decreases-loop-i
-decreases-loop-i l = l.intervals - l.i

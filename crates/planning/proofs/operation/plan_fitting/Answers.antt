@@ -3,12 +3,13 @@
 use mathlib.Core.Path.{◌≡◌, ◌∙◌}
 use Prim.Native.Nat.{ℕ, ◌-◌, ◌≤◌}
 use lib.ListN.{length}
+use Rattle.std.proofs.lemmas.Result.{err_from_is_err_and}
 use Rattle.model.specs.Sites.{Site}
 use Rattle.model.specs.Demands.{LongEnough}
 use Rattle.rooms.specs.WantedRooms.{OpenIn, WantedRooms}
 use Rattle.planning.specs.MadePlans.{FitsIn}
 use Rattle.planning.proofs.SiteArrays.{intervals_counted}
-use Rattle.planning.proofs.PlanStages.{plan_short, prices_short, shares_short, plan_made}
+use Rattle.planning.proofs.PlanStages.{short_room, enough_room, plan_short, prices_short, shares_short, plan_made}
 use Rattle.planning.proofs.operation.plan_fitting.Goals as goal
 use Rattle.planning.proofs.operation.plan_fitting.Goals.{Start}
 
@@ -46,60 +47,65 @@ rooms_of-rooms-requires c =
     (site, open_in (goal.at.rooms_of-rooms-requires c).Start site lent _ c.interval_count.ensures)
 
 -- the lengths wanted are those of refusals 12 to 14
-pub overflow_cast-result : goal.overflow_cast-result
-overflow_cast-result c =
+pub room_for-requires : goal.room_for-requires
+room_for-requires c =
     let (site, lent) = c.requires in
-    record { fits = (c.rooms_of-rooms.ensures site (open_in (goal.at.overflow_cast-result c).Start site lent _ c.interval_count.ensures)).plan_fits }
+    (c.rooms_of-rooms.ensures site (open_in (goal.at.room_for-requires c).Start site lent _ c.interval_count.ensures)).plan_fits
 
-pub returns-then-plan-rooms : goal.returns-then-plan-rooms
-returns-then-plan-rooms c = λ site lent.
-    let rooms = c.rooms_of-rooms.ensures site (open_in (goal.at.returns-then-plan-rooms c).Start site lent _ c.interval_count.ensures) in
-    plan_short site _ lent.fits _ rooms.plan_is c.if-plan-rooms.true
+pub returns-in_err-room_for : goal.returns-in_err-room_for
+returns-in_err-room_for c = λ site lent.
+    let rooms = c.rooms_of-rooms.ensures site (open_in (goal.at.returns-in_err-room_for c).Start site lent _ c.interval_count.ensures) in
+    let passed = err_from_is_err_and c.from_residual.result c.from_residual.ensures.1 in
+    let short = short_room _ _ c.room_for.ensures _ c.in_err-room_for.was in
+    rw (passed.1, passed.2, short.1) (plan_short site _ lent.fits _ rooms.plan_is short.0)
 
-pub overflow_cast-result-then-prices-rooms : goal.overflow_cast-result-then-prices-rooms
-overflow_cast-result-then-prices-rooms c =
+pub room_for-requires-2 : goal.room_for-requires-2
+room_for-requires-2 c =
     let (site, lent) = c.requires in
-    record { fits = (c.rooms_of-rooms.ensures site (open_in (goal.at.overflow_cast-result-then-prices-rooms c).Start site lent _ c.interval_count.ensures)).prices_fit }
+    (c.rooms_of-rooms.ensures site (open_in (goal.at.room_for-requires-2 c).Start site lent _ c.interval_count.ensures)).prices_fit
 
-pub returns-then-prices-rooms : goal.returns-then-prices-rooms
-returns-then-prices-rooms c = λ site lent.
-    let rooms = c.rooms_of-rooms.ensures site (open_in (goal.at.returns-then-prices-rooms c).Start site lent _ c.interval_count.ensures) in
-    prices_short site _ lent.fits (rw (← rooms.plan_is) c.if-plan-rooms.false) _ rooms.prices_are c.if-prices-rooms.true
+pub returns-in_err-room_for-2 : goal.returns-in_err-room_for-2
+returns-in_err-room_for-2 c = λ site lent.
+    let rooms = c.rooms_of-rooms.ensures site (open_in (goal.at.returns-in_err-room_for-2 c).Start site lent _ c.interval_count.ensures) in
+    let passed = err_from_is_err_and c.from_residual-in_err-room_for-2.result c.from_residual-in_err-room_for-2.ensures.1 in
+    let short = short_room _ _ c.room_for-2.ensures _ c.in_err-room_for-2.was in
+    rw (passed.1, passed.2, short.1) (prices_short site _ lent.fits (rw (← rooms.plan_is) (enough_room _ _ c.room_for.ensures _ c.in_ok-room_for.was)) _ rooms.prices_are short.0)
 
-pub overflow_cast-result-then-shares-rooms : goal.overflow_cast-result-then-shares-rooms
-overflow_cast-result-then-shares-rooms c =
+pub room_for-requires-3 : goal.room_for-requires-3
+room_for-requires-3 c =
     let (site, lent) = c.requires in
-    record { fits = (c.rooms_of-rooms.ensures site (open_in (goal.at.overflow_cast-result-then-shares-rooms c).Start site lent _ c.interval_count.ensures)).shares_fit }
+    (c.rooms_of-rooms.ensures site (open_in (goal.at.room_for-requires-3 c).Start site lent _ c.interval_count.ensures)).shares_fit
 
-pub returns-then-shares-rooms : goal.returns-then-shares-rooms
-returns-then-shares-rooms c = λ site lent.
-    let rooms = c.rooms_of-rooms.ensures site (open_in (goal.at.returns-then-shares-rooms c).Start site lent _ c.interval_count.ensures) in
-    shares_short site _ lent.fits (rw (← rooms.plan_is) c.if-plan-rooms.false) (rw (← rooms.prices_are) c.if-prices-rooms.false)
-    _ rooms.shares_are c.if-shares-rooms.true
+pub returns-in_err-room_for-3 : goal.returns-in_err-room_for-3
+returns-in_err-room_for-3 c = λ site lent.
+    let rooms = c.rooms_of-rooms.ensures site (open_in (goal.at.returns-in_err-room_for-3 c).Start site lent _ c.interval_count.ensures) in
+    let passed = err_from_is_err_and c.from_residual-in_err-room_for-3.result c.from_residual-in_err-room_for-3.ensures.1 in
+    let short = short_room _ _ c.room_for-3.ensures _ c.in_err-room_for-3.was in
+    rw (passed.1, passed.2, short.1) (shares_short site _ lent.fits (rw (← rooms.plan_is) (enough_room _ _ c.room_for.ensures _ c.in_ok-room_for.was)) (rw (← rooms.prices_are) (enough_room _ _ c.room_for-2.ensures _ c.in_ok-room_for-2.was)) _ rooms.shares_are short.0)
 
 pub make_plan-figures-requires : goal.make_plan-figures-requires
 make_plan-figures-requires c =
     let (site, lent) = c.requires in
     let long = enough (goal.at.make_plan-figures-requires c).Start site _ _ _ (c.rooms_of-rooms.ensures site (open_in (goal.at.make_plan-figures-requires c).Start site lent _ c.interval_count.ensures))
-    c.if-plan-rooms.false c.if-prices-rooms.false c.if-shares-rooms.false in
+    (enough_room _ _ c.room_for.ensures _ c.in_ok-room_for.was) (enough_room _ _ c.room_for-2.ensures _ c.in_ok-room_for-2.was) (enough_room _ _ c.room_for-3.ensures _ c.in_ok-room_for-3.was) in
     (site, record { fitting = lent; long = long })
+
+pub overflow_cast-result : goal.overflow_cast-result
+overflow_cast-result c =
+    let (site, lent) = c.requires in
+    let long = enough (goal.at.overflow_cast-result c).Start site _ _ _ (c.rooms_of-rooms.ensures site (open_in (goal.at.overflow_cast-result c).Start site lent _ c.interval_count.ensures))
+    (enough_room _ _ c.room_for.ensures _ c.in_ok-room_for.was) (enough_room _ _ c.room_for-2.ensures _ c.in_ok-room_for-2.was) (enough_room _ _ c.room_for-3.ensures _ c.in_ok-room_for-3.was) in
+    record { fits = (c.make_plan-figures.ensures site (record { fitting = lent; long = long })).intervals_fit }
 
 pub overflow_cast-result-2 : goal.overflow_cast-result-2
 overflow_cast-result-2 c =
     let (site, lent) = c.requires in
     let long = enough (goal.at.overflow_cast-result-2 c).Start site _ _ _ (c.rooms_of-rooms.ensures site (open_in (goal.at.overflow_cast-result-2 c).Start site lent _ c.interval_count.ensures))
-    c.if-plan-rooms.false c.if-prices-rooms.false c.if-shares-rooms.false in
-    record { fits = (c.make_plan-figures.ensures site (record { fitting = lent; long = long })).intervals_fit }
-
-pub overflow_cast-result-3 : goal.overflow_cast-result-3
-overflow_cast-result-3 c =
-    let (site, lent) = c.requires in
-    let long = enough (goal.at.overflow_cast-result-3 c).Start site _ _ _ (c.rooms_of-rooms.ensures site (open_in (goal.at.overflow_cast-result-3 c).Start site lent _ c.interval_count.ensures))
-    c.if-plan-rooms.false c.if-prices-rooms.false c.if-shares-rooms.false in
+    (enough_room _ _ c.room_for.ensures _ c.in_ok-room_for.was) (enough_room _ _ c.room_for-2.ensures _ c.in_ok-room_for-2.was) (enough_room _ _ c.room_for-3.ensures _ c.in_ok-room_for-3.was) in
     record { fits = (c.make_plan-figures.ensures site (record { fitting = lent; long = long })).steps_fit }
 
 pub returns : goal.returns
 returns c = λ site lent.
     let long = enough (goal.at.returns c).Start site _ _ _ (c.rooms_of-rooms.ensures site (open_in (goal.at.returns c).Start site lent _ c.interval_count.ensures))
-    c.if-plan-rooms.false c.if-prices-rooms.false c.if-shares-rooms.false in
+    (enough_room _ _ c.room_for.ensures _ c.in_ok-room_for.was) (enough_room _ _ c.room_for-2.ensures _ c.in_ok-room_for-2.was) (enough_room _ _ c.room_for-3.ensures _ c.in_ok-room_for-3.was) in
     plan_made site _ lent.fits long _ _ _ _ (c.make_plan-figures.ensures site (record { fitting = lent; long = long }))

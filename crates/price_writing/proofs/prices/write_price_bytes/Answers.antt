@@ -2,8 +2,8 @@ use mathlib.Core.Path.{◌≡◌}
 use mathlib.Core.List.{List}
 use Prim.Native.Nat.{ℕ, suc, ◌+◌, ◌*◌, ◌%◌, ◌<◌}
 use native.Mathlib.Omega.{arith}
-use lib.ListN.{length, get_or, set}
-use lib.Seq.{sets}
+use lib.ListN.{length, get_or, take, set, length-take}
+use lib.Seq.{sets, get_or-take}
 use Rattle.model.specs.Bytes.{bytes_of}
 use Rattle.model.proofs.Bytes.{length_bytes_of}
 use Rattle.writing.proofs.NumberStores.{numbers_none, length_numbers, numbers_next, numbers_whole}
@@ -23,41 +23,30 @@ long c = length_numbers (bytes_of 1) 1 (length_bytes_of 1) _ _ _ _ _ c.loop-i.in
 
 -- a price fits its byte
 small : (c : In-loop-i) → let a = c.args in get_or a.prices.now c.loop-i.i 0 < 255
-small c = c.requires.by_index _ c.loop-i-test.true
+small c = c.requires.by_index _ (omega (arith, length-take c.args.intervals c.args.prices.now))
+
+-- the price of an interval is its own
+own : (c : In-loop-i) → let a = c.args in get_or (take a.intervals a.prices.now) c.loop-i.i 0 ≡ get_or a.prices.now c.loop-i.i 0
+own c = get_or-take c.args.intervals c.args.prices.now c.loop-i.i 0 (omega (arith, length-take c.args.intervals c.args.prices.now))
 
 pub loop-i-init : goal.loop-i-init
 loop-i-init c = (omega arith, numbers_none (bytes_of 1) 1 (length_bytes_of 1) _ _ _)
 
-pub bounds-prices-i : goal.bounds-prices-i
-bounds-prices-i c = omega arith
-
 pub overflow_add-out : goal.overflow_add-out
-overflow_add-out c = omega (arith, small (goal.at.overflow_add-out c).In-loop-i)
-
-pub overflow_mul-out : goal.overflow_mul-out
-overflow_mul-out c = omega arith
-
-pub overflow_add-out-in-loop-i : goal.overflow_add-out-in-loop-i
-overflow_add-out-in-loop-i c = omega arith
-
-pub overflow_add-out-in-loop-i-2 : goal.overflow_add-out-in-loop-i-2
-overflow_add-out-in-loop-i-2 c = omega arith
+overflow_add-out c = omega (arith, small (goal.at.overflow_add-out c).In-loop-i, own (goal.at.overflow_add-out c).In-loop-i)
 
 pub bounds-out-intervals : goal.bounds-out-intervals
 bounds-out-intervals c = omega (arith, long (goal.at.bounds-out-intervals c).At-loop-i)
 
-pub overflow_add-i : goal.overflow_add-i
-overflow_add-i c = omega arith
-
-pub loop-i-smaller : goal.loop-i-smaller
-loop-i-smaller c = omega arith
-
 pub loop-i-preserved : goal.loop-i-preserved
 loop-i-preserved c =
-    (omega arith, numbers_next (bytes_of 1) 1 (length_bytes_of 1) _ _ _ _ _ _ c.loop-i.invariant.1 (one_byte _ _ _ _ (small (goal.at.loop-i-preserved c).In-loop-i)))
+    let here = (goal.at.loop-i-preserved c).In-loop-i in
+    (omega (arith, length-take c.args.intervals c.args.prices.now), numbers_next (bytes_of 1) 1 (length_bytes_of 1) _ _ _ _ _ _ c.loop-i.invariant.1 (rw (own here) (one_byte _ _ _ _ (small here))))
 
 pub shape_of-out : goal.shape_of-out
 shape_of-out c = long (goal.at.shape_of-out c).At-loop-i
 
 pub returns : goal.returns
-returns c = numbers_whole (bytes_of 1) 1 (length_bytes_of 1) _ _ _ _ _ _ c.loop-i.invariant.1 c.loop-i.invariant.0 c.loop-i-test.false
+returns c =
+    numbers_whole (bytes_of 1) 1 (length_bytes_of 1) _ _ _ _ _ _ c.loop-i.invariant.1 c.loop-i.invariant.0
+    (omega (arith, length-take c.args.intervals c.args.prices.now))

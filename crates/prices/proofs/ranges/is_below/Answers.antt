@@ -7,9 +7,6 @@ use Rattle.prices.proofs.ranges.is_below.Goals as goal
 pub loop-i-init : goal.loop-i-init
 loop-i-init c = (omega arith, λ k from to. absurd (omega arith))
 
-pub bounds-prices-i : goal.bounds-prices-i
-bounds-prices-i c = omega arith
-
 pub returns-then-prices-i : goal.returns-then-prices-i
 returns-then-prices-i c =
     let found = c.loop-i in
@@ -17,12 +14,6 @@ returns-then-prices-i c =
       found = λ e. (found.i, found.invariant.0, c.loop-i-test.true, c.if-prices-i.true);
       none = λ e. absurd (true≢false e);
     }
-
-pub overflow_add-i : goal.overflow_add-i
-overflow_add-i c = omega arith
-
-pub loop-i-smaller : goal.loop-i-smaller
-loop-i-smaller c = omega arith
 
 pub loop-i-preserved : goal.loop-i-preserved
 loop-i-preserved c = let inv = c.loop-i.invariant in (omega arith, range_more _ _ _ inv.1 c.if-prices-i.false)

@@ -1,44 +1,38 @@
-use mathlib.Core.Path.{◌≡◌}
-use Prim.Native.Nat.{◌<◌}
+use mathlib.Core.Path.{◌≡◌, ◌∙◌}
+use Prim.Native.Nat.{ℕ, ◌+◌, ◌-◌, max}
 use native.Mathlib.Omega.{arith}
 use lib.ListN.{length, length-set}
-use Rattle.prices.proofs.RaisedPrices.{raised_none, raised_pass, raised_store}
+use lib.Seq.{get_or-set_other}
+use borrow.Author.Count.{below_none}
+use Rattle.std.proofs.Common.{rules}
+use Rattle.std.proofs.lemmas.List.{places}
+use Rattle.std.proofs.lemmas.List.Edits.{length-between, get_or-between}
+use Rattle.workloads.specs.Arrays.{numbers_in}
+use Rattle.workloads.proofs.StoredNumbers.{stored_more}
+use Rattle.prices.proofs.RaisedPrices.{raised_part}
 use Rattle.prices.proofs.ranges.raise.Goals as goal
-use Rattle.prices.proofs.ranges.raise.Goals.{then-prices-i, else-prices-i}
 
-pub loop-i-init : goal.loop-i-init
-loop-i-init c = (omega arith, omega arith, c.requires.0, raised_none _ _ _)
+pub loop-here-init : goal.loop-here-init
+loop-here-init c =
+    let a = c.args in
+    (below_none _, λ k from inside. get_or-between a.prices.now a.start a.end k 0 (omega (arith, length-between {X = ℕ})))
 
-pub bounds-prices-i : goal.bounds-prices-i
-bounds-prices-i c = omega arith
-
-pub bounds-prices-i-then-prices-i : goal.bounds-prices-i-then-prices-i
-bounds-prices-i-then-prices-i c = omega arith
-
-pub overflow_add-i : goal.overflow_add-i
-overflow_add-i c = omega arith
-
-pub loop-i-smaller : goal.loop-i-smaller
-loop-i-smaller c = omega arith
-
-pub loop-i-preserved : goal.loop-i-preserved
-loop-i-preserved c =
-    let inv = c.loop-i.invariant in
-    let prices = c.loop-i.prices in
-    let inside : c.loop-i.i < length prices = omega (arith, inv.2) in (
-      omega arith,
-      omega arith,
-      elim c.if-prices-i.branch [
-        | then-prices-i w ↦ rw (w.prices-is, length-set) inv.2
-        | else-prices-i w ↦ rw w.prices-is inv.2
-      ],
-      elim c.if-prices-i.branch [
-        | then-prices-i w ↦ rw w.prices-is (raised_store prices inv.3 inv.0 inside w.if-prices-i.true)
-        | else-prices-i w ↦ rw w.prices-is (raised_pass prices inv.3 inv.0 w.if-prices-i.false)
-      ],
+pub loop-here-preserved : goal.loop-here-preserved
+loop-here-preserved c =
+    let a = c.args in
+    let items = c.loop-here.here-items in
+    let k = c.loop-here.here-index in
+    let inv = c.loop-here.invariant in
+    let same : numbers_in items k ≡ numbers_in a.prices.now (a.start + k) = inv.1 k (omega arith) (omega arith) in (
+      stored_more (λ n value. value ≡ max (numbers_in a.prices.now (a.start + n)) a.price) items k _ (omega arith) inv.0 (omega (arith, same, c.max.ensures)),
+      λ n past within. get_or-set_other items k n _ 0 (λ e. omega arith) ∙ inv.1 n (omega arith) (omega (arith, length-set {A = ℕ})),
     )
 
 pub returns : goal.returns
 returns c =
-    let all : c.loop-i.i ≡ c.args.end = omega arith in
-    (rw all at c.loop-i.invariant.3, c.loop-i.invariant.2)
+    let a = c.args in
+    let items = c.loop-here.here-items in
+    let long : length items ≡ a.end - a.start = omega (arith, length-between {X = ℕ}) in (
+      raised_part a.start a.end a.price a.prices.now items (omega arith) (omega arith) long (λ k below. c.loop-here.invariant.0 k (omega arith)),
+      search (rules, places),
+    )

@@ -1,15 +1,12 @@
--- `ranges::raise` meets its contract. The loop's invariant: the prices up to `i` are raised. Assumes nothing.
+-- `ranges::raise` meets its contract. The loop's invariant: the prices so far are raised, the others are as they were.
+-- Assumes nothing.
 use mathlib.Core.Path.{◌≡◌}
-use Prim.Native.Nat.{◌-◌, ◌≤◌}
+use Prim.Native.Nat.{ℕ, ◌+◌, ◌<◌, ◌≤◌, max}
 use lib.ListN.{length}
-use Rattle.model.specs.Limits.{max_intervals}
 use Rattle.workloads.specs.Arrays.{numbers_in}
-use Rattle.prices.specs.RisingPrices.{Raised}
 use Rattle.prices.proofs.ranges.raise.Given as goal
 
-abbrev pub invariant-loop-i : goal.invariant-loop-i
-invariant-loop-i l =
-    (l.start ≤ l.i) × (l.i ≤ l.end) × (length l.prices ≡ max_intervals) × Raised l.start l.i l.price (numbers_in l.initial.prices) (numbers_in l.prices)
-
-abbrev pub decreases-loop-i : goal.decreases-loop-i
-decreases-loop-i l = l.end - l.i
+abbrev pub invariant-loop-here : goal.invariant-loop-here
+invariant-loop-here l =
+    ((k : ℕ) → k < l.here-index → numbers_in l.here-items k ≡ max (numbers_in l.fn.prices (l.start + k)) l.price)
+    × ((k : ℕ) → l.here-index ≤ k → k < length l.here-items → numbers_in l.here-items k ≡ numbers_in l.fn.prices (l.start + k))

@@ -1,3 +1,4 @@
+use mathlib.Core.Path.{◌≡◌}
 use Prim.Native.Nat.{◌+◌, ◌≤◌}
 use native.Mathlib.Nat.{mul-le-mul}
 use native.Mathlib.Numerals.{add-one}
@@ -7,15 +8,6 @@ use Rattle.prices.proofs.smallest.least_band.Goals as goal
 
 pub loop-band-init : goal.loop-band-init
 loop-band-init c = (omega arith, below_none _)
-
-pub overflow_add-band : goal.overflow_add-band
-overflow_add-band c = omega arith
-
-pub offset_bounds-frequency-band : goal.offset_bounds-frequency-band
-offset_bounds-frequency-band c = omega arith
-
-pub bounds-frequency-band : goal.bounds-frequency-band
-bounds-frequency-band c = omega arith
 
 pub overflow_mul-size : goal.overflow_mul-size
 overflow_mul-size c =
@@ -28,12 +20,6 @@ returns-then-load-size c =
     let turn = c.loop-band in
     (turn.invariant.0, record { passed = turn.invariant.1; enough = λ below. rw (← add-one turn.band) c.if-load-size.true })
 
-pub overflow_add-band-in-loop-band : goal.overflow_add-band-in-loop-band
-overflow_add-band-in-loop-band c = omega arith
-
-pub loop-band-smaller : goal.loop-band-smaller
-loop-band-smaller c = omega arith
-
 pub loop-band-preserved : goal.loop-band-preserved
 loop-band-preserved c =
     let turn = c.loop-band in
@@ -41,5 +27,5 @@ loop-band-preserved c =
 
 pub returns : goal.returns
 returns c =
-    let inv = c.loop-band.invariant in
-    (inv.0, record { passed = inv.1; enough = λ below. absurd (omega (arith, c.loop-band-test.false)) })
+    let all : c.loop-band.band ≡ c.args.bands = omega arith in
+    (omega arith, record { passed = rw all at c.loop-band.invariant.1; enough = λ below. absurd (omega arith) })

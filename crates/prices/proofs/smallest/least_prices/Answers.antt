@@ -40,12 +40,6 @@ overflow_cast-prices c = omega (arith, c.least_band-band.ensures.0, c.requires.i
 pub bounds-prices-i : goal.bounds-prices-i
 bounds-prices-i c = below (goal.at.bounds-prices-i c).In-loop-i
 
-pub overflow_add-i : goal.overflow_add-i
-overflow_add-i c = omega (arith, below (goal.at.overflow_add-i c).In-loop-i)
-
-pub loop-i-smaller : goal.loop-i-smaller
-loop-i-smaller c = omega (arith, c.loop-i-test.true)
-
 pub loop-i-preserved : goal.loop-i-preserved
 loop-i-preserved c =
     let a = c.args in

@@ -49,12 +49,6 @@ raise_window-requires c =
       (c.loop-job.invariant.1 c.requires.0 c.requires.1 can).prices_length,
     )
 
-pub overflow_add-job : goal.overflow_add-job
-overflow_add-job c = omega (arith, below (goal.at.overflow_add-job c).After-way_told-1)
-
-pub loop-job-smaller : goal.loop-job-smaller
-loop-job-smaller c = omega (arith, c.loop-job-test.true)
-
 pub loop-job-preserved : goal.loop-job-preserved
 loop-job-preserved c =
     let pass = c.loop-job.invariant.1 in

@@ -6,9 +6,9 @@ use borrow.Author.Tests.{not-true, not-false}
 use Rattle.model.specs.Limits.{max_jobs}
 use Rattle.job_sets.specs.JobSets.{is_member}
 use Rattle.job_sets.proofs.JobSets.{count_without}
-use Rattle.prices.proofs.MemberRaises.{raises_start, raises_store, raises_pass, raises_end, least-member}
+use Rattle.prices.proofs.MemberRaises.{raises_start, raises_store, raises_end, least-member}
 use Rattle.prices.proofs.smallest.raise_members.Goals as goal
-use Rattle.prices.proofs.smallest.raise_members.Goals.{After-way_told-1, then-highest-job, else-highest-job}
+use Rattle.prices.proofs.smallest.raise_members.Goals.{After-way_told-1}
 
 pub loop-rest-init : goal.loop-rest-init
 loop-rest-init c = raises_start c.requires
@@ -20,8 +20,8 @@ found c = least-member c.loop-rest.rest c.least-job.ensures (sym c.is_empty.ensu
 pub bounds-highest-job : goal.bounds-highest-job
 bounds-highest-job c = (found (goal.at.bounds-highest-job c).After-way_told-1).0
 
-pub bounds-highest-job-then-highest-job : goal.bounds-highest-job-then-highest-job
-bounds-highest-job-then-highest-job c = (found (goal.at.bounds-highest-job-then-highest-job c).After-way_told-1).0
+pub bounds-highest-job-in-loop-rest : goal.bounds-highest-job-in-loop-rest
+bounds-highest-job-in-loop-rest c = (found (goal.at.bounds-highest-job-in-loop-rest c).After-way_told-1).0
 
 pub without-rest-requires : goal.without-rest-requires
 without-rest-requires c = (found (goal.at.without-rest-requires c).After-way_told-1).0
@@ -34,11 +34,7 @@ pub loop-rest-preserved : goal.loop-rest-preserved
 loop-rest-preserved c =
     let so_far = c.loop-rest.invariant in
     let is-found = found (goal.at.loop-rest-preserved c).After-way_told-1 in
-    rw c.without-rest.ensures
-    (elim c.if-highest-job.branch [
-      | then-highest-job w ↦ rw w.highest-is (raises_store so_far is-found.1 is-found.0 w.if-highest-job.true)
-      | else-highest-job w ↦ rw w.highest-is (raises_pass so_far is-found.1 is-found.0 w.if-highest-job.false)
-    ])
+    rw (c.without-rest.ensures, c.max.ensures) (raises_store so_far is-found.1 is-found.0)
 
 pub returns : goal.returns
 returns c = raises_end c.loop-rest.invariant (sym c.is_empty.ensures ∙ not-false _ c.loop-rest-test.false-raw)

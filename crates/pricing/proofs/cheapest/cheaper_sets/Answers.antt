@@ -6,24 +6,6 @@ use Rattle.pricing.proofs.cheapest.cheaper_sets.Goals as goal
 pub loop-price-init : goal.loop-price-init
 loop-price-init c = (omega arith, c.none-union.ensures ∙ cheaper_none c.args.priced, rw c.none-union.ensures (filled_none c.args.priced))
 
-pub offset_bounds-cheaper-price : goal.offset_bounds-cheaper-price
-offset_bounds-cheaper-price c = omega arith
-
-pub bounds-cheaper-price : goal.bounds-cheaper-price
-bounds-cheaper-price c = omega arith
-
-pub offset_bounds-priced-price : goal.offset_bounds-priced-price
-offset_bounds-priced-price c = omega arith
-
-pub bounds-priced-price : goal.bounds-priced-price
-bounds-priced-price c = omega arith
-
-pub overflow_add-price : goal.overflow_add-price
-overflow_add-price c = omega arith
-
-pub loop-price-smaller : goal.loop-price-smaller
-loop-price-smaller c = omega arith
-
 pub loop-price-preserved : goal.loop-price-preserved
 loop-price-preserved c =
     let inv = c.loop-price.invariant in

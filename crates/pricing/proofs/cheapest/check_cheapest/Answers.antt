@@ -6,7 +6,10 @@ use native.Mathlib.Omega.{arith}
 use lib.ListN.{get_or}
 use lib.Dec.{ltb}
 use borrow.Author.Count.{below_none, below_more}
+use Rattle.std.specs.Prelude.{Some}
+use Rattle.model.specs.declared.refusal.Fault.TheVariants.{CheaperInterval}
 use Rattle.model.specs.Limits.{max_points, max_jobs}
+use Rattle.model.specs.Refusals.{fault_of}
 use Rattle.model.specs.Search.{some_below}
 use Rattle.model.specs.Steps.{step_at}
 use Rattle.walking.specs.declared.steps.Step.{Step}
@@ -29,7 +32,7 @@ module _ (sets : List ℕ) (bounds : ℕ) (numbers plan : List ℕ) (cheaper : L
       (λ i. is_member (set_in sets i) (step_at plan s).job && ltb (get_or numbers i 0) (get_or numbers (step_at plan s).interval 0))
   held = has ∙ rw (filled, decoded) (cheaper_has sets numbers (bounds - 1) _ _ default (rw decoded at inside) (rw decoded at small))
 
-  dearer : found ≡ true → 24 ≡ cheaper_fault_in sets bounds numbers plan s
+  dearer : found ≡ true → fault_of (cheaper_fault_in sets bounds numbers plan s) ≡ Some CheaperInterval
   dearer e = rw (sym held ∙ e)
 
   not-dearer : found ≡ false → cheaper_fault_in sets bounds numbers plan s ≡ 0
@@ -44,8 +47,8 @@ filled : (c : After-cheaper_sets-cheaper)
     c.cheaper_sets-cheaper.result ≡ cheaper_sets (priced_sets (a.bounds - 1) a.sets.now a.numbers.now)
 filled c = c.cheaper_sets-cheaper.ensures ∙ rw c.priced_sets-priced.ensures
 
-pub step_count-steps-requires : goal.step_count-steps-requires
-step_count-steps-requires c = c.requires.bounds_le_max_bounds.1
+pub step_count-s-end-requires : goal.step_count-s-end-requires
+step_count-s-end-requires c = c.requires.bounds_le_max_bounds.1
 
 pub loop-s-init : goal.loop-s-init
 loop-s-init c = (omega arith, below_none _)
@@ -79,24 +82,12 @@ offset_bounds-cheaper-price c = omega (arith, inside (goal.at.offset_bounds-chea
 pub bounds-cheaper-price : goal.bounds-cheaper-price
 bounds-cheaper-price c = inside (goal.at.bounds-cheaper-price c).After-decode_step-step
 
-pub has-requires : goal.has-requires
-has-requires c = omega arith
-
-pub overflow_cast-result : goal.overflow_cast-result
-overflow_cast-result c = omega arith
-
 pub returns-then-has : goal.returns-then-has
 returns-then-has c =
     let a = c.args in
-    verdict_stops _ _ _ _ c.loop-s.invariant.1 (omega arith)
-    (dearer a.sets.now a.bounds a.numbers.now a.plan.now _ (filled (goal.at.returns-then-has c).After-cheaper_sets-cheaper) _ _ c.decode_step-step.ensures.0 (inside (goal.at.returns-then-has c).After-decode_step-step) c.decode_step-step.ensures.2 _ _ c.has.ensures c.if-has.true)
-    (λ e. omega arith)
-
-pub overflow_add-s : goal.overflow_add-s
-overflow_add-s c = omega arith
-
-pub loop-s-smaller : goal.loop-s-smaller
-loop-s-smaller c = omega arith
+    rw c.at.ensures
+    (verdict_stops _ _ _ _ c.loop-s.invariant.1 (omega arith)
+    (dearer a.sets.now a.bounds a.numbers.now a.plan.now _ (filled (goal.at.returns-then-has c).After-cheaper_sets-cheaper) _ _ c.decode_step-step.ensures.0 (inside (goal.at.returns-then-has c).After-decode_step-step) c.decode_step-step.ensures.2 _ _ c.has.ensures c.if-has.true))
 
 pub loop-s-preserved : goal.loop-s-preserved
 loop-s-preserved c =

@@ -7,35 +7,17 @@ use Rattle.pricing.proofs.cheapest.priced_sets.Goals as goal
 pub loop-i-init : goal.loop-i-init
 loop-i-init c = (omega arith, rw c.none-nobody.ensures (priced_none c.args.sets.now c.args.numbers.now))
 
-pub overflow_add-i : goal.overflow_add-i
-overflow_add-i c = omega arith
-
-pub offset_bounds-numbers-i : goal.offset_bounds-numbers-i
-offset_bounds-numbers-i c = omega arith
-
-pub bounds-numbers-i : goal.bounds-numbers-i
-bounds-numbers-i c = omega arith
-
 pub offset_bounds-priced-price : goal.offset_bounds-priced-price
 offset_bounds-priced-price c = omega (arith, c.requires.1 c.loop-i.i (omega arith))
 
 pub bounds-priced-price : goal.bounds-priced-price
 bounds-priced-price c = c.requires.1 c.loop-i.i (omega arith)
 
-pub set_at-requires : goal.set_at-requires
-set_at-requires c = omega arith
-
 pub offset_bounds-priced-price-in-loop-i : goal.offset_bounds-priced-price-in-loop-i
 offset_bounds-priced-price-in-loop-i c = omega (arith, c.requires.1 c.loop-i.i (omega arith))
 
 pub bounds-priced-price-in-loop-i : goal.bounds-priced-price-in-loop-i
 bounds-priced-price-in-loop-i c = c.requires.1 c.loop-i.i (omega arith)
-
-pub overflow_add-i-in-loop-i : goal.overflow_add-i-in-loop-i
-overflow_add-i-in-loop-i c = omega arith
-
-pub loop-i-smaller : goal.loop-i-smaller
-loop-i-smaller c = omega arith
 
 pub loop-i-preserved : goal.loop-i-preserved
 loop-i-preserved c =

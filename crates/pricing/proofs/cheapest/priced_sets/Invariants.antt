@@ -7,6 +7,3 @@ use Rattle.pricing.proofs.cheapest.priced_sets.Given as goal
 
 abbrev pub invariant-loop-i : goal.invariant-loop-i
 invariant-loop-i l = (l.i ≤ l.bounds - 1) × (l.priced ≡ priced_sets l.i l.sets l.numbers)
-
-abbrev pub decreases-loop-i : goal.decreases-loop-i
-decreases-loop-i l = l.bounds - l.i

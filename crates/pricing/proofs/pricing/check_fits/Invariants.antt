@@ -9,6 +9,3 @@ use Rattle.pricing.proofs.pricing.check_fits.Given as goal
 abbrev pub invariant-loop-i : goal.invariant-loop-i
 invariant-loop-i l =
     (l.i ≤ l.bounds - 1) × ((k : ℕ) → k < l.i → price_fault_in (points_of l.working) l.times l.loads l.numbers k ≡ 0)
-
-abbrev pub decreases-loop-i : goal.decreases-loop-i
-decreases-loop-i l = l.bounds - l.i

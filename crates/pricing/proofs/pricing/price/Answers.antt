@@ -5,6 +5,7 @@ use mathlib.Core.Bool.{false}
 use Prim.Native.Nat.{◌+◌, ◌*◌, ◌≤◌}
 use native.Mathlib.Omega.{arith}
 use lib.ListN.{length}
+use Rattle.std.proofs.lemmas.Result.{err_from_is_err_and}
 use Rattle.model.specs.Limits.{max_intervals}
 use Rattle.levels.proofs.PointTables.{length_points_of}
 use Rattle.pricing.specs.SecondHalf.{wrong_length_in}
@@ -15,10 +16,11 @@ use Rattle.pricing.proofs.pricing.price.Goals.{Else-wrong_price_length}
 pub returns-then-wrong_price_length : goal.returns-then-wrong_price_length
 returns-then-wrong_price_length c =
     λ processor jobs is-working jobs_counted opened.
-    wrong_length_refused
+    rw c.at.ensures
+    (wrong_length_refused
     _ c.args.sets.now _ _ _ _ _ _
     c.requires.small_bounds.0 c.requires.small_bounds.1 c.requires.planned _ c.interval_count-intervals.ensures processor is-working jobs
-    (sym c.wrong_price_length.ensures ∙ c.if-wrong_price_length.true)
+    (sym c.wrong_price_length.ensures ∙ c.if-wrong_price_length.true))
 
 -- past the refusal 21 the price list has an entry for each interval
 right : (c : Else-wrong_price_length)
@@ -44,38 +46,42 @@ pub overflow_sub-bands : goal.overflow_sub-bands
 overflow_sub-bands c =
     omega (arith, c.requires.small_points.0.rising.some, length_points_of c.args.working)
 
-pub check_entries-entries-requires : goal.check_entries-entries-requires
-check_entries-entries-requires c = sized (goal.at.check_entries-entries-requires c).Else-wrong_price_length
+pub check_entries-requires : goal.check_entries-requires
+check_entries-requires c = sized (goal.at.check_entries-requires c).Else-wrong_price_length
 
-pub returns-in-Refused : goal.returns-in-Refused
-returns-in-Refused c =
+pub returns-in_err-check_entries : goal.returns-in_err-check_entries
+returns-in_err-check_entries c =
+    let told = err_from_is_err_and c.from_residual.result c.from_residual.ensures.1 in
     λ processor jobs is-working jobs_counted opened.
-    entries_refuse
+    rw (told.1, told.2)
+    (entries_refuse
     _ c.args.sets.now _ _ _ _ _ _
-    c.requires.small_bounds.0 c.requires.small_bounds.1 c.requires.planned _ c.interval_count-intervals.ensures processor is-working jobs (right (goal.at.returns-in-Refused c).Else-wrong_price_length)
-    _ c.price_numbers-numbers.ensures _ c.check_entries-entries.ensures _ _ c.in-Refused.is
+    c.requires.small_bounds.0 c.requires.small_bounds.1 c.requires.planned _ c.interval_count-intervals.ensures processor is-working jobs (right (goal.at.returns-in_err-check_entries c).Else-wrong_price_length)
+    _ c.price_numbers-numbers.ensures _ c.check_entries.ensures _ c.in_err-check_entries.was)
 
 -- past the refusal 22 each price is the number of a band
-pub check_fits-fits-requires : goal.check_fits-fits-requires
-check_fits-fits-requires c =
+pub check_fits-requires : goal.check_fits-requires
+check_fits-requires c =
     record {
       small_points = c.requires.small_points;
       small_bounds = (
         c.requires.small_bounds.0,
         band_numbers
-            _ c.args.times.now _ c.requires.small_bounds.0.rising.few _ c.interval_count-intervals.ensures (right (goal.at.check_fits-fits-requires c).Else-wrong_price_length)
-            _ c.price_numbers-numbers.ensures _ _ c.check_entries-entries.ensures c.in_default.is,
+            _ c.args.times.now _ c.requires.small_bounds.0.rising.few _ c.interval_count-intervals.ensures (right (goal.at.check_fits-requires c).Else-wrong_price_length)
+            _ c.price_numbers-numbers.ensures _ _ c.check_entries.ensures c.in_ok-check_entries.was,
       );
     }
 
-pub returns-in-Refused-fits : goal.returns-in-Refused-fits
-returns-in-Refused-fits c =
+pub returns-in_err-check_fits : goal.returns-in_err-check_fits
+returns-in_err-check_fits c =
+    let told = err_from_is_err_and c.from_residual-in_err-check_fits.result c.from_residual-in_err-check_fits.ensures.1 in
     λ processor jobs is-working jobs_counted opened.
-    fits_refuse
+    rw (told.1, told.2)
+    (fits_refuse
     _ _ _ _ _ _ _ _
-    c.requires.small_bounds.0 c.requires.small_bounds.1 c.requires.planned _ c.interval_count-intervals.ensures processor is-working jobs (right (goal.at.returns-in-Refused-fits c).Else-wrong_price_length)
-    _ c.price_numbers-numbers.ensures _ c.check_entries-entries.ensures c.in_default.is
-    jobs_counted opened _ c.check_fits-fits.ensures _ _ c.in-Refused-fits.is
+    c.requires.small_bounds.0 c.requires.small_bounds.1 c.requires.planned _ c.interval_count-intervals.ensures processor is-working jobs (right (goal.at.returns-in_err-check_fits c).Else-wrong_price_length)
+    _ c.price_numbers-numbers.ensures _ c.check_entries.ensures c.in_ok-check_entries.was
+    jobs_counted opened _ c.check_fits.ensures _ c.in_err-check_fits.was)
 
 pub check_cheapest-requires : goal.check_cheapest-requires
 check_cheapest-requires c =
@@ -86,7 +92,7 @@ check_cheapest-requires c =
         arith,
         (band_numbers
             _ c.args.times.now _ c.requires.small_bounds.0.rising.few _ c.interval_count-intervals.ensures (right (goal.at.check_cheapest-requires c).Else-wrong_price_length)
-            _ c.price_numbers-numbers.ensures _ _ c.check_entries-entries.ensures c.in_default.is).high i below,
+            _ c.price_numbers-numbers.ensures _ _ c.check_entries.ensures c.in_ok-check_entries.was).high i below,
         points.few,
       );
       by_index_2 = planned.step_interval;
@@ -98,5 +104,5 @@ returns c =
     cheapest_decides
     _ _ _ _ _ _ _ _
     c.requires.small_bounds.0 c.requires.small_bounds.1 c.requires.planned _ c.interval_count-intervals.ensures processor is-working jobs (right (goal.at.returns c).Else-wrong_price_length)
-    _ c.price_numbers-numbers.ensures _ c.check_entries-entries.ensures c.in_default.is
-    jobs_counted opened _ c.check_fits-fits.ensures c.in_default-fits.is _ c.check_cheapest.ensures
+    _ c.price_numbers-numbers.ensures _ c.check_entries.ensures c.in_ok-check_entries.was
+    jobs_counted opened _ c.check_fits.ensures c.in_ok-check_fits.was _ c.check_cheapest.ensures

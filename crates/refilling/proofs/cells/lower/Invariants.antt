@@ -1,15 +1,12 @@
--- `cells::lower` meets its contract. Assumes nothing.
+-- `cells::lower` meets its contract. The loop's invariant: the crosses so far are lowered, the others are as they were.
+-- Assumes nothing.
 use mathlib.Core.Path.{◌≡◌}
-use Prim.Native.Nat.{◌-◌, ◌<◌, ◌≤◌}
+use Prim.Native.Nat.{ℕ, ◌+◌, ◌<◌, ◌≤◌}
 use lib.ListN.{length}
-use Rattle.model.specs.Limits.{max_bounds}
 use Rattle.workloads.specs.Arrays.{numbers_in}
-use Rattle.loads.specs.Crossing.{Lowered}
 use Rattle.refilling.proofs.cells.lower.Given as goal
 
-abbrev pub invariant-loop-b : goal.invariant-loop-b
-invariant-loop-b l =
-    (l.interval < l.b) × (l.b ≤ l.last) × (length l.cross ≡ max_bounds) × Lowered l.interval l.b l.amount (numbers_in l.initial.cross) (numbers_in l.cross)
-
-abbrev pub decreases-loop-b : goal.decreases-loop-b
-decreases-loop-b l = l.last - l.b
+abbrev pub invariant-loop-crossing : goal.invariant-loop-crossing
+invariant-loop-crossing l =
+    ((k : ℕ) → k < l.crossing-index → numbers_in l.crossing-items k + l.amount ≡ numbers_in l.fn.cross (l.interval + 1 + k))
+    × ((k : ℕ) → l.crossing-index ≤ k → k < length l.crossing-items → numbers_in l.crossing-items k ≡ numbers_in l.fn.cross (l.interval + 1 + k))

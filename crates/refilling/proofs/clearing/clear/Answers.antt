@@ -17,12 +17,6 @@ clear_row-requires c =
       rw c.loop-interval.invariant.1.kept.same_length (row_room known c.loop-interval.interval inside),
     )
 
-pub overflow_add-interval : goal.overflow_add-interval
-overflow_add-interval c = omega (arith, c.loop-interval-test.true)
-
-pub loop-interval-smaller : goal.loop-interval-smaller
-loop-interval-smaller c = omega (arith, c.loop-interval-test.true)
-
 pub loop-interval-preserved : goal.loop-interval-preserved
 loop-interval-preserved c =
     let inside = c.loop-interval-test.true in

@@ -65,12 +65,6 @@ offset_bounds-cross-i-in-loop-i c = omega (arith, (turn-knows (goal.at.offset_bo
 pub bounds-cross-i-in-loop-i : goal.bounds-cross-i-in-loop-i
 bounds-cross-i-in-loop-i c = omega (arith, (turn-knows (goal.at.bounds-cross-i-in-loop-i c).In-loop-i).i-small)
 
-pub overflow_add-i : goal.overflow_add-i
-overflow_add-i c = omega (arith, (turn-knows (goal.at.overflow_add-i c).In-loop-i).i-small)
-
-pub loop-i-smaller : goal.loop-i-smaller
-loop-i-smaller c = omega (arith, c.loop-i-test.true)
-
 pub loop-i-preserved : goal.loop-i-preserved
 loop-i-preserved c =
     let inside = c.loop-i-test.true in

@@ -28,12 +28,6 @@ fill_row-row-requires c =
     let known = c.requires in
     (known.0, known.1, known.2, c.start_row-start.ensures known.0 known.1 _ _ _ _ _ _ known.2 (own (goal.at.fill_row-row-requires c).At-loop-interval))
 
-pub overflow_add-interval : goal.overflow_add-interval
-overflow_add-interval c = omega (arith, (own (goal.at.overflow_add-interval c).At-loop-interval).tables.sound.intervals_most, c.loop-interval-test.true)
-
-pub loop-interval-smaller : goal.loop-interval-smaller
-loop-interval-smaller c = omega (arith, c.loop-interval-test.true)
-
 pub loop-interval-preserved : goal.loop-interval-preserved
 loop-interval-preserved c = (
   omega (arith, c.loop-interval-test.true),

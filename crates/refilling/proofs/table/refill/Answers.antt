@@ -18,13 +18,13 @@ clear-requires c = can_clear c.requires.1
 pub add_due-requires : goal.add_due-requires
 add_due-requires c =
     let can = c.requires.1 in
-    record { jobs_le_max_jobs = (can.sound.jobs_most, can.cycles_small, last_most can); cross_value = refl }
+    record { jobs_le_max_jobs = (can.sound.jobs_most, can.cycles_small, last_most can); due_value = refl }
 
 -- the crosses can be worked out, of each workload that stands in what the function is lent
 crossing : (c : After-cross-2-1) (work : Workload)
     → let a = c.args in
     CanRefill (lent_cycles work a.jobs a.intervals a.last.now a.cycles.now) a.«open».now a.shares.now a.loads.now a.holders.now
-    → CanCross a.jobs a.intervals (numbers_in a.last.now) (numbers_in a.cycles.now) a.loads.now c.add_due.new.cross
+    → CanCross a.jobs a.intervals (numbers_in a.last.now) (numbers_in a.cycles.now) a.loads.now c.add_due.new.due
 crossing c work can = can_cross can _ c.add_due.ensures.0 c.add_due.ensures.1
 
 pub add_loads-requires : goal.add_loads-requires

@@ -2,4 +2,4 @@
 use Rattle.searching.proofs.reached.reach.Goals as goal
 
 pub returns : goal.returns
-returns c = rw (c.without-unlisted.ensures, c.smaller.ensures, c.larger.ensures)
+returns c = rw (c.without-unlisted.ensures, c.min.ensures, c.max.ensures)

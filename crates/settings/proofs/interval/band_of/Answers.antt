@@ -11,15 +11,6 @@ overflow_sub-last c = omega (arith, table_some _ c.requires.small_points)
 pub loop-k-init : goal.loop-k-init
 loop-k-init c = (omega arith, below_none _)
 
-pub overflow_add-k : goal.overflow_add-k
-overflow_add-k c = omega arith
-
-pub offset_bounds-working-k : goal.offset_bounds-working-k
-offset_bounds-working-k c = omega arith
-
-pub bounds-working-k : goal.bounds-working-k
-bounds-working-k c = omega arith
-
 pub overflow_mul-length : goal.overflow_mul-length
 overflow_mul-length c =
     omega (arith, load_high _ c.requires.small_points c.args.length (c.loop-k.k + 1) c.requires.length_le_max_deadline (omega arith))
@@ -27,14 +18,8 @@ overflow_mul-length c =
 pub returns-then-load-length : goal.returns-then-load-length
 returns-then-load-length c = band_found _ _ _ _ (omega arith) c.loop-k.invariant.1 (omega arith)
 
-pub overflow_add-k-in-loop-k : goal.overflow_add-k-in-loop-k
-overflow_add-k-in-loop-k c = omega arith
-
-pub loop-k-smaller : goal.loop-k-smaller
-loop-k-smaller c = omega arith
-
 pub loop-k-preserved : goal.loop-k-preserved
 loop-k-preserved c = (omega arith, below_more _ _ c.loop-k.invariant.1 (band_past _ _ _ _ (omega arith) (omega arith)))
 
 pub returns : goal.returns
-returns c = band_none _ _ _ _ (omega arith) (omega arith) c.loop-k.invariant.1
+returns c = band_none _ _ _ _ (omega arith) (omega arith) (λ j below. c.loop-k.invariant.1 j (omega arith))

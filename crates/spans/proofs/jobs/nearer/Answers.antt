@@ -11,8 +11,8 @@ returns-in-None c least was = nearer_first _ _ c.if-deadline-start.false least (
 
 pub returns-then-deadline-least : goal.returns-then-deadline-least
 returns-then-deadline-least c least was =
-    nearer_than _ _ c.if-deadline-start.false _ c.if-deadline-least.true least (sym c.in-At.is ∙ was)
+    nearer_than _ _ c.if-deadline-start.false _ c.if-deadline-least.true least (sym c.in-Some.is ∙ was)
 
 pub returns-else-deadline-least : goal.returns-else-deadline-least
 returns-else-deadline-least c least was =
-    not_nearer _ _ c.if-deadline-start.false _ c.if-deadline-least.false least (sym c.in-At.is ∙ was)
+    not_nearer _ _ c.if-deadline-start.false _ c.if-deadline-least.false least (sym c.in-Some.is ∙ was)

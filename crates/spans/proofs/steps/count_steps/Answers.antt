@@ -17,18 +17,9 @@ few c =
 pub loop-i-init : goal.loop-i-init
 loop-i-init c = let a = c.args in (omega arith, rw (cells_none a.times.now a.cells.now a.start a.end))
 
-pub set_within-requires : goal.set_within-requires
-set_within-requires c = omega arith
-
 pub overflow_add-steps : goal.overflow_add-steps
 overflow_add-steps c =
     omega (arith, few (goal.at.overflow_add-steps c).At-loop-i, count_most c.set_within.result, c.count-steps.ensures)
-
-pub overflow_add-i : goal.overflow_add-i
-overflow_add-i c = omega arith
-
-pub loop-i-smaller : goal.loop-i-smaller
-loop-i-smaller c = omega arith
 
 pub loop-i-preserved : goal.loop-i-preserved
 loop-i-preserved c =

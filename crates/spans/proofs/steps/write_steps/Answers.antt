@@ -12,21 +12,9 @@ long c = length_put _ _ _ _ _ _ c.requires.1 _ _ _ c.loop-i.invariant
 pub loop-i-init : goal.loop-i-init
 loop-i-init c = put_none _ _ _ _ _ _
 
-pub set_within-set-requires : goal.set_within-set-requires
-set_within-set-requires c = omega arith
-
-pub overflow_mul-i : goal.overflow_mul-i
-overflow_mul-i c = omega arith
-
 pub write_members-next-requires : goal.write_members-next-requires
 write_members-next-requires c =
     (omega arith, put_room _ _ _ _ _ _ c.requires.1 _ _ _ c.loop-i.invariant c.loop-i-test.true _ c.set_within-set.ensures)
-
-pub overflow_add-i : goal.overflow_add-i
-overflow_add-i c = omega arith
-
-pub loop-i-smaller : goal.loop-i-smaller
-loop-i-smaller c = omega arith
 
 pub loop-i-preserved : goal.loop-i-preserved
 loop-i-preserved c =

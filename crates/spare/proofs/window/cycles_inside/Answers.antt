@@ -24,36 +24,12 @@ counts count releases deadlines cycles start end j value below found =
 pub loop-j-init : goal.loop-j-init
 loop-j-init c = (jobs_count _ _ _ _ c.requires, omega arith, sum_none _, omega arith)
 
-pub offset_bounds-releases-j : goal.offset_bounds-releases-j
-offset_bounds-releases-j c = omega arith
-
-pub bounds-releases-j : goal.bounds-releases-j
-bounds-releases-j c = omega arith
-
-pub offset_bounds-deadlines-j : goal.offset_bounds-deadlines-j
-offset_bounds-deadlines-j c = omega arith
-
-pub bounds-deadlines-j : goal.bounds-deadlines-j
-bounds-deadlines-j c = omega arith
-
-pub offset_bounds-cycles-j : goal.offset_bounds-cycles-j
-offset_bounds-cycles-j c = omega arith
-
-pub bounds-cycles-j : goal.bounds-cycles-j
-bounds-cycles-j c = omega arith
-
 little : (c : After-cycles_if_inside-sum) → c.cycles_if_inside-sum.result ≤ max_cycles
 little c =
     le_trans c.cycles_if_inside-sum.ensures.1 (sound_in _ _ _ _ c.requires _ c.loop-j-test.true).cycles_high
 
 pub overflow_add-sum : goal.overflow_add-sum
 overflow_add-sum c = omega (arith, little (goal.at.overflow_add-sum c).After-cycles_if_inside-sum)
-
-pub overflow_add-j : goal.overflow_add-j
-overflow_add-j c = omega arith
-
-pub loop-j-smaller : goal.loop-j-smaller
-loop-j-smaller c = omega arith
 
 pub loop-j-preserved : goal.loop-j-preserved
 loop-j-preserved c = (

@@ -1,7 +1,7 @@
 -- `window::cycles_inside` meets its contract. The loop's invariant: the sum is that of the jobs passed, each at most
 -- the largest number of cycles. Assumes nothing.
 use mathlib.Core.Path.{◌≡◌}
-use Prim.Native.Nat.{ℕ, ◌-◌, ◌*◌, ◌≤◌}
+use Prim.Native.Nat.{ℕ, ◌*◌, ◌≤◌}
 use Rattle.model.specs.declared.Job.{Job}
 use Rattle.model.specs.Limits.{max_jobs, max_cycles}
 use Rattle.model.specs.Sum.{sum as total, only_if}
@@ -20,6 +20,3 @@ invariant-loop-j l =
     × (l.j ≤ l.count)
     × (l.sum ≡ total l.j (λ k. counted l.start l.end (job_of (jobs_in l.count l.releases l.deadlines l.cycles) k)))
     × (l.sum ≤ max_cycles * l.j)
-
-abbrev pub decreases-loop-j : goal.decreases-loop-j
-decreases-loop-j l = l.count - l.j

@@ -11,29 +11,28 @@ use Rattle.task_tables.proofs.multiple.multiple_of.Goals.{After-task_at-task}
 pub loop-i-init : goal.loop-i-init
 loop-i-init c = (omega arith, multiple_none _)
 
-pub returns-then-multiple-gt-MAX_MULTIPLE : goal.returns-then-multiple-gt-MAX_MULTIPLE
-returns-then-multiple-gt-MAX_MULTIPLE c =
-    let all = count_entries c.args.bytes.now c.args.count c.requires.table in
-    multiple_above _ c.requires.valid _ _ (omega (arith, c.loop-i.invariant.0)) c.loop-i.invariant.1 c.if-multiple-gt-MAX_MULTIPLE.true
-
 -- the task of this turn
 here : (c : After-task_at-task)
     → (c.task_at-task.result ≡ task_of (task_entries c.args.bytes.now) c.loop-i.i) × (0 < c.task_at-task.result.period)
 here c =
     task_read c.args.bytes.now c.args.count c.requires _ c.loop-i-test.true _ c.task_at-task.ensures
 
-pub common_multiple-multiple-requires : goal.common_multiple-multiple-requires
-common_multiple-multiple-requires c = (c.loop-i.invariant.1.positive, (here (goal.at.common_multiple-multiple-requires c).After-task_at-task).1)
+pub common_multiple-requires : goal.common_multiple-requires
+common_multiple-requires c = (c.loop-i.invariant.1.positive, (here (goal.at.common_multiple-requires c).After-task_at-task).1)
 
-pub overflow_add-i : goal.overflow_add-i
-overflow_add-i c = omega arith
-
-pub loop-i-smaller : goal.loop-i-smaller
-loop-i-smaller c = omega arith
+pub returns-in_err-multiple : goal.returns-in_err-multiple
+returns-in_err-multiple c =
+    rw c.from_residual.ensures
+    (multiple_above _ _ _ c.loop-i.invariant.1 c.requires.valid
+    (omega (arith, c.loop-i-test.true, count_entries c.args.bytes.now c.args.count c.requires.table))
+    (rw ((here (goal.at.returns-in_err-multiple c).After-task_at-task).0, c.in_err-multiple.was) at c.common_multiple.ensures))
 
 pub loop-i-preserved : goal.loop-i-preserved
-loop-i-preserved c =
-    (omega arith, multiple_next _ _ _ c.loop-i.invariant.1 c.if-multiple-gt-MAX_MULTIPLE.false _ (rw (here (goal.at.loop-i-preserved c).After-task_at-task).0 at c.common_multiple-multiple.ensures))
+loop-i-preserved c = (
+  omega arith,
+  multiple_next _ _ _ c.loop-i.invariant.1 _
+      (rw ((here (goal.at.loop-i-preserved c).After-task_at-task).0, c.in_ok-multiple.was) at c.common_multiple.ensures),
+)
 
 pub returns : goal.returns
 returns c =

@@ -1,9 +1,11 @@
 -- `task_table::task_fault` meets its contract. Each way out rests on the tests that led there. Assumes nothing.
-use mathlib.Core.Path.{◌≡◌, sym}
+use mathlib.Core.Path.{◌≡◌, sym, ap}
 use mathlib.Core.Bool.{true, false, cond}
 use mathlib.Core.Logic.{◌⊎◌, inl, inr}
-use Prim.Native.Nat.{ℕ}
 use native.Mathlib.Omega.{arith}
+use Rattle.std.specs.Prelude.{Some}
+use Rattle.model.specs.declared.refusal.Fault.TheVariants.{TaskTable}
+use Rattle.model.specs.Refusals.{fault_of}
 use Rattle.model.proofs.Numbers.{true_or_false}
 use Rattle.tasks.specs.declared.Task.{Task}
 use Rattle.tasks.specs.Tasks.{wrong_task, fault_of_task}
@@ -11,11 +13,11 @@ use Rattle.tasks.proofs.Tasks.{SoundTask, task_sound}
 use Rattle.task_tables.proofs.task_table.task_fault.Goals as goal
 
 -- a task that does not keep the limits has the one fault
-faulty : (task : Task) → (SoundTask task → ⊥) → 28 ≡ fault_of_task task
+faulty : (task : Task) → (SoundTask task → ⊥) → Some TaskTable ≡ fault_of (fault_of_task task)
 unfolding fault_of_task
 faulty task unsound = go (true_or_false (wrong_task task))
   where
-    go : (wrong_task task ≡ true) ⊎ (wrong_task task ≡ false) → ◌≡◌ {A = ℕ} 28 (cond (wrong_task task) 28 0)
+    go : (wrong_task task ≡ true) ⊎ (wrong_task task ≡ false) → Some TaskTable ≡ fault_of (cond (wrong_task task) 28 0)
     go (inl wrong) = rw wrong
     go (inr right) = absurd (unsound ((task_sound task).0 (rw right)))
 
@@ -36,9 +38,10 @@ returns-then-task-gt-MAX_CYCLES c = faulty _ (λ sound. omega (arith, sound.cycl
 
 pub returns : goal.returns
 returns c =
-    sym ((task_sound _).1 (record {
+    ap fault_of
+    (sym ((task_sound _).1 (record {
       some_deadline = omega arith;
       within_period = omega arith;
       cycles_low = omega arith;
       cycles_high = omega arith;
-    }))
+    })))

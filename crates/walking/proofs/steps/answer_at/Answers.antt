@@ -2,13 +2,13 @@
 -- Assumes nothing.
 use mathlib.Core.Path.{sym, ◌∙◌, ap}
 use native.Mathlib.Omega.{arith}
+use Rattle.std.specs.Prelude.{Some, Ok}
 use Rattle.model.proofs.Faults.{plan-length}
-use Rattle.walking.specs.declared.steps.StepAnswer.TheVariants.{Step as Found}
 use Rattle.walking.proofs.Walking.{step_found, step_past, walk_refused, walk_answered}
 use Rattle.walking.proofs.steps.answer_at.Goals as goal
 
 pub returns-then-wrong_length : goal.returns-then-wrong_length
-returns-then-wrong_length c = rw (walk_refused _ (sym c.wrong_length.ensures ∙ c.if-wrong_length.true))
+returns-then-wrong_length c = rw (c.at.ensures, walk_refused _ (sym c.wrong_length.ensures ∙ c.if-wrong_length.true))
 
 pub step_count-requires : goal.step_count-requires
 step_count-requires c = (plan-length _).0 (sym c.wrong_length.ensures ∙ c.if-wrong_length.false)
@@ -20,9 +20,9 @@ decode_step-requires c =
 pub returns-then-position-step_count : goal.returns-then-position-step_count
 returns-then-position-step_count c =
     rw (walk_answered _ (sym c.wrong_length.ensures ∙ c.if-wrong_length.false))
-    (ap Found c.decode_step.ensures.0 ∙ step_found _ _ _ (omega (arith, c.step_count.ensures.0)))
+    (ap Ok (ap Some c.decode_step.ensures.0 ∙ step_found _ _ _ (omega (arith, c.step_count.ensures.0))))
 
-pub returns-else-position-step_count : goal.returns-else-position-step_count
-returns-else-position-step_count c =
+pub returns : goal.returns
+returns c =
     rw (walk_answered _ (sym c.wrong_length.ensures ∙ c.if-wrong_length.false))
-    (step_past _ _ _ (omega (arith, c.step_count.ensures.0)))
+    (ap Ok (step_past _ _ _ (omega (arith, c.step_count.ensures.0))))

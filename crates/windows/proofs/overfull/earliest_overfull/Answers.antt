@@ -1,18 +1,19 @@
 use mathlib.Core.Path.{◌≡◌, sym, ◌∙◌}
 use mathlib.Core.Bool.{true, false}
 use mathlib.Core.List.{List}
-use Prim.Native.Nat.{ℕ, ◌≤◌}
+use Prim.Native.Nat.{ℕ, ◌<◌, ◌≤◌}
 use native.Mathlib.Numerals.{add-one}
 use native.Mathlib.Omega.{arith}
+use Rattle.std.specs.Prelude.{Some}
 use Rattle.model.specs.declared.Job.{Job}
-use Rattle.model.specs.Limits.{max_intervals}
+use Rattle.model.specs.Limits.{max_intervals, max_bounds}
 use Rattle.model.specs.Intervals.{bound_at}
 use Rattle.job_sets.specs.JobSets.{is_empty, in_both}
 use Rattle.job_sets.specs.IntervalSets.{set_in}
-use Rattle.windows.specs.WindowTests.{TestArrays}
+use Rattle.windows.specs.WindowTests.{TestArrays, FirstOverfull}
 use Rattle.windows.proofs.StartSteps.{is_release, passed_none, no-release, some_release, passed_over, added_within, added_until, additions_few, passed_on, found_here, passed_all}
 use Rattle.windows.proofs.overfull.earliest_overfull.Goals as goal
-use Rattle.windows.proofs.overfull.earliest_overfull.Goals.{After-both, Start, then-not-is_empty+else-end-lt-MAX_BOUNDS, else-not-is_empty}
+use Rattle.windows.proofs.overfull.earliest_overfull.Goals.{After-both, In-Some, Start, then-not-is_empty+in_default, else-not-is_empty}
 
 -- the intervals are few
 few : (c : Start) → c.args.intervals ≤ max_intervals
@@ -62,39 +63,46 @@ pub bounds-times-start : goal.bounds-times-start
 bounds-times-start c =
     omega (arith, c.loop-start-test.true, few (goal.at.bounds-times-start c).Start)
 
+-- the first window from the start that is overfull
+first : (c : In-Some)
+    → let a = c.args in
+    (jobs : List Job) (bounds : List ℕ) → TestArrays jobs bounds a.times.now a.cycles.now a.sets.now a.intervals
+    → FirstOverfull a.top jobs bounds c.loop-start.start c.in-Some.end c.overfull_end-test.result.additions
+first c = λ jobs bounds arrays.
+    rw c.in-Some.is at (c.overfull_end-test.ensures jobs bounds arrays (c.loop-start.invariant.1 jobs bounds arrays).released)
+
+-- its end is a bound
+end_below : (c : In-Some) → c.in-Some.end < max_bounds
+end_below c = let (jobs, bounds, arrays) = c.requires.by_index in omega (arith, (first c jobs bounds arrays).inside, arrays.few)
+
 pub offset_bounds-times-end : goal.offset_bounds-times-end
-offset_bounds-times-end c = omega (arith, c.if-end-lt-MAX_BOUNDS.true)
+offset_bounds-times-end c = omega (arith, end_below (goal.at.offset_bounds-times-end c).In-Some)
 
 pub bounds-times-end : goal.bounds-times-end
-bounds-times-end c = c.if-end-lt-MAX_BOUNDS.true
+bounds-times-end c = end_below (goal.at.bounds-times-end c).In-Some
 
-pub returns-then-end-lt-MAX_BOUNDS : goal.returns-then-end-lt-MAX_BOUNDS
-returns-then-end-lt-MAX_BOUNDS c = λ jobs bounds arrays.
-    let is = released (goal.at.returns-then-end-lt-MAX_BOUNDS c).After-both (sym c.is_empty.ensures ∙ c.if-not-is_empty.true) jobs bounds arrays in
-    let hit = c.if-end-lt-MAX_BOUNDS.true in
+pub returns-in-Some : goal.returns-in-Some
+returns-in-Some c = λ jobs bounds arrays.
+    let is = released (goal.at.returns-in-Some c).After-both (sym c.is_empty.ensures ∙ c.if-not-is_empty.true) jobs bounds arrays in
     let inside = c.loop-start-test.true in
     let before = c.loop-start.invariant.1 jobs bounds arrays in
-    let here = c.overfull_end-test.ensures jobs bounds arrays before.released in
-    let found = found_here arrays _ _ inside _ _ before is _ _ here hit in
-    let (after, last) = here.inside hit in
+    let here = first (goal.at.returns-in-Some c).In-Some jobs bounds arrays in
+    let found = found_here arrays _ _ inside _ _ before is _ _ here in
+    let (after, last) = here.inside in
     record {
       found_is =
           rw (
             found,
             arrays.times_are c.loop-start.start (omega (arith, inside, arrays.counted)),
-            arrays.times_are c.overfull_end-test.result.end (omega (arith, last, after)),
+            arrays.times_are c.in-Some.end (omega (arith, last, after)),
           );
-      additions_most = added_within arrays _ _ inside _ _ before is _ _ here;
+      additions_most = added_within arrays _ _ inside _ _ before is (Some c.in-Some.end) _ here;
       additions_are = λ None-found. let z : ◌≡◌ {A = ℕ} 0 1 = cc (sym found ∙ None-found) in absurd (omega (arith, z));
       additions_until = λ w e.
           let starts : bound_at bounds c.loop-start.start ≡ w.start = cc (sym found ∙ e) in
-          let ends : bound_at bounds c.overfull_end-test.result.end ≡ w.end = cc (sym found ∙ e) in
-          rw (← starts, ← ends) (added_until arrays _ _ inside _ _ before is _ _ here hit);
+          let ends : bound_at bounds c.in-Some.end ≡ w.end = cc (sym found ∙ e) in
+          rw (← starts, ← ends) (added_until arrays _ _ inside _ _ before is _ _ here);
     }
-
-pub overflow_add-start : goal.overflow_add-start
-overflow_add-start c =
-    omega (arith, c.loop-start-test.true, few (goal.at.overflow_add-start c).Start)
 
 pub loop-start-smaller : goal.loop-start-smaller
 loop-start-smaller c = omega (arith, c.loop-start-test.true)
@@ -106,11 +114,11 @@ loop-start-preserved c = (
       let before = c.loop-start.invariant.1 jobs bounds arrays in
       rw (add-one c.loop-start.start, c.less-from.ensures, c.set_at-here.ensures)
       (elim c.if-not-is_empty.branch [
-        | then-not-is_empty+else-end-lt-MAX_BOUNDS w ↦
+        | then-not-is_empty+in_default w ↦
             rw w.additions-is
             (passed_on arrays _ _ c.loop-start-test.true _ _ before
-            (released (goal.at.loop-start-preserved c).After-both (sym c.is_empty.ensures ∙ w.if-not-is_empty.true) jobs bounds arrays) _ _
-            (w.overfull_end-test.ensures jobs bounds arrays before.released) w.if-end-lt-MAX_BOUNDS.false)
+            (released (goal.at.loop-start-preserved c).After-both (sym c.is_empty.ensures ∙ w.if-not-is_empty.true) jobs bounds arrays) _
+            (rw w.in_default.is at (w.overfull_end-test.ensures jobs bounds arrays before.released)))
         | else-not-is_empty w ↦
             rw w.additions-is
             (passed_over arrays _ _ c.loop-start-test.true _ _ before

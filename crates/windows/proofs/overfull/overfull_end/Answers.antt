@@ -95,9 +95,6 @@ returns-then-times-last c = λ jobs bounds arrays released.
     (rw (← here) ensured.0) (rw (← here) ensured.1) c.loop-last.invariant.0 (some (goal.at.returns-then-times-last c).After-both-ended (sym c.is_empty.ensures ∙ c.if-not-is_empty.true))
     (rw (known.0, known.1) at c.if-times-last.true)
 
-pub overflow_add-last-in-loop-last : goal.overflow_add-last-in-loop-last
-overflow_add-last-in-loop-last c = omega (arith, c.loop-last-test.true, few (goal.at.overflow_add-last-in-loop-last c).Start)
-
 pub loop-last-smaller : goal.loop-last-smaller
 loop-last-smaller c = omega (arith, c.loop-last-test.true)
 

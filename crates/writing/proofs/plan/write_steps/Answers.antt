@@ -24,18 +24,9 @@ room c = omega (arith, c.requires.count_value.0)
 pub loop-interval-init : goal.loop-interval-init
 loop-interval-init c = (omega arith, put_none _ _ _ _)
 
-pub set_at-set-requires : goal.set_at-set-requires
-set_at-set-requires c = omega arith
-
 pub write_interval-next-requires : goal.write_interval-next-requires
 write_interval-next-requires c =
     let fits = put_room _ _ _ _ _ _ _ c.loop-interval.invariant.1 _ c.loop-interval-test.true (room (goal.at.write_interval-next-requires c).At-loop-interval) in record { jobs_le_max_jobs = (omega arith, omega arith, omega (arith, mul-le-mul_right c.args.jobs c.loop-interval-test.true)); shares_held = rw c.set_at-set.ensures (c.requires.by_index _ c.loop-interval-test.true); interval_bound = (fits, omega (arith, long (goal.at.write_interval-next-requires c).At-loop-interval)) }
-
-pub overflow_add-interval : goal.overflow_add-interval
-overflow_add-interval c = omega arith
-
-pub loop-interval-smaller : goal.loop-interval-smaller
-loop-interval-smaller c = omega arith
 
 pub loop-interval-preserved : goal.loop-interval-preserved
 loop-interval-preserved c =

@@ -1,6 +1,6 @@
 -- `plan::write_steps` meets its contract. The loop's invariant: the steps of the first intervals are written
 -- (proofs/PlanStores.antt). Assumes nothing.
-use Prim.Native.Nat.{◌-◌, ◌≤◌}
+use Prim.Native.Nat.{◌≤◌}
 use Rattle.model.specs.Plans.{shares_in}
 use Rattle.writing.specs.StepList.{steps_in}
 use Rattle.writing.proofs.PlanStores.{StepsPut}
@@ -9,6 +9,3 @@ use Rattle.writing.proofs.plan.write_steps.Given as goal
 abbrev pub invariant-loop-interval : goal.invariant-loop-interval
 invariant-loop-interval l =
     (l.interval ≤ l.intervals) × StepsPut l.count 0 (steps_in l.jobs (shares_in l.jobs l.shares)) l.initial.plan l.interval l.next l.plan
-
-abbrev pub decreases-loop-interval : goal.decreases-loop-interval
-decreases-loop-interval l = l.intervals - l.interval

@@ -1,9 +1,0 @@
--- `members::with` meets its contract. Assumes nothing.
-use native.Mathlib.Omega.{arith}
-use Rattle.model.proofs.OpenSets.{bit_shifted}
-use Rattle.job_sets.proofs.SetWords.{with_word}
-use Rattle.job_sets.proofs.members.with.Goals as goal
-
-pub returns : goal.returns
-returns c =
-    rw (bit_shifted c.args.job c.requires) (with_word c.args.set (omega arith) c.args.job c.requires)
