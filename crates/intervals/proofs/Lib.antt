@@ -1,7 +1,7 @@
 -- Laws for the proofs of the functions.
 pub mod Inserted
 pub mod Padded
-pub mod BoundNumber
+pub mod Halving
 pub mod SmallBounds
 pub mod OpenSets
 pub mod OpenRanges

@@ -58,7 +58,10 @@ impl Fault {
         self as u32
     }
 
-    // The refusal of the fault at a place.
+    // The refusal of the fault at a place. It is seldom made, and never in line: a loop that ends in it would carry the place packed
+    // from turn to turn.
+    #[cold]
+    #[inline(never)]
     pub fn at(self, place: u32) -> Refusal
         ensures { result ≡ record { fault = self; place = place } }
     {
