@@ -85,7 +85,11 @@ fn check_site(
     let first = fit_site(
         site, releases, deadlines, cycles, times, plan, &mut sets, &mut loads, cells,
     );
-    check_prices(first?, site, times, &sets, &loads, plan, prices)
+    // no `?`: so the edit unfitting_plan_accepted can plant what is answered where the first half refuses, and nothing else
+    match first {
+        Ok(energy) => check_prices(energy, site, times, &sets, &loads, plan, prices),
+        Err(own) => Err(own),
+    }
 }
 
 // The second half where the plan fits: 21 to 24, and the energy figure of the first.

@@ -3,7 +3,6 @@
 use mathlib.Core.Path.{refl, sym, ◌∙◌, ap}
 use lib.ListN.{replicate}
 use Rattle.std.specs.Prelude.{is_ok}
-use Rattle.std.proofs.lemmas.Result.{err_from_is_err_and}
 use Rattle.model.specs.Limits.{max_intervals}
 use Rattle.job_records.proofs.SetsHave.{no-jobs}
 use Rattle.fitting.proofs.Verdicts.{refused_passes}
@@ -17,23 +16,20 @@ fit_site-first-requires c =
 pub check_prices-requires : goal.check_prices-requires
 check_prices-requires c =
     let (site, valid, holds) = c.requires.0 in
-    (site, c.fit_site-first.ensures.left (ap is_ok c.in_ok-first.was) site valid holds)
+    (site, c.fit_site-first.ensures.left (ap is_ok c.in-Ok.is) site valid holds)
 
-pub returns-in_err-first : goal.returns-in_err-first
-returns-in_err-first c =
-    let told = err_from_is_err_and c.from_residual.result c.from_residual.ensures.1 in
-    record {
-      value = λ site valid holds.
-          rw (told.1, told.2) (check_refused site _ _ _ (sym c.in_err-first.was ∙ c.fit_site-first.ensures.judged site valid holds));
-      cells_seen = rw told.1 refused_passes;
-    }
-
-pub returns : goal.returns
-returns c =
+pub returns-in-Ok : goal.returns-in-Ok
+returns-in-Ok c =
     let answered = c.fit_site-first.ensures in
-    let fits = c.in_ok-first.was in record {
+    let fits = c.in-Ok.is in record {
       value = λ site valid holds.
           rw (check_continued site _ _ _ (sym fits ∙ answered.judged site valid holds))
           (c.check_prices.ensures site (answered.left (ap is_ok fits) site valid holds));
       cells_seen = λ accepted. answered.seen (ap is_ok fits);
     }
+
+pub returns-in-Err : goal.returns-in-Err
+returns-in-Err c = record {
+  value = λ site valid holds. check_refused site _ _ _ (sym c.in-Err.is ∙ c.fit_site-first.ensures.judged site valid holds);
+  cells_seen = refused_passes;
+}
