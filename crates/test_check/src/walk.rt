@@ -50,7 +50,7 @@ fn print(answer: Result<Option<Step>, Refusal>) -> bool
             false
         }
         Err(own) => {
-            show::refusal(own);
+            show::refused(own);
             false
         }
     }

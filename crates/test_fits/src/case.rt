@@ -64,6 +64,6 @@ fn print_fits(answer: Result<u64, Refusal>) {
             show::words(b" fits");
             show::number(energy);
         }
-        Err(own) => show::refusal(own),
+        Err(own) => show::refused(own),
     }
 }

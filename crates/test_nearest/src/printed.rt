@@ -40,6 +40,6 @@ fn no_answer(why: NoAnswer) {
             show::number(end as u64);
             show::signed(spare);
         }
-        NoAnswer::Refused(own) => show::refusal(own),
+        NoAnswer::Refused(own) => show::refused(own),
     }
 }

@@ -11,7 +11,7 @@ pub(crate) fn answer(answer: Result<u32, Refusal>) -> u32 {
             length
         }
         Err(own) => {
-            show::refusal(own);
+            show::refused(own);
             0
         }
     }
@@ -20,7 +20,7 @@ pub(crate) fn answer(answer: Result<u32, Refusal>) -> u32 {
 pub(crate) fn checked(answer: Result<u64, Refusal>) {
     match answer {
         Ok(energy) => show::accepted(energy),
-        Err(own) => show::refusal(own),
+        Err(own) => show::refused(own),
     }
 }
 

@@ -111,7 +111,7 @@ fn print_fits(answer: Result<u64, Refusal>) {
     show::words(b" fits");
     match answer {
         Ok(energy) => show::number(energy),
-        Err(own) => show::refusal(own),
+        Err(own) => show::refused(own),
     }
 }
 
@@ -119,7 +119,7 @@ fn print_check(answer: Result<u64, Refusal>) {
     show::words(b" check");
     match answer {
         Ok(energy) => show::accepted(energy),
-        Err(own) => show::refusal(own),
+        Err(own) => show::refused(own),
     }
 }
 
@@ -132,7 +132,7 @@ fn print_order(answer: Result<u32, Refusal>) -> u32 {
             length
         }
         Err(own) => {
-            show::refusal(own);
+            show::refused(own);
             0
         }
     }

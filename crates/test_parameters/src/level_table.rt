@@ -15,7 +15,7 @@ fn print(levels: &[u8], highest: u32, length: u32, load: u32) {
             show::number(set.extra);
             show::number(set.gap);
         }
-        Err(own) => show::refusal(own),
+        Err(own) => show::refused(own),
     }
 }
 

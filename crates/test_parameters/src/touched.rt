@@ -118,7 +118,7 @@ fn print_touched(
             show::rest(open_kept & inside_kept & steps_kept);
         }
         Err(own) => {
-            show::refusal(own);
+            show::refused(own);
             let open_kept = numbers_kept(open_list, 0);
             let inside_kept = numbers_kept(inside_list, 0);
             let steps_kept = numbers_kept(step_list, 0);

@@ -15,6 +15,6 @@ pub(crate) fn spare(levels: &[u8], jobs: &[u8], values: [u32; MAX_NUMBERS]) {
             show::words(b" spare");
             show::signed(spare);
         }
-        Err(own) => show::refusal(own),
+        Err(own) => show::refused(own),
     }
 }

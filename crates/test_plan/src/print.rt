@@ -21,7 +21,7 @@ pub(crate) fn no_answer(why: NoAnswer) {
             show::number(end as u64);
             show::signed(spare);
         }
-        NoAnswer::Refused(own) => show::refusal(own),
+        NoAnswer::Refused(own) => show::refused(own),
     }
 }
 
@@ -29,7 +29,7 @@ pub(crate) fn checked(answer: Result<u64, Refusal>) {
     show::words(b" check");
     match answer {
         Ok(energy) => show::accepted(energy),
-        Err(own) => show::refusal(own),
+        Err(own) => show::refused(own),
     }
 }
 

@@ -28,7 +28,7 @@ fn case_in(task_bytes: &mut [u8], job_bytes: &mut [u8], line: &[u8]) {
             print::jobs(&job_bytes[..written]);
         }
         Err(own) => {
-            show::refusal(own);
+            show::refused(own);
             show::rest(kept(job_bytes, 0));
         }
     }

@@ -15,7 +15,7 @@ pub(crate) fn jobs(bytes: &[u8]) {
     show::words(b" jobs");
     match job_tables::read_jobs(bytes) {
         Ok(table) => entries(&table),
-        Err(own) => show::refusal(own),
+        Err(own) => show::refused(own),
     }
 }
 

@@ -194,7 +194,7 @@ fn print(answer: Result<WrittenPlan, NoAnswer>) {
             show::number(end as u64);
             show::signed(spare);
         }
-        Err(NoAnswer::Refused(own)) => show::refusal(own),
+        Err(NoAnswer::Refused(own)) => show::refused(own),
     }
 }
 

@@ -34,7 +34,7 @@ fn print(line: &[u8], answer: Result<i64, Refusal>) {
             show::words(b" spare");
             show::signed(spare);
         }
-        Err(own) => show::refusal(own),
+        Err(own) => show::refused(own),
     }
     show::end();
 }

@@ -34,10 +34,15 @@ pub fn signed(value: i64) {
     io::print_decimal(STDOUT, magnitude(value));
 }
 
-pub fn refusal(own: Refusal) {
+pub fn refusal(refused: u32, place: u32) {
     words(b" refused");
-    number(own.fault.number() as u64);
-    number(own.place as u64);
+    number(refused as u64);
+    number(place as u64);
+}
+
+// What an operation refuses, by its number.
+pub fn refused(own: Refusal) {
+    refusal(own.fault.number(), own.place);
 }
 
 // The energy figure of a plan that the check accepts.
@@ -50,7 +55,7 @@ pub fn accepted(energy: u64) {
 pub fn checked(answer: Result<u64, Refusal>) {
     match answer {
         Ok(energy) => accepted(energy),
-        Err(own) => refusal(own),
+        Err(own) => refused(own),
     }
 }
 

@@ -8,21 +8,21 @@ use test_support::show;
 pub(crate) fn levels(bytes: &[u8]) {
     match level_tables::read_levels(bytes) {
         Ok(table) => level_entries(&table),
-        Err(own) => show::refusal(own),
+        Err(own) => show::refused(own),
     }
 }
 
 pub(crate) fn jobs(bytes: &[u8]) {
     match job_tables::read_jobs(bytes) {
         Ok(table) => job_entries(&table),
-        Err(own) => show::refusal(own),
+        Err(own) => show::refused(own),
     }
 }
 
 pub(crate) fn marks(bytes: &[u8]) {
     match mark_tables::read_marks(bytes) {
         Ok(table) => mark_entries(&table),
-        Err(own) => show::refusal(own),
+        Err(own) => show::refused(own),
     }
 }
 

@@ -94,7 +94,7 @@ fn call_with(
             );
         }
         Err(own) => {
-            show::refusal(own);
+            show::refused(own);
             print::rest(open_list, inside_list, step_list, nothing());
         }
     }
